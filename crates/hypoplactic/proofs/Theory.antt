@@ -1,1 +1,1 @@
-pub mod Try
+pub mod Cells

@@ -1,1 +1,8 @@
 pub mod Words
+pub mod Rewriting
+pub mod Ribbons
+pub mod Insertion
+pub mod Reading
+pub mod Moves
+pub mod Junctions
+pub mod Weights

@@ -1,0 +1,118 @@
+-- The quasi-Kashiwara operators (paper, section 5; document 01, "Moves"), on words and on tableaux. A move is data: a side and an index.
+-- A move is either undefined or gives the new letters; the definition by way of the changed place says which letter changes.
+--     inverted i w       w has an i-inversion: some i+1 stands left of some i
+--     below i xs ms      the tableau has i+1 directly below i
+--     changedPlace       the place of the letter that a move changes, if the move is defined
+--     moved              the new letters, with no bound on the index
+--     moveWord, moveTableau   the same at rank n, where an index outside 1 to n - 1 leaves the move undefined
+--     repeatWord, repeatTableau   document 01's repeat count
+-- Assumes nothing.
+use Prim.Native.Nat.{ℕ, zero, suc}
+use mathlib.Core.List.{List, [], _∷_}
+use mathlib.Core.Bool.{Bool, true, false, _&&_, _||_, cond}
+use mathlib.Core.Option.{Option, none, some}
+use lib.Dec.{eqb, ltb}
+use lib.ListN.{set}
+use Rattle.hypoplactic.specs.Words.{before, count}
+
+-- The raising operators are the paper's e, the lowering ones its f.
+pub data Side : Type 0 where
+  raising lowering : Side
+
+pub record Move : Type 0 where
+  pub side : Side
+  pub index : ℕ
+
+-- The letter that a move changes.
+abbrev pub taken : Side → ℕ → ℕ
+taken raising i = suc i
+taken lowering i = i
+
+-- The letter that it becomes.
+abbrev pub given : Side → ℕ → ℕ
+given raising i = i
+given lowering i = suc i
+
+-- An i-inversion: some i+1 stands left of some i, adjacent or not.
+abbrev pub inverted : ℕ → List ℕ → Bool
+inverted i w = before w i (suc i)
+
+-- The same in the cells of a tableau after one that holds x.
+abbrev pub belowAfter : ℕ → ℕ → List ℕ → List ℕ → Bool
+belowAfter i x [] ms = false
+belowAfter i x (y ∷ ys) [] = false
+belowAfter i x (y ∷ ys) (m ∷ ms) = eqb x i && eqb y (suc i) && eqb m 1 || belowAfter i y ys ms
+
+-- The inversion of a tableau: i+1 stands directly below i.
+abbrev pub below : ℕ → List ℕ → List ℕ → Bool
+below i [] ms = false
+below i (x ∷ xs) [] = false
+below i (x ∷ xs) (m ∷ ms) = belowAfter i x xs ms
+
+-- One place further on.
+abbrev pub onward : Option ℕ → Option ℕ
+onward none = none
+onward (some k) = some (suc k)
+
+-- The place of the leftmost a.
+abbrev pub leftmost : ℕ → List ℕ → Option ℕ
+leftmost a [] = none
+leftmost a (x ∷ xs) = cond (eqb x a) (some 0) (onward (leftmost a xs))
+
+-- The first place if there is none further on and the test passes.
+abbrev pub orHere : Bool → Option ℕ → Option ℕ
+orHere b (some k) = some (suc k)
+orHere true none = some 0
+orHere false none = none
+
+-- The place of the rightmost a.
+abbrev pub rightmost : ℕ → List ℕ → Option ℕ
+rightmost a [] = none
+rightmost a (x ∷ xs) = orHere (eqb x a) (rightmost a xs)
+
+-- The letter that the rule names: raising takes the leftmost i+1, lowering the rightmost i.
+abbrev pub target : Side → ℕ → List ℕ → Option ℕ
+target raising i w = leftmost (suc i) w
+target lowering i w = rightmost i w
+
+-- The place that a move changes, the first argument telling whether there is an inversion.
+abbrev pub changedPlace : Bool → Move → List ℕ → Option ℕ
+changedPlace inversion m w = cond inversion none (target (m .side) (m .index) w)
+
+-- The letters with another one at a place, if there is a place.
+abbrev pub replaced : ℕ → List ℕ → Option ℕ → Option (List ℕ)
+replaced a w none = none
+replaced a w (some k) = some (set w k a)
+
+-- The letters after a move, if it is defined.
+abbrev pub moved : Bool → Move → List ℕ → Option (List ℕ)
+moved inversion m w = replaced (given (m .side) (m .index)) w (changedPlace inversion m w)
+
+-- A move on a word and on a tableau, with no bound on the index.
+abbrev pub movedWord : Move → List ℕ → Option (List ℕ)
+movedWord m w = moved (inverted (m .index) w) m w
+
+abbrev pub movedTableau : Move → List ℕ → List ℕ → Option (List ℕ)
+movedTableau m xs ms = moved (below (m .index) xs ms) m xs
+
+-- The indices of rank n are 1 to n - 1.
+abbrev pub indexOf : ℕ → ℕ → Bool
+indexOf n i = ltb 0 i && ltb i n
+
+-- Undefined at an index that the rank does not have.
+abbrev pub guarded : ℕ → Move → Option (List ℕ) → Option (List ℕ)
+guarded n m r = cond (indexOf n (m .index)) r none
+
+-- The moves at rank n. A move on a tableau changes letters and no mark.
+unfoldable pub moveWord : ℕ → Move → List ℕ → Option (List ℕ)
+moveWord n m w = guarded n m (movedWord m w)
+
+unfoldable pub moveTableau : ℕ → Move → List ℕ → List ℕ → Option (List ℕ)
+moveTableau n m xs ms = guarded n m (movedTableau m xs ms)
+
+-- The repeat count: 0 under an inversion, else how many letters the move could change.
+unfoldable pub repeatWord : Move → List ℕ → ℕ
+repeatWord m w = cond (inverted (m .index) w) 0 (count (taken (m .side) (m .index)) w)
+
+unfoldable pub repeatTableau : Move → List ℕ → List ℕ → ℕ
+repeatTableau m xs ms = cond (below (m .index) xs ms) 0 (count (taken (m .side) (m .index)) xs)
