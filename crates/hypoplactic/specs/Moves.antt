@@ -6,6 +6,7 @@
 --     moved              the new letters, with no bound on the index
 --     moveWord, moveTableau   the same at rank n, where an index outside 1 to n - 1 leaves the move undefined
 --     repeatWord, repeatTableau   document 01's repeat count
+--     timesWord, timesTableau     a move made a number of times, one after the other
 -- Assumes nothing.
 use Prim.Native.Nat.{ℕ, zero, suc}
 use mathlib.Core.List.{List, [], _∷_}
@@ -116,3 +117,22 @@ repeatWord m w = cond (inverted (m .index) w) 0 (count (taken (m .side) (m .inde
 
 unfoldable pub repeatTableau : Move → List ℕ → List ℕ → ℕ
 repeatTableau m xs ms = cond (below (m .index) xs ms) 0 (count (taken (m .side) (m .index)) xs)
+
+-- Whether there is a result.
+abbrev pub Defined : Option (List ℕ) → Type 0
+Defined none = ⊥
+Defined (some w) = Unit {0}
+
+-- A second move after a first that is defined.
+abbrev pub andThen : Option (List ℕ) → (List ℕ → Option (List ℕ)) → Option (List ℕ)
+andThen none f = none
+andThen (some w) f = f w
+
+-- A move made k times, one after the other.
+abbrev pub timesWord : ℕ → Move → List ℕ → Option (List ℕ)
+timesWord zero m w = some w
+timesWord (suc k) m w = andThen (movedWord m w) (λ v. timesWord k m v)
+
+abbrev pub timesTableau : ℕ → Move → List ℕ → List ℕ → Option (List ℕ)
+timesTableau zero m xs ms = some xs
+timesTableau (suc k) m xs ms = andThen (movedTableau m xs ms) (λ ys. timesTableau k m ys ms)
