@@ -6,3 +6,7 @@ pub mod Reading
 pub mod Moves
 pub mod Junctions
 pub mod Weights
+pub mod Replies
+pub mod Judgements
+pub mod WordOperations
+pub mod TableauOperations

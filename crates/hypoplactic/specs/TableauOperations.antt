@@ -1,0 +1,102 @@
+-- What the operations on tableaux and pairs reply to every input, and what lent memory then holds (document 01; the checks in order).
+--     tableauRun, recordingRun      1 2 4 13                 give the cells written
+--     insertRun                     1 2 3 4 5 6 7 8 12 13    gives the new used count
+--     wordRun                       1 to 8, 13               gives the letters written
+--     readingRun                    1 to 6, 13               gives the letters written
+--     moveTableauRun                1 to 6, 9 10 11          gives no value; letters change in place, marks do not
+--     repeatTableauSays             1 to 6, 9                gives the repeat count
+--     viewerSays, lookSays          1 to 6                   gives no value; gives letter, row and column, or no value for "no such cell"
+-- A lent list keeps its elements beyond those needed. Assumes nothing.
+use Prim.Native.Nat.{ℕ, suc}
+use mathlib.Core.List.{List, [], _∷_, _++_}
+use mathlib.Core.Bool.{cond}
+use lib.Dec.{ltb}
+use lib.ListN.{length, take, drop, getD}
+use Rattle.hypoplactic.specs.Ribbons.{rowAt, columnAt}
+use Rattle.hypoplactic.specs.Insertion.{Pair, insert, lettersOf, marksOf, recordingOf, wordOf}
+use Rattle.hypoplactic.specs.Reading.{columnReading}
+use Rattle.hypoplactic.specs.Moves.{Move, below, movedTableau, repeatTableau}
+use Rattle.hypoplactic.specs.Replies.{Said, gives, passed, first, ranTo, written}
+use Rattle.hypoplactic.specs.Judgements.{rankJudged, lengthJudged, usedJudged, lettersJudged, risingJudged, marksJudged, entriesJudged, recordingJudged, indexJudged, fullJudged, roomJudged, wordJudgements, tableauJudgements, pairJudgements}
+use Rattle.hypoplactic.specs.WordOperations.{moveJudgements, orSame}
+
+-- Tableau of a word, into lent letters and marks.
+unfoldable pub tableauSays : ℕ → List ℕ → ℕ → ℕ → Said
+tableauSays n w letters marks =
+    first (wordJudgements n w ++ (roomJudged (length w) letters ∷ roomJudged (length w) marks ∷ [])) (gives (length w ∷ []))
+
+unfoldable pub tableauRun : ℕ → List ℕ → List ℕ → List ℕ → Said × (List ℕ × List ℕ)
+tableauRun n w letters marks =
+    ranTo (tableauSays n w (length letters) (length marks)) (written (lettersOf w) letters, written (marksOf w) marks) (letters, marks)
+
+-- Recording ribbon of a word, into lent entries.
+unfoldable pub recordingSays : ℕ → List ℕ → ℕ → Said
+recordingSays n w entries = first (wordJudgements n w ++ (roomJudged (length w) entries ∷ [])) (gives (length w ∷ []))
+
+unfoldable pub recordingRun : ℕ → List ℕ → List ℕ → Said × List ℕ
+recordingRun n w entries = ranTo (recordingSays n w (length entries)) (written (recordingOf w) entries) entries
+
+-- Insertion of a into the pair in the first cells of three lent lists, of which so many are used. The letter to be inserted has the used
+-- count as its place.
+unfoldable pub insertSays : ℕ → ℕ → ℕ → Pair → Said
+insertSays n used a p =
+    let xs : List ℕ = take used (p .letters) in
+    let ms : List ℕ = take used (p .marks) in
+    let rs : List ℕ = take used (p .recording) in
+    first
+    (rankJudged n ∷ lengthJudged used ∷ usedJudged used (length (p .letters) ∷ length (p .marks) ∷ length (p .recording) ∷ [])
+    ∷ lettersJudged n (xs ++ a ∷ []) ∷ risingJudged xs ∷ marksJudged xs ms ∷ entriesJudged used rs ∷ recordingJudged rs ms
+    ∷ fullJudged used ∷ roomJudged (suc used) (length (p .letters)) ∷ roomJudged (suc used) (length (p .marks))
+    ∷ roomJudged (suc used) (length (p .recording)) ∷ [])
+    (gives (suc used ∷ []))
+
+-- The used cells of three lent lists.
+abbrev pub usedCells : ℕ → Pair → Pair
+usedCells used p = record { letters = take used (p .letters); marks = take used (p .marks); recording = take used (p .recording) }
+
+-- A pair at the beginning of three lent lists.
+abbrev pub writtenPair : Pair → Pair → Pair
+writtenPair q old =
+    record {
+      letters = written (q .letters) (old .letters);
+      marks = written (q .marks) (old .marks);
+      recording = written (q .recording) (old .recording);
+    }
+
+unfoldable pub insertRun : ℕ → ℕ → ℕ → Pair → Said × Pair
+insertRun n used a p = ranTo (insertSays n used a p) (writtenPair (insert a (usedCells used p)) p) p
+
+-- Pair back to word.
+unfoldable pub wordSays : ℕ → List ℕ → List ℕ → List ℕ → ℕ → Said
+wordSays n xs ms rs room = first (pairJudgements n xs ms rs ++ (roomJudged (length xs) room ∷ [])) (gives (length xs ∷ []))
+
+unfoldable pub wordRun : ℕ → List ℕ → List ℕ → List ℕ → List ℕ → Said × List ℕ
+wordRun n xs ms rs out = ranTo (wordSays n xs ms rs (length out)) (written (wordOf xs rs) out) out
+
+-- Column reading of a tableau.
+unfoldable pub readingSays : ℕ → List ℕ → List ℕ → ℕ → Said
+readingSays n xs ms room = first (tableauJudgements n xs ms ++ (roomJudged (length xs) room ∷ [])) (gives (length xs ∷ []))
+
+unfoldable pub readingRun : ℕ → List ℕ → List ℕ → List ℕ → Said × List ℕ
+readingRun n xs ms out = ranTo (readingSays n xs ms (length out)) (written (columnReading xs ms) out) out
+
+-- A move on a tableau.
+unfoldable pub moveTableauSays : ℕ → Move → List ℕ → List ℕ → Said
+moveTableauSays n m xs ms = first (tableauJudgements n xs ms ++ moveJudgements n m (below (m .index) xs ms) xs) (gives [])
+
+unfoldable pub moveTableauRun : ℕ → Move → List ℕ → List ℕ → Said × List ℕ
+moveTableauRun n m xs ms = ranTo (moveTableauSays n m xs ms) (orSame (movedTableau m xs ms) xs) xs
+
+unfoldable pub repeatTableauSays : ℕ → Move → List ℕ → List ℕ → Said
+repeatTableauSays n m xs ms = first (tableauJudgements n xs ms ++ (indexJudged n (m .index) ∷ [])) (gives (repeatTableau m xs ms ∷ []))
+
+-- The making of a viewer, and a look at a cell through it.
+unfoldable pub viewerSays : ℕ → List ℕ → List ℕ → Said
+viewerSays n xs ms = first (tableauJudgements n xs ms) passed
+
+-- A cell's letter, row and column, or no value where there is no such cell.
+abbrev pub cellAt : List ℕ → List ℕ → ℕ → List ℕ
+cellAt xs ms k = cond (ltb k (length xs)) (getD xs k 0 ∷ rowAt ms k ∷ columnAt ms k ∷ []) []
+
+unfoldable pub lookSays : ℕ → List ℕ → List ℕ → ℕ → Said
+lookSays n xs ms k = first (tableauJudgements n xs ms) (gives (cellAt xs ms k))

@@ -1,0 +1,57 @@
+-- What the operations on words reply to every input, and what lent memory then holds (document 01; the checks that each makes, in order).
+--     junctionSays      1 2 4                gives the junction set and the rows
+--     moveWordSays      1 2 4 9 10 11        gives no value; moveWordRun changes the word in place
+--     repeatWordSays    1 2 4 9              gives the repeat count
+--     sameClassSays, weightsSays   1 2 4 of two words      give 1 or 0; 0 equal, 1 lower, 2 higher, 3 neither
+-- Assumes nothing.
+use Prim.Native.Nat.{ℕ}
+use mathlib.Core.List.{List, [], _∷_, _++_}
+use mathlib.Core.Bool.{Bool, true, false}
+use mathlib.Core.Option.{Option, none, some}
+use lib.ListN.{length}
+use Rattle.hypoplactic.specs.Words.{tick}
+use Rattle.hypoplactic.specs.Moves.{Move, inverted, taken, movedWord, repeatWord}
+use Rattle.hypoplactic.specs.Junctions.{junctionSet, rowsOf, sameClass}
+use Rattle.hypoplactic.specs.Weights.{Comparison, equal, lower, higher, neither, compareWeights}
+use Rattle.hypoplactic.specs.Replies.{Said, gives, first, ranTo, countOn}
+use Rattle.hypoplactic.specs.Judgements.{rankJudged, lengthJudged, lettersJudged, indexJudged, inversionJudged, letterJudged, wordJudgements}
+
+unfoldable pub junctionSays : ℕ → List ℕ → Said
+junctionSays n w = first (wordJudgements n w) (gives (junctionSet w ∷ rowsOf w ∷ []))
+
+-- What a move adds to the checks of its word or tableau: its index, an inversion, a letter to change.
+abbrev pub moveJudgements : ℕ → Move → Bool → List ℕ → List Said
+moveJudgements n m inversion w = indexJudged n (m .index) ∷ inversionJudged inversion ∷ letterJudged (taken (m .side) (m .index)) w ∷ []
+
+-- The letters after a move: as they were where it is undefined.
+abbrev pub orSame : Option (List ℕ) → List ℕ → List ℕ
+orSame none w = w
+orSame (some v) w = v
+
+unfoldable pub moveWordSays : ℕ → Move → List ℕ → Said
+moveWordSays n m w = first (wordJudgements n w ++ moveJudgements n m (inverted (m .index) w) w) (gives [])
+
+unfoldable pub moveWordRun : ℕ → Move → List ℕ → Said × List ℕ
+moveWordRun n m w = ranTo (moveWordSays n m w) (orSame (movedWord m w) w) w
+
+unfoldable pub repeatWordSays : ℕ → Move → List ℕ → Said
+repeatWordSays n m w = first (wordJudgements n w ++ (indexJudged n (m .index) ∷ [])) (gives (repeatWord m w ∷ []))
+
+-- Two words, each with its rank: every check over the first, then over the second, before the next check.
+abbrev pub wordsJudgements : ℕ → List ℕ → ℕ → List ℕ → List Said
+wordsJudgements n u m v =
+    rankJudged n ∷ rankJudged m ∷ lengthJudged (length u) ∷ lengthJudged (length v) ∷ lettersJudged n u
+    ∷ countOn (length u) (lettersJudged m v) ∷ []
+
+unfoldable pub sameClassSays : ℕ → List ℕ → ℕ → List ℕ → Said
+sameClassSays n u m v = first (wordsJudgements n u m v) (gives (tick (sameClass n u m v) 0 ∷ []))
+
+abbrev pub comparisonNumber : Comparison → ℕ
+comparisonNumber equal = 0
+comparisonNumber lower = 1
+comparisonNumber higher = 2
+comparisonNumber neither = 3
+
+-- The answer describes the first word against the second.
+unfoldable pub weightsSays : ℕ → List ℕ → ℕ → List ℕ → Said
+weightsSays n u m v = first (wordsJudgements n u m v) (gives (comparisonNumber (compareWeights u v) ∷ []))
