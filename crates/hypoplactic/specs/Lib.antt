@@ -10,3 +10,6 @@ pub mod Replies
 pub mod Judgements
 pub mod WordOperations
 pub mod TableauOperations
+pub mod LineOperations
+pub mod Classes
+pub mod Starred

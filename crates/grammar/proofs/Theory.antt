@@ -1,0 +1,2 @@
+pub mod Decimal
+pub mod Examples

@@ -1,0 +1,100 @@
+-- The grammar of lines: how a text is read back. It knows no places. A reading gives a value and what is left of the text, or what is left from the byte on that
+-- breaks the grammar (nothing is left when the text ends early); the place of that byte is the text's length less what is left.
+--     readNumber          one to four digits, as many as there are; after a leading 0 nothing more
+--     readW, readT, readN a whole line: after exactly L items the line feed, and nothing after it
+-- Values are only read here, and judged elsewhere. Assumes nothing.
+use Prim.Native.Nat.{ℕ, zero, suc, _+_, _-_, _*_}
+use mathlib.Core.List.{List, [], _∷_, map}
+use mathlib.Core.Bool.{Bool, cond, _&&_}
+use lib.Dec.{leb, eqb}
+
+-- What a reading gives.
+pub data Read (A : Type 0) : Type 0 where
+  got : A → List ℕ → Read A
+  broken : List ℕ → Read A
+
+-- What was read, with its value turned.
+abbrev pub turned : {A B : Type 0} → (A → B) → Read A → Read B
+turned f (got a t) = got (f a) t
+turned f (broken t) = broken t
+
+-- From a first value on: what is left is read by a reader that may depend on the value, and the two values are joined.
+abbrev pub onward : {A B C : Type 0} → (A → B → C) → (A → List ℕ → Read B) → Read A → Read C
+onward join second (got a t) = turned (join a) (second a t)
+onward join second (broken t) = broken t
+
+-- One reader and then another.
+abbrev pub both : {A B C : Type 0} → (A → B → C) → (List ℕ → Read A) → (A → List ℕ → Read B) → List ℕ → Read C
+both join first second t = onward join second (first t)
+
+module _ {A : Type 0} where
+  -- A given byte, then a reader.
+  abbrev pub after : ℕ → (List ℕ → Read A) → List ℕ → Read A
+  after k r [] = broken []
+  after k r (b ∷ t) = cond (eqb b k) (r t) (broken (b ∷ t))
+
+  -- Exactly so many items, the first by one reader, the others by another.
+  abbrev pub many : (List ℕ → Read A) → (List ℕ → Read A) → ℕ → List ℕ → Read (List A)
+  many first later zero t = got [] t
+  many first later (suc n) t = both _∷_ first (λ a. many later later n) t
+
+  -- Nothing may follow.
+  abbrev pub ended : A → List ℕ → Read A
+  ended a [] = got a []
+  ended a (b ∷ t) = broken (b ∷ t)
+
+  -- The line feed, and nothing after it.
+  abbrev pub closed : Read A → Read A
+  closed (broken t) = broken t
+  closed (got a t) = after 10 (ended a) t
+
+  -- A whole line: the letter of its kind, what a reader takes, the end.
+  abbrev pub readLine : ℕ → (List ℕ → Read A) → List ℕ → Read A
+  readLine kind r = after kind (λ t. closed (r t))
+
+-- The bytes of the digits 0 to 9.
+abbrev pub digit : ℕ → Bool
+digit b = leb 48 b && leb b 57
+
+-- At most so many more digits of a number that has begun.
+abbrev pub moreDigits : ℕ → ℕ → List ℕ → Read ℕ
+moreDigits zero n t = got n t
+moreDigits (suc k) n [] = got n []
+moreDigits (suc k) n (b ∷ t) = cond (digit b) (moreDigits k (n * 10 + (b - 48)) t) (got n (b ∷ t))
+
+-- A number.
+abbrev pub readNumber : List ℕ → Read ℕ
+readNumber [] = broken []
+readNumber (b ∷ t) = cond (eqb b 48) (got 0 t) (cond (digit b) (moreDigits 3 (b - 48) t) (broken (b ∷ t)))
+
+-- A comma and a number.
+abbrev pub readField : List ℕ → Read ℕ
+readField = after 44 readNumber
+
+-- The letter of a step: r gives mark 0, d gives mark 1.
+abbrev pub readStep : List ℕ → Read ℕ
+readStep [] = broken []
+readStep (b ∷ t) = cond (eqb b 114) (got 0 t) (cond (eqb b 100) (got 1 t) (broken (b ∷ t)))
+
+-- A cell as letter and mark. The first has no step before it, and its mark is 0.
+abbrev pub readFirst : List ℕ → Read (ℕ × ℕ)
+readFirst t = turned (λ x. (x, 0)) (readField t)
+
+abbrev pub readCell : List ℕ → Read (ℕ × ℕ)
+readCell = both (λ m x. (x, m)) (after 44 readStep) (λ m. readField)
+
+-- A count and then so many items.
+abbrev pub counted : {A : Type 0} → (List ℕ → Read A) → (List ℕ → Read A) → List ℕ → Read (List A)
+counted first later = both (λ n items. items) readField (many first later)
+
+-- W: rank and letters.
+unfoldable pub readW : List ℕ → Read (ℕ × List ℕ)
+readW = readLine 87 (both (λ n ws. (n, ws)) readField (λ n. counted readField readField))
+
+-- T: rank, letters and marks.
+unfoldable pub readT : List ℕ → Read (ℕ × List ℕ × List ℕ)
+readT = readLine 84 (both (λ n cells. (n, map (λ c. c .0) cells, map (λ c. c .1) cells)) readField (λ n. counted readFirst readCell))
+
+-- N: entries.
+unfoldable pub readN : List ℕ → Read (List ℕ)
+readN = readLine 78 (counted readField readField)

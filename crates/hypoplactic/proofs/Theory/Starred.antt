@@ -1,0 +1,20 @@
+-- The starred cases of document 01, all of them, of the written meaning: one theorem over the list of specs/Starred.antt, computed by the checker.
+-- Assumes nothing.
+use mathlib.Core.Path.{_≡_, refl}
+use mathlib.Core.List.{map}
+use lib.Count.{ones, onesIn}
+use Rattle.grammar.specs.Numbers.{decimal}
+use Rattle.grammar.specs.Lines.{wLine, tLine, nLine, jLine, eLine}
+use Rattle.hypoplactic.specs.Insertion.{insert, pairOf, wordOf}
+use Rattle.hypoplactic.specs.Reading.{columnReading}
+use Rattle.hypoplactic.specs.Junctions.{number, junctionSet, rowsOf, sameClass}
+use Rattle.hypoplactic.specs.Weights.{compareWeights}
+use Rattle.hypoplactic.specs.Judgements.{rankJudged, lengthJudged, lettersJudged, indexJudged, inversionJudged, letterJudged}
+use Rattle.hypoplactic.specs.WordOperations.{moveWordSays, moveWordRun, sameClassSays, weightsSays}
+use Rattle.hypoplactic.specs.LineOperations.{tableauLine, program}
+use Rattle.hypoplactic.specs.Starred.{Case, starredCases}
+
+-- Every starred case: the meaning is what the document says.
+pub starred : map (λ (c : Case). c .meaning) starredCases ≡ map (λ (c : Case). c .document) starredCases
+unfolding starredCases program tableauLine tLine nLine wLine jLine eLine decimal pairOf insert wordOf columnReading junctionSet number rowsOf ones onesIn sameClass compareWeights rankJudged lengthJudged lettersJudged indexJudged inversionJudged letterJudged moveWordSays moveWordRun sameClassSays weightsSays
+starred = refl

@@ -1,0 +1,85 @@
+-- The starred cases of document 01 ("Checked words"), as one list: what the written meaning gives beside what the document says.
+-- Whole outputs stand as texts. A reply stands as its numbers: 0 and the values, or the refusal's number and place; after a move the letters follow.
+-- That the two sides of every case are equal is proved in proofs/Theory/Starred.antt. Assumes nothing.
+use Prim.Native.Nat.{ℕ}
+use Prim.Native.Char.{code}
+use Prim.Native.String.{String, [] as ending, _∷_ as _∷ᶜ_}
+use mathlib.Core.List.{List, [], _∷_, _++_}
+use Rattle.hypoplactic.specs.Insertion.{lettersOf, marksOf, recordingOf, wordOf}
+use Rattle.hypoplactic.specs.Reading.{columnReading}
+use Rattle.hypoplactic.specs.Moves.{Move, raising, lowering}
+use Rattle.hypoplactic.specs.Replies.{Said, gives, refused}
+use Rattle.hypoplactic.specs.WordOperations.{moveWordRun, sameClassSays, weightsSays}
+use Rattle.hypoplactic.specs.LineOperations.{program, tableauLine}
+
+-- The bytes of a text.
+abbrev pub text : String → List ℕ
+text ending = []
+text (c ∷ᶜ s) = code c ∷ text s
+
+-- A reply in numbers.
+abbrev pub numbers : Said → List ℕ
+numbers (gives vs) = 0 ∷ vs
+numbers (refused k p) = k ∷ p ∷ []
+
+-- A reply and the lent letters after it.
+abbrev pub outcome : Said × List ℕ → List ℕ
+outcome r = numbers (r .0) ++ r .1
+
+abbrev pub raise : ℕ → Move
+raise i = record { side = raising; index = i }
+
+abbrev pub lower : ℕ → Move
+lower i = record { side = lowering; index = i }
+
+-- A case: what the definitions give, and what the document says.
+pub record Case : Type 0 where
+  pub meaning : List ℕ
+  pub document : List ℕ
+
+abbrev pub case : List ℕ → List ℕ → Case
+case m d = record { meaning = m; document = d }
+
+abbrev pub w4323 : List ℕ
+w4323 = 4 ∷ 3 ∷ 2 ∷ 3 ∷ []
+
+abbrev pub w433 : List ℕ
+w433 = 4 ∷ 3 ∷ 3 ∷ []
+
+abbrev pub w12446553275 : List ℕ
+w12446553275 = 1 ∷ 2 ∷ 4 ∷ 4 ∷ 6 ∷ 5 ∷ 5 ∷ 3 ∷ 2 ∷ 7 ∷ 5 ∷ []
+
+unfoldable pub starredCases : List Case
+starredCases =
+    -- 4323 at rank 4: the four lines
+    case (program 4 w4323) (text "T,4,4,2,d,3,r,3,d,4\nN,4,3,2,4,1\nW,4,4,3,2,4,3\nJ,6,3\n")
+    -- 12446553275: letters, down steps into 3, the first 4 and 6 only, recording, and back
+    ∷ case (lettersOf w12446553275) (1 ∷ 2 ∷ 2 ∷ 3 ∷ 4 ∷ 4 ∷ 5 ∷ 5 ∷ 5 ∷ 6 ∷ 7 ∷ [])
+    ∷ case (marksOf w12446553275) (0 ∷ 0 ∷ 0 ∷ 1 ∷ 1 ∷ 0 ∷ 0 ∷ 0 ∷ 0 ∷ 1 ∷ 0 ∷ [])
+    ∷ case (recordingOf w12446553275) (1 ∷ 2 ∷ 9 ∷ 8 ∷ 3 ∷ 4 ∷ 6 ∷ 7 ∷ 11 ∷ 5 ∷ 10 ∷ [])
+    ∷ case
+    (wordOf (1 ∷ 2 ∷ 2 ∷ 3 ∷ 4 ∷ 4 ∷ 5 ∷ 5 ∷ 5 ∷ 6 ∷ 7 ∷ []) (1 ∷ 2 ∷ 9 ∷ 8 ∷ 3 ∷ 4 ∷ 6 ∷ 7 ∷ 11 ∷ 5 ∷ 10 ∷ []))
+    w12446553275
+    -- the empty word at rank 4
+    ∷ case (program 4 []) (text "T,4,0\nN,0\nW,4,0\nJ,0,0\n")
+    -- 433 at rank 4
+    ∷ case (tableauLine 4 w433) (text "T,4,3,3,r,3,d,4\n")
+    ∷ case (recordingOf w433) (2 ∷ 3 ∷ 1 ∷ [])
+    ∷ case (columnReading (lettersOf w433) (marksOf w433)) (3 ∷ 4 ∷ 3 ∷ [])
+    -- 243245565
+    ∷ case (recordingOf (2 ∷ 4 ∷ 3 ∷ 2 ∷ 4 ∷ 5 ∷ 5 ∷ 6 ∷ 5 ∷ [])) (1 ∷ 4 ∷ 3 ∷ 2 ∷ 5 ∷ 6 ∷ 7 ∷ 9 ∷ 8 ∷ [])
+    -- moves at rank 3
+    ∷ case (outcome (moveWordRun 3 (lower 1) (3 ∷ 1 ∷ 1 ∷ 3 ∷ []))) (0 ∷ 3 ∷ 1 ∷ 2 ∷ 3 ∷ [])
+    ∷ case (outcome (moveWordRun 3 (raise 2) (3 ∷ 1 ∷ 2 ∷ 3 ∷ []))) (10 ∷ 0 ∷ 3 ∷ 1 ∷ 2 ∷ 3 ∷ [])
+    ∷ case (outcome (moveWordRun 3 (lower 2) (3 ∷ 1 ∷ 3 ∷ 1 ∷ []))) (11 ∷ 0 ∷ 3 ∷ 1 ∷ 3 ∷ 1 ∷ [])
+    ∷ case (outcome (moveWordRun 3 (raise 2) (3 ∷ 1 ∷ 3 ∷ 1 ∷ []))) (0 ∷ 2 ∷ 1 ∷ 3 ∷ 1 ∷ [])
+    ∷ case (outcome (moveWordRun 3 (raise 2) (3 ∷ 1 ∷ []))) (0 ∷ 2 ∷ 1 ∷ [])
+    -- classes at rank 4: 1 is yes, 0 is no
+    ∷ case (numbers (sameClassSays 4 (3 ∷ 2 ∷ 4 ∷ 3 ∷ []) 4 w4323)) (0 ∷ 1 ∷ [])
+    ∷ case (numbers (sameClassSays 4 (2 ∷ 3 ∷ 3 ∷ 4 ∷ []) 4 w4323)) (0 ∷ 0 ∷ [])
+    -- weights: 1 is lower
+    ∷ case
+    (numbers
+    (weightsSays 6 (5 ∷ 4 ∷ 2 ∷ 1 ∷ 6 ∷ 4 ∷ 3 ∷ 2 ∷ 5 ∷ 2 ∷ 2 ∷ 4 ∷ []) 6 (4 ∷ 3 ∷ 2 ∷ 1 ∷ 4 ∷ 3 ∷ 2 ∷ 1 ∷ 2 ∷ 1 ∷ 1 ∷ 1 ∷ [])))
+    (0 ∷ 1 ∷ [])
+    ∷ []
