@@ -1,15 +1,17 @@
--- The starred cases of document 01 ("Checked words"), as one list: what the written meaning gives beside what the document says.
+-- The starred cases of document 01 ("Checked words"), as one list: what the written meaning gives beside what the document says. A second list has
+-- worked examples of the paper.
 -- Whole outputs stand as texts. A reply stands as its numbers: 0 and the values, or the refusal's number and place; after a move the letters follow.
 -- That the two sides of every case are equal is proved in proofs/Theory/Starred.antt. Assumes nothing.
 use Prim.Native.Nat.{ℕ}
 use Prim.Native.Char.{code}
 use Prim.Native.String.{String, [] as ending, _∷_ as _∷ᶜ_}
 use mathlib.Core.List.{List, [], _∷_, _++_}
-use Rattle.hypoplactic.specs.Insertion.{lettersOf, marksOf, recordingOf, wordOf}
+use Rattle.hypoplactic.specs.Insertion.{insert, pairOf, lettersOf, marksOf, recordingOf, wordOf}
 use Rattle.hypoplactic.specs.Reading.{columnReading}
 use Rattle.hypoplactic.specs.Moves.{Move, raising, lowering}
 use Rattle.hypoplactic.specs.Replies.{Said, gives, refused}
-use Rattle.hypoplactic.specs.WordOperations.{moveWordRun, sameClassSays, weightsSays}
+use Rattle.hypoplactic.specs.WordOperations.{moveWordRun, repeatWordSays, sameClassSays, weightsSays}
+use Rattle.hypoplactic.specs.TableauOperations.{lookSays}
 use Rattle.hypoplactic.specs.LineOperations.{program, tableauLine}
 
 -- The bytes of a text.
@@ -82,4 +84,22 @@ starredCases =
     (numbers
     (weightsSays 6 (5 ∷ 4 ∷ 2 ∷ 1 ∷ 6 ∷ 4 ∷ 3 ∷ 2 ∷ 5 ∷ 2 ∷ 2 ∷ 4 ∷ []) 6 (4 ∷ 3 ∷ 2 ∷ 1 ∷ 4 ∷ 3 ∷ 2 ∷ 1 ∷ 2 ∷ 1 ∷ 1 ∷ 1 ∷ [])))
     (0 ∷ 1 ∷ [])
+    ∷ []
+
+-- Worked examples of the paper beside the starred ones, in the same form.
+unfoldable pub workedCases : List Case
+workedCases =
+    -- section 4: the column reading of (4.2), and the cell of its 6, in the fourth row and the seventh column
+    case (columnReading (lettersOf w12446553275) (marksOf w12446553275)) (1 ∷ 2 ∷ 4 ∷ 3 ∷ 2 ∷ 4 ∷ 5 ∷ 5 ∷ 6 ∷ 5 ∷ 7 ∷ [])
+    ∷ case (numbers (lookSays 7 (lettersOf w12446553275) (marksOf w12446553275) 9)) (0 ∷ 6 ∷ 3 ∷ 6 ∷ [])
+    ∷ case (numbers (lookSays 7 (lettersOf w12446553275) (marksOf w12446553275) 11)) (0 ∷ [])
+    -- section 4: the third pair on the way to that of 4323, and the fourth by one insertion
+    ∷ case (recordingOf (4 ∷ 3 ∷ 2 ∷ [])) (3 ∷ 2 ∷ 1 ∷ [])
+    ∷ case (marksOf (4 ∷ 3 ∷ 2 ∷ [])) (0 ∷ 1 ∷ 1 ∷ [])
+    ∷ case ((insert 3 (pairOf (4 ∷ 3 ∷ 2 ∷ []))) .recording) (3 ∷ 2 ∷ 4 ∷ 1 ∷ [])
+    -- section 5: how often lowering with index 1 can be repeated on 3113, and raising with index 2 on 3123
+    ∷ case (numbers (repeatWordSays 3 (lower 1) (3 ∷ 1 ∷ 1 ∷ 3 ∷ []))) (0 ∷ 2 ∷ [])
+    ∷ case (numbers (repeatWordSays 3 (raise 2) (3 ∷ 1 ∷ 2 ∷ 3 ∷ []))) (0 ∷ 0 ∷ [])
+    -- section 5: 1324 and 3142 are in the same position of their components
+    ∷ case (numbers (sameClassSays 4 (1 ∷ 3 ∷ 2 ∷ 4 ∷ []) 4 (3 ∷ 1 ∷ 4 ∷ 2 ∷ []))) (0 ∷ 1 ∷ [])
     ∷ []
