@@ -1,2 +1,11 @@
 pub mod Cells
+pub mod Joining
+pub mod Factors
+pub mod Columns
+pub mod InsertRead
+pub mod Pairs
+pub mod Seating
+pub mod Boundary
+pub mod ReadBack
 pub mod Starred
+pub mod NormalForm
