@@ -9,3 +9,7 @@ pub mod Boundary
 pub mod ReadBack
 pub mod Starred
 pub mod NormalForm
+pub mod Placing
+pub mod Recordings
+pub mod Removal
+pub mod Correspondence
