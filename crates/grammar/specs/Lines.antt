@@ -10,27 +10,29 @@ use Rattle.grammar.specs.Numbers.{decimal}
 abbrev pub field : ℕ → List ℕ
 field n = 44 ∷ decimal n
 
--- The fields of several numbers, one after another.
-abbrev pub fields : List ℕ → List ℕ
-fields [] = []
-fields (x ∷ xs) = field x ++ fields xs
+-- Items one after another, the first by one writer, the others by another.
+abbrev pub items : {A : Type 0} → (A → List ℕ) → (A → List ℕ) → List A → List ℕ
+items first later [] = []
+items first later (a ∷ l) = first a ++ items later later l
 
 -- How a cell is stepped into: the letter r for mark 0, d for any other.
 abbrev pub step : ℕ → ℕ
 step zero = 114
 step (suc m) = 100
 
--- The cells after the first: for each its step and its letter.
-abbrev pub steps : List ℕ → List ℕ → List ℕ
-steps [] ms = []
-steps (x ∷ xs) [] = []
-steps (x ∷ xs) (m ∷ ms) = 44 ∷ step m ∷ (field x ++ steps xs ms)
+-- The first cell, a letter and a mark: its letter alone is written.
+abbrev pub firstCell : ℕ × ℕ → List ℕ
+firstCell c = field (c .0)
 
--- The cells of a ribbon: no step is written into the first.
-abbrev pub ribbon : List ℕ → List ℕ → List ℕ
-ribbon [] ms = []
-ribbon (x ∷ xs) [] = field x
-ribbon (x ∷ xs) (m ∷ ms) = field x ++ steps xs ms
+-- Another cell: its step, then its letter.
+abbrev pub cell : ℕ × ℕ → List ℕ
+cell c = 44 ∷ step (c .1) ∷ field (c .0)
+
+-- Letters and marks as cells.
+abbrev pub cells : List ℕ → List ℕ → List (ℕ × ℕ)
+cells [] ms = []
+cells (x ∷ xs) [] = []
+cells (x ∷ xs) (m ∷ ms) = (x, m) ∷ cells xs ms
 
 -- A line: the letter of its kind, its fields, the line feed.
 abbrev pub line : ℕ → List ℕ → List ℕ
@@ -38,15 +40,15 @@ line kind body = kind ∷ (body ++ (10 ∷ []))
 
 -- W, rank, how many letters, the letters.
 unfoldable pub wLine : ℕ → List ℕ → List ℕ
-wLine rank letters = line 87 (field rank ++ (field (length letters) ++ fields letters))
+wLine rank letters = line 87 (field rank ++ (field (length letters) ++ items field field letters))
 
 -- T, rank, how many letters, the letters in ribbon order with r or d between neighbours.
 unfoldable pub tLine : ℕ → List ℕ → List ℕ → List ℕ
-tLine rank letters marks = line 84 (field rank ++ (field (length letters) ++ ribbon letters marks))
+tLine rank letters marks = line 84 (field rank ++ (field (length letters) ++ items firstCell cell (cells letters marks)))
 
 -- N, how many entries, the recording entries in ribbon order.
 unfoldable pub nLine : List ℕ → List ℕ
-nLine entries = line 78 (field (length entries) ++ fields entries)
+nLine entries = line 78 (field (length entries) ++ items field field entries)
 
 -- J, junction set, rows.
 unfoldable pub jLine : ℕ → ℕ → List ℕ

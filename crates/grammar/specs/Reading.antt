@@ -38,19 +38,14 @@ module _ {A : Type 0} where
   many first later zero t = got [] t
   many first later (suc n) t = both _∷_ first (λ a. many later later n) t
 
-  -- Nothing may follow.
-  abbrev pub ended : A → List ℕ → Read A
-  ended a [] = got a []
-  ended a (b ∷ t) = broken (b ∷ t)
+-- The end of the text.
+abbrev pub ended : List ℕ → Read Unit
+ended [] = got tt []
+ended (b ∷ t) = broken (b ∷ t)
 
-  -- The line feed, and nothing after it.
-  abbrev pub closed : Read A → Read A
-  closed (broken t) = broken t
-  closed (got a t) = after 10 (ended a) t
-
-  -- A whole line: the letter of its kind, what a reader takes, the end.
-  abbrev pub readLine : ℕ → (List ℕ → Read A) → List ℕ → Read A
-  readLine kind r = after kind (λ t. closed (r t))
+-- A whole line: the letter of its kind, what a reader takes, the line feed, and nothing after it.
+abbrev pub readLine : {A : Type 0} → ℕ → (List ℕ → Read A) → List ℕ → Read A
+readLine kind r = after kind (both (λ a u. a) r (λ a. after 10 ended))
 
 -- The bytes of the digits 0 to 9.
 abbrev pub digit : ℕ → Bool
@@ -78,22 +73,33 @@ readStep (b ∷ t) = cond (eqb b 114) (got 0 t) (cond (eqb b 100) (got 1 t) (bro
 
 -- A cell as letter and mark. The first has no step before it, and its mark is 0.
 abbrev pub readFirst : List ℕ → Read (ℕ × ℕ)
-readFirst t = turned (λ x. (x, 0)) (readField t)
+readFirst = both (λ x m. (x, m)) readField (λ x. got 0)
 
 abbrev pub readCell : List ℕ → Read (ℕ × ℕ)
 readCell = both (λ m x. (x, m)) (after 44 readStep) (λ m. readField)
+
+-- The letters and the marks of cells.
+abbrev pub letters : List (ℕ × ℕ) → List ℕ
+letters = map (λ c. c .0)
+
+abbrev pub marks : List (ℕ × ℕ) → List ℕ
+marks = map (λ c. c .1)
 
 -- A count and then so many items.
 abbrev pub counted : {A : Type 0} → (List ℕ → Read A) → (List ℕ → Read A) → List ℕ → Read (List A)
 counted first later = both (λ n items. items) readField (many first later)
 
+-- A rank, a count and then so many items.
+abbrev pub ranked : {A B : Type 0} → (ℕ → List A → B) → (List ℕ → Read A) → (List ℕ → Read A) → List ℕ → Read B
+ranked join first later = both join readField (λ n. counted first later)
+
 -- W: rank and letters.
 unfoldable pub readW : List ℕ → Read (ℕ × List ℕ)
-readW = readLine 87 (both (λ n ws. (n, ws)) readField (λ n. counted readField readField))
+readW = readLine 87 (ranked (λ n ws. (n, ws)) readField readField)
 
 -- T: rank, letters and marks.
 unfoldable pub readT : List ℕ → Read (ℕ × List ℕ × List ℕ)
-readT = readLine 84 (both (λ n cells. (n, map (λ c. c .0) cells, map (λ c. c .1) cells)) readField (λ n. counted readFirst readCell))
+readT = readLine 84 (ranked (λ n cells. (n, letters cells, marks cells)) readFirst readCell)
 
 -- N: entries.
 unfoldable pub readN : List ℕ → Read (List ℕ)

@@ -3,10 +3,11 @@
 --     junctionSet w    the 64 bits as a number
 --     rowsOf w         0 for the empty word, else one more than the bits set
 --     sameClass        equal rank, equal count of each letter, equal junction set
+--     downOut a xs ms  the tableau has a down step out of a cell with the letter a
 -- Assumes nothing.
-use Prim.Native.Nat.{ℕ, zero, suc, _+_, _*_}
+use Prim.Native.Nat.{ℕ, zero, suc, _*_}
 use mathlib.Core.List.{List, [], _∷_}
-use mathlib.Core.Bool.{Bool, true, false, _&&_, cond}
+use mathlib.Core.Bool.{Bool, true, false, _&&_, _||_, cond}
 use mathlib.Core.Option.{Option, none, some}
 use lib.Count.{ones}
 use lib.Dec.{eqb, ltb}
@@ -52,3 +53,15 @@ sameCounts (suc n) k u v = eqb (count k u) (count k v) && sameCounts n (suc k) u
 -- Of one class. Words of different rank never are.
 unfoldable pub sameClass : ℕ → List ℕ → ℕ → List ℕ → Bool
 sameClass n u m v = eqb n m && sameCounts 64 1 u v && eqb (junctionSet u) (junctionSet v)
+
+-- A down step out of a, in the cells of a tableau after one that holds x.
+abbrev pub downOutAfter : ℕ → ℕ → List ℕ → List ℕ → Bool
+downOutAfter a x [] ms = false
+downOutAfter a x (y ∷ ys) [] = false
+downOutAfter a x (y ∷ ys) (m ∷ ms) = eqb x a && eqb m 1 || downOutAfter a y ys ms
+
+-- Some cell with the mark 1 comes straight after a cell with the letter a.
+abbrev pub downOut : ℕ → List ℕ → List ℕ → Bool
+downOut a [] ms = false
+downOut a (x ∷ xs) [] = false
+downOut a (x ∷ xs) (m ∷ ms) = downOutAfter a x xs ms

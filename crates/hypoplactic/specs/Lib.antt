@@ -3,6 +3,7 @@ pub mod Rewriting
 pub mod Ribbons
 pub mod Insertion
 pub mod Reading
+pub mod Places
 pub mod Moves
 pub mod Junctions
 pub mod Weights

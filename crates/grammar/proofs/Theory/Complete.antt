@@ -1,0 +1,95 @@
+-- What a line's definition gives, the grammar reads back: w-complete, n-complete, t-complete.
+-- Assumes nothing.
+use Prim.Native.Nat.{ℕ, zero, suc, _≤_}
+use mathlib.Core.Path.{_≡_, refl, sym, ap, _∙_}
+use mathlib.Core.List.{List, [], _∷_, _++_, append-assoc}
+use native.Mathlib.Omega.{arith}
+use borrow.Author.Tests.{eq-eqb}
+use lib.ListN.{length}
+use Rattle.grammar.specs.Numbers.{decimal}
+use Rattle.grammar.specs.Lines.{line, field, items, step, firstCell, cell, cells, wLine, tLine, nLine}
+use Rattle.grammar.specs.Values.{Items, Short, Small, Stepped, Marked}
+use Rattle.grammar.specs.Reading.{Read, got, readField, readStep, readFirst, readCell, letters, marks, readW, readT, readN, both, many, readLine, counted, ranked}
+use Rattle.grammar.proofs.Theory.Items.{items-open, Cell, First, stepped, cells-length, cells-letters, cells-marks, ribbon-good}
+use Rattle.grammar.proofs.Theory.Numbers.{Ends, number-read}
+
+-- A reader of items takes what a writer gives of good values where no digit follows, and what is written begins with no digit.
+pub record Complete {A : Type 0} (Good : A → Type 0) (put : A → List ℕ) (get : List ℕ → Read A) : Type 0 where
+  pub reads : (a : A) (t : List ℕ) → Good a → Ends t → get (put a ++ t) ≡ got a t
+  pub opens : (a : A) (t : List ℕ) → Ends (put a ++ t)
+
+-- So many items are read back.
+many-complete : {A : Type 0} {P Q : A → Type 0} {p q : A → List ℕ} {r s : List ℕ → Read A} → Complete P p r → Complete Q q s
+    → (l : List A) (t : List ℕ) → Items P Q l → Ends t → many r s (length l) (items p q l ++ t) ≡ got l t
+many-complete f g [] t h e = refl
+many-complete {p} {q} f g (a ∷ l) t h e =
+    rw (append-assoc, f .reads a (items q q l ++ t) (h .0) (items-open q q (g .opens) l t e), many-complete g g l t (h .1) e)
+
+field-complete : Complete Short field readField
+field-complete = record { reads = number-read; opens = λ a t. refl }
+
+-- A number and what depends on it are read back.
+onward-complete : {B C : Type 0} (j : ℕ → B → C) (second : ℕ → List ℕ → Read B) (n : ℕ) (body t : List ℕ) (b : B)
+    → Short n → Ends (body ++ t) → second n (body ++ t) ≡ got b t → both j readField second (field n ++ body ++ t) ≡ got (j n b) t
+onward-complete j second n body t b h e g = rw (append-assoc (decimal n) body t, number-read n (body ++ t) h e, g)
+
+-- A count and its items are read back.
+counted-complete : {A : Type 0} {P Q : A → Type 0} {p q : A → List ℕ} {r s : List ℕ → Read A} → Complete P p r → Complete Q q s
+    → (l : List A) (t : List ℕ) → Short (length l) → Items P Q l → Ends t → counted r s (field (length l) ++ items p q l ++ t) ≡ got l t
+counted-complete {p} {q} {r} {s} f g l t k h e =
+    onward-complete (λ n a. a) (many r s) (length l) (items p q l) t l k (items-open p q (f .opens) l t e) (many-complete f g l t h e)
+
+-- What a reader takes up to the line feed is read from the whole line.
+line-complete : {A : Type 0} (kind : ℕ) (r : List ℕ → Read A) (body : List ℕ) (a : A) → r (body ++ (10 ∷ [])) ≡ got a (10 ∷ []) → readLine kind r (line kind body) ≡ got a []
+line-complete kind r body a h = rw (eq-eqb kind kind refl, h)
+
+-- A rank, a count and its items are read back.
+ranked-complete : {A B : Type 0} {P Q : A → Type 0} {p q : A → List ℕ} {r s : List ℕ → Read A} → Complete P p r → Complete Q q s
+  → (join : ℕ → List A → B) (n : ℕ) (l : List A) (t : List ℕ) → Short n → Short (length l) → Items P Q l → Ends t
+  → ranked join r s (field n ++ (field (length l) ++ items p q l) ++ t) ≡ got (join n l) t
+ranked-complete {p} {q} {r} {s} f g join n l t k h x e =
+  onward-complete join (λ m. counted r s) n (field (length l) ++ items p q l) t l k refl (counted-complete f g l t h x e)
+
+step-read : (m : ℕ) (t : List ℕ) → m ≤ 1 → readStep (step m ∷ t) ≡ got m t
+step-read zero t h = refl
+step-read (suc zero) t h = refl
+step-read (suc (suc m)) t h = let z : ⊥ = omega arith in absurd z
+
+first-complete : Complete (First Short) firstCell readFirst
+first-complete =
+    record {
+      reads = λ c t h e. rw (number-read (c .0) t (h .0) e) (ap (λ (m : ℕ). got (c .0, m) t) (sym (h .1)));
+      opens = λ c t. refl;
+    }
+
+cell-complete : Complete (Cell Short) cell readCell
+cell-complete =
+    record {
+      reads = λ c t h e. rw (step-read (c .1) (field (c .0) ++ t) (h .1), number-read (c .0) t (h .0) e);
+      opens = λ c t. refl;
+    }
+
+-- W: rank and letters are read back from their line.
+pub w-complete : (n : ℕ) (xs : List ℕ) → Short n → Small xs → readW (wLine n xs) ≡ got (n, xs) []
+unfolding wLine readW
+w-complete n xs k h =
+  line-complete 87 (ranked (λ m a. (m, a)) readField readField) (field n ++ (field (length xs) ++ items field field xs)) (n, xs)
+    (ranked-complete field-complete field-complete (λ m a. (m, a)) n xs (10 ∷ []) k (h .0) (h .1) refl)
+
+-- T: rank, letters and marks are read back from their line.
+pub t-complete : (n : ℕ) (xs ms : List ℕ) → Short n → Small xs → Marked xs ms → readT (tLine n xs ms) ≡ got (n, xs, ms) []
+unfolding tLine readT
+t-complete n xs ms k h m =
+  let s : Stepped xs ms = stepped xs ms m in
+  let e : length (cells xs ms) ≡ length xs = cells-length xs ms s in
+  rw (← e)
+    (line-complete 84 (ranked (λ m c. (m, letters c, marks c)) readFirst readCell) (field n ++ (field (length (cells xs ms)) ++ items firstCell cell (cells xs ms))) (n, xs, ms)
+      (ranked-complete first-complete cell-complete (λ m c. (m, letters c, marks c)) n (cells xs ms) (10 ∷ []) k (rw e (h .0)) (ribbon-good Short xs ms (h .1) m) refl
+        ∙ rw (cells-letters xs ms s, cells-marks xs ms s)))
+
+-- N: entries are read back from their line.
+pub n-complete : (xs : List ℕ) → Small xs → readN (nLine xs) ≡ got xs []
+unfolding nLine readN
+n-complete xs h =
+  line-complete 78 (counted readField readField) (field (length xs) ++ items field field xs) xs
+    (counted-complete field-complete field-complete xs (10 ∷ []) (h .0) (h .1) refl)

@@ -1,0 +1,135 @@
+-- A line determines its values: w-determined, t-determined, n-determined, j-determined, e-determined; and decimal-injective. They hold of all numbers.
+-- Assumes nothing.
+use Prim.Native.Nat.{ℕ, zero, suc, _≤_}
+use mathlib.Core.Path.{_≡_, refl, sym, ap, _∙_}
+use mathlib.Core.List.{List, [], _∷_, _++_, append-assoc, append-nil}
+use native.Mathlib.Omega.{arith}
+use lib.ListN.{length, drop, getD}
+use Rattle.grammar.specs.Numbers.{decimal}
+use Rattle.grammar.specs.Lines.{field, items, step, firstCell, cell, cells, wLine, tLine, nLine, jLine, eLine}
+use Rattle.grammar.specs.Values.{Items, Stepped, Marked}
+use Rattle.grammar.specs.Reading.{letters, marks}
+use Rattle.grammar.proofs.Theory.Items.{items-open, Cell, First, stepped, cells-length, cells-letters, cells-marks, ribbon-good}
+use Rattle.grammar.proofs.Theory.Numbers.{Ends, decimal-cut}
+
+-- What a writer gives of good values begins with no digit, and where no digit follows it determines the value and what follows.
+record Cut {A : Type 0} (Good : A → Type 0) (put : A → List ℕ) : Type 0 where
+  cut : (a b : A) (s t : List ℕ) → Good a → Good b → Ends s → Ends t → put a ++ s ≡ put b ++ t → (a ≡ b) × (s ≡ t)
+  opens : (a : A) (t : List ℕ) → Ends (put a ++ t)
+
+-- As many items determine the list of them and what follows.
+items-cut : {A : Type 0} {P Q : A → Type 0} {p q : A → List ℕ} → Cut P p → Cut Q q → (l k : List A) (s t : List ℕ)
+    → length l ≡ length k → Items P Q l → Items P Q k → Ends s → Ends t → items p q l ++ s ≡ items p q k ++ t → (l ≡ k) × (s ≡ t)
+items-cut f g [] [] s t n x y d e h = (refl, h)
+items-cut f g [] (b ∷ k) s t n x y d e h = let z : ⊥ = omega arith in absurd z
+items-cut f g (a ∷ l) [] s t n x y d e h = let z : ⊥ = omega arith in absurd z
+items-cut {p} {q} f g (a ∷ l) (b ∷ k) s t n x y d e h =
+    let head : (a ≡ b) × (items q q l ++ s ≡ items q q k ++ t) =
+    f .cut a b (items q q l ++ s) (items q q k ++ t) (x .0) (y .0) (items-open q q (g .opens) l s d) (items-open q q (g .opens) k t e)
+    (sym (append-assoc (p a) (items q q l) s) ∙ h ∙ append-assoc (p b) (items q q k) t) in
+    let rest : (l ≡ k) × (s ≡ t) = items-cut g g l k s t (omega arith) (x .1) (y .1) d e (head .1) in
+    (cc, rest .1)
+
+-- A number's field and what follows it.
+field-cut : (n m : ℕ) (b c s t : List ℕ) → Ends (b ++ s) → Ends (c ++ t) → field n ++ b ++ s ≡ field m ++ c ++ t → (n ≡ m) × (b ++ s ≡ c ++ t)
+field-cut n m b c s t d e h =
+    decimal-cut n m (b ++ s) (c ++ t) d e (sym (append-assoc (decimal n) b s) ∙ ap (drop 1) h ∙ append-assoc (decimal m) c t)
+
+-- A count and its items.
+counted-cut : {A : Type 0} {P Q : A → Type 0} {p q : A → List ℕ} → Cut P p → Cut Q q → (l k : List A) (s t : List ℕ)
+    → Items P Q l → Items P Q k → Ends s → Ends t → field (length l) ++ items p q l ++ s ≡ field (length k) ++ items p q k ++ t → (l ≡ k) × (s ≡ t)
+counted-cut {p} {q} f g l k s t x y d e h =
+    let head : (length l ≡ length k) × (items p q l ++ s ≡ items p q k ++ t) =
+    field-cut (length l) (length k) (items p q l) (items p q k) s t (items-open p q (f .opens) l s d) (items-open p q (f .opens) k t e) h in
+    items-cut f g l k s t (head .0) x y d e (head .1)
+
+-- Any number, any list of numbers.
+abbrev Any : ℕ → Type 0
+Any n = Unit
+
+any : (xs : List ℕ) → Items Any Any xs
+any [] = tt
+any (x ∷ xs) = (tt, any xs)
+
+field-cuts : Cut Any field
+field-cuts = record { cut = λ n m s t x y d e h. decimal-cut n m s t d e (ap (drop 1) h); opens = λ n t. refl }
+
+first-cuts : Cut (First Any) firstCell
+first-cuts =
+    record {
+      cut = λ a b s t x y d e h.
+          let r : (a .0 ≡ b .0) × (s ≡ t) = decimal-cut (a .0) (b .0) s t d e (ap (drop 1) h) in
+          let m : a .1 ≡ b .1 = x .1 ∙ sym (y .1) in
+          (λ i. (r .0 i, m i), r .1);
+      opens = λ a t. refl;
+    }
+
+-- A step's letter tells the mark.
+step-mark : (m k : ℕ) → m ≤ 1 → k ≤ 1 → step m ≡ step k → m ≡ k
+step-mark zero zero h g e = refl
+step-mark zero (suc k) h g e = let z : ⊥ = omega arith in absurd z
+step-mark (suc m) zero h g e = let z : ⊥ = omega arith in absurd z
+step-mark (suc m) (suc k) h g e = omega arith
+
+cell-cuts : Cut (Cell Any) cell
+cell-cuts =
+    record {
+      cut = λ a b s t x y d e h.
+          let r : (a .0 ≡ b .0) × (s ≡ t) = decimal-cut (a .0) (b .0) s t d e (ap (drop 3) h) in
+          let m : a .1 ≡ b .1 = step-mark (a .1) (b .1) (x .1) (y .1) (ap (λ (l : List ℕ). getD l 1 0) h) in
+          (λ i. (r .0 i, m i), r .1);
+      opens = λ a t. refl;
+    }
+
+-- A number, a count and its items, up to the line feed.
+ranked-cut : {A : Type 0} {P Q : A → Type 0} {p q : A → List ℕ} → Cut P p → Cut Q q → (n m : ℕ) (l k : List A) → Items P Q l → Items P Q k
+    → field n ++ (field (length l) ++ items p q l) ++ (10 ∷ []) ≡ field m ++ (field (length k) ++ items p q k) ++ (10 ∷ []) → (n ≡ m) × (l ≡ k)
+ranked-cut {p} {q} f g n m l k x y h =
+    let r : (n ≡ m) × (field (length l) ++ items p q l ++ (10 ∷ []) ≡ field (length k) ++ items p q k ++ (10 ∷ [])) =
+    field-cut n m (field (length l) ++ items p q l) (field (length k) ++ items p q k) (10 ∷ []) (10 ∷ []) refl refl h in
+    (r .0, counted-cut f g l k (10 ∷ []) (10 ∷ []) x y refl refl (r .1) .0)
+
+-- Two numbers, up to the line feed.
+two-cut : (a b c d : ℕ) → field a ++ field b ++ (10 ∷ []) ≡ field c ++ field d ++ (10 ∷ []) → (a ≡ c) × (b ≡ d)
+two-cut a b c d h =
+    let r : (a ≡ c) × (field b ++ (10 ∷ []) ≡ field d ++ (10 ∷ [])) = field-cut a c (field b) (field d) (10 ∷ []) (10 ∷ []) refl refl h in
+    (r .0, field-cuts .cut b d (10 ∷ []) (10 ∷ []) tt tt refl refl (r .1) .0)
+
+-- A W line determines rank and letters.
+pub w-determined : (n m : ℕ) (u v : List ℕ) → wLine n u ≡ wLine m v → (n ≡ m) × (u ≡ v)
+unfolding wLine
+w-determined n m u v h = ranked-cut field-cuts field-cuts n m u v (any u) (any v) (ap (drop 1) h)
+
+-- A T line determines rank, letters and marks.
+pub t-determined : (n m : ℕ) (xs ys ms ns : List ℕ) → Marked xs ms → Marked ys ns → tLine n xs ms ≡ tLine m ys ns → (n ≡ m) × (xs ≡ ys) × (ms ≡ ns)
+unfolding tLine
+t-determined n m xs ys ms ns x y h =
+    let s : Stepped xs ms = stepped xs ms x in
+    let z : Stepped ys ns = stepped ys ns y in
+    let d : length (cells xs ms) ≡ length xs = cells-length xs ms s in
+    let e : length (cells ys ns) ≡ length ys = cells-length ys ns z in
+    let r : (n ≡ m) × (cells xs ms ≡ cells ys ns) =
+    ranked-cut first-cuts cell-cuts n m (cells xs ms) (cells ys ns) (ribbon-good Any xs ms (any xs) x) (ribbon-good Any ys ns (any ys) y) (rw (d, e) (ap (drop 1) h)) in (
+      r .0,
+      sym (cells-letters xs ms s) ∙ ap letters (r .1) ∙ cells-letters ys ns z,
+      sym (cells-marks xs ms s) ∙ ap marks (r .1) ∙ cells-marks ys ns z,
+    )
+
+-- An N line determines its entries.
+pub n-determined : (u v : List ℕ) → nLine u ≡ nLine v → u ≡ v
+unfolding nLine
+n-determined u v h = counted-cut field-cuts field-cuts u v (10 ∷ []) (10 ∷ []) (any u) (any v) refl refl (ap (drop 1) h) .0
+
+-- A J line determines junction set and rows.
+pub j-determined : (a b c d : ℕ) → jLine a b ≡ jLine c d → (a ≡ c) × (b ≡ d)
+unfolding jLine
+j-determined a b c d h = two-cut a b c d (ap (drop 1) h)
+
+-- An E line determines number and place.
+pub e-determined : (a b c d : ℕ) → eLine a b ≡ eLine c d → (a ≡ c) × (b ≡ d)
+unfolding eLine
+e-determined a b c d h = two-cut a b c d (ap (drop 1) h)
+
+-- Digits determine their number.
+pub decimal-injective : (n m : ℕ) → decimal n ≡ decimal m → n ≡ m
+decimal-injective n m h = decimal-cut n m [] [] tt tt (append-nil (decimal n) ∙ h ∙ sym (append-nil (decimal m))) .0

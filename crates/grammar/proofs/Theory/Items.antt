@@ -1,0 +1,51 @@
+-- Items of a line.
+--     items-open              what is written of items begins with no digit
+--     Cell, First             what a line asks of a cell (letter and mark), and of the first
+--     cells-length, cells-letters, cells-marks, ribbon-good
+--                             the cells of letters and marks have those letters and marks, and are good where those are
+-- Assumes nothing.
+use Prim.Native.Nat.{ℕ, zero, suc, _≤_}
+use mathlib.Core.Path.{_≡_, refl, ap}
+use mathlib.Core.List.{List, [], _∷_, _++_, append-assoc}
+use native.Mathlib.Omega.{arith}
+use lib.ListN.{length}
+use Rattle.grammar.specs.Lines.{items, cells}
+use Rattle.grammar.specs.Values.{Items, Stepped, Marked}
+use Rattle.grammar.specs.Reading.{letters, marks}
+use Rattle.grammar.proofs.Theory.Numbers.{Ends}
+
+pub items-open : {A : Type 0} (p q : A → List ℕ) → ((a : A) (t : List ℕ) → Ends (p a ++ t)) → (l : List A) (t : List ℕ) → Ends t → Ends (items p q l ++ t)
+items-open p q o [] t e = e
+items-open p q o (a ∷ l) t e = rw append-assoc (o a (items q q l ++ t))
+
+-- A cell whose letter is as a predicate says and whose mark is 0 or 1.
+abbrev pub Cell : (ℕ → Type 0) → ℕ × ℕ → Type 0
+Cell P c = P (c .0) × (c .1 ≤ 1)
+
+-- And a first cell: its mark is 0.
+abbrev pub First : (ℕ → Type 0) → ℕ × ℕ → Type 0
+First P c = P (c .0) × (c .1 ≡ 0)
+
+pub stepped : (xs ms : List ℕ) → Marked xs ms → Stepped xs ms
+stepped [] [] h = tt
+stepped (x ∷ xs) (m ∷ ms) h = (omega arith, h .1)
+
+pub cells-length : (xs ms : List ℕ) → Stepped xs ms → length (cells xs ms) ≡ length xs
+cells-length [] [] h = refl
+cells-length (x ∷ xs) (m ∷ ms) h = ap suc (cells-length xs ms (h .1))
+
+pub cells-letters : (xs ms : List ℕ) → Stepped xs ms → letters (cells xs ms) ≡ xs
+cells-letters [] [] h = refl
+cells-letters (x ∷ xs) (m ∷ ms) h = rw (cells-letters xs ms (h .1))
+
+pub cells-marks : (xs ms : List ℕ) → Stepped xs ms → marks (cells xs ms) ≡ ms
+cells-marks [] [] h = refl
+cells-marks (x ∷ xs) (m ∷ ms) h = rw (cells-marks xs ms (h .1))
+
+cells-good : (P : ℕ → Type 0) (xs ms : List ℕ) → Items P P xs → Stepped xs ms → Items (Cell P) (Cell P) (cells xs ms)
+cells-good P [] [] g h = tt
+cells-good P (x ∷ xs) (m ∷ ms) g h = ((g .0, h .0), cells-good P xs ms (g .1) (h .1))
+
+pub ribbon-good : (P : ℕ → Type 0) (xs ms : List ℕ) → Items P P xs → Marked xs ms → Items (First P) (Cell P) (cells xs ms)
+ribbon-good P [] [] g h = tt
+ribbon-good P (x ∷ xs) (m ∷ ms) g h = ((g .0, h .0), cells-good P xs ms (g .1) (h .1))

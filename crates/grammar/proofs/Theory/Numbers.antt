@@ -1,0 +1,89 @@
+-- Numbers read back from their digits.
+--     number-read       a number of at most four digits, by the grammar, where no digit follows
+--     decimal-cut       digits that no digit follows determine their number and what follows
+-- Assumes nothing.
+use Prim.Native.Nat.{ℕ, zero, suc, _+_, _-_, _*_, _/_, _%_, _^_, _≤_, _<_}
+use mathlib.Core.Path.{_≡_, refl, sym, ap, _∙_}
+use mathlib.Core.Bool.{true, false, cond}
+use mathlib.Core.List.{List, [], _∷_, _++_, append-assoc}
+use native.Mathlib.Decide.{decLt}
+use native.Mathlib.Omega.{arith}
+use borrow.Author.Tests.{le-leb, ne-eqb}
+use Rattle.grammar.specs.Numbers.{decimal}
+use Rattle.grammar.specs.Values.{Short}
+use Rattle.grammar.specs.Reading.{Read, got, broken, digit, moreDigits, readNumber}
+use Rattle.grammar.proofs.Theory.Decimal.{decimal-digit, decimal-more}
+
+digit-is : (d : ℕ) → d < 10 → digit (48 + d) ≡ true
+digit-is d h = rw (le-leb 48 (48 + d) (omega arith), le-leb (48 + d) 57 (omega arith))
+
+-- A number's digits, read as far as they go: j is how many there are beside the first, k how many more there may be.
+number-begun : (j k n : ℕ) (t : List ℕ) → 10 ^ j ≤ n → n < 10 ^ suc j → j + k ≡ 3 → readNumber (decimal n ++ t) ≡ moreDigits k n t
+number-begun zero k n t low high e =
+    let three : k ≡ 3 = omega arith in
+    let back : 48 + n - 48 ≡ n = omega arith in
+    rw (three, decimal-digit n high, ne-eqb (48 + n) 48 (omega arith), digit-is n high, back)
+number-begun (suc j) k n t low high e =
+    let back : n / 10 * 10 + (48 + n % 10 - 48) ≡ n = omega arith in
+    rw (decimal-more n (omega arith), append-assoc)
+    (number-begun j (suc k) (n / 10) ((48 + n % 10) ∷ t) (omega arith) (omega arith) (omega arith)
+    ∙ rw (digit-is (n % 10) (omega arith), back))
+
+-- The text goes on with no digit.
+abbrev pub Ends : List ℕ → Type 0
+Ends [] = Unit
+Ends (b ∷ t) = digit b ≡ false
+
+digits-end : (k n : ℕ) (t : List ℕ) → Ends t → moreDigits k n t ≡ got n t
+digits-end zero n t h = refl
+digits-end (suc k) n [] h = refl
+digits-end (suc k) n (b ∷ t) h = rw h
+
+-- A number of more than j digits is read back where no digit follows.
+number-sized : (k j n : ℕ) (t : List ℕ) → j + k ≡ 3 → 10 ^ j ≤ n → Short n → Ends t → readNumber (decimal n ++ t) ≡ got n t
+number-sized zero j n t e low h stop =
+    let three : j ≡ 3 = omega arith in
+    number-begun 3 0 n t (rw three at low) h refl ∙ digits-end 0 n t stop
+number-sized (suc k) j n t e low h stop =
+    elim (decLt n (10 ^ suc j)) [
+      | yes p ↦ number-begun j (suc k) n t low p e ∙ digits-end (suc k) n t stop
+      | no q ↦ number-sized k (suc j) n t (omega arith) (omega arith) h stop
+    ]
+
+-- A number is read back where no digit follows.
+pub number-read : (n : ℕ) (t : List ℕ) → Short n → Ends t → readNumber (decimal n ++ t) ≡ got n t
+unfolding decimal
+number-read zero t h stop = refl
+number-read (suc n) t h stop = number-sized 3 0 (suc n) t refl (omega arith) h stop
+
+-- All digits there are, after those of a number.
+abbrev scan : ℕ → List ℕ → Read ℕ
+scan n [] = got n []
+scan n (b ∷ t) = cond (digit b) (scan (n * 10 + (b - 48)) t) (got n (b ∷ t))
+
+scan-end : (n : ℕ) (t : List ℕ) → Ends t → scan n t ≡ got n t
+scan-end n [] h = refl
+scan-end n (b ∷ t) h = rw h
+
+scan-digit : (n : ℕ) (t : List ℕ) → n < 10 → scan 0 (decimal n ++ t) ≡ scan n t
+scan-digit n t h =
+    let back : 0 * 10 + (48 + n - 48) ≡ n = omega arith in
+    rw (decimal-digit n h, digit-is n h, back)
+
+-- The digits of any number, scanned; k bounds it.
+scan-decimal : (k n : ℕ) (t : List ℕ) → n ≤ k → scan 0 (decimal n ++ t) ≡ scan n t
+scan-decimal zero n t h = scan-digit n t (omega arith)
+scan-decimal (suc k) n t h = elim (decLt n 10) [ yes p ↦ scan-digit n t p | no q ↦ go (omega arith) (scan-decimal k (n / 10) ((48 + n % 10) ∷ t) (omega arith)) ]
+  where
+    go : 10 ≤ n → scan 0 (decimal (n / 10) ++ ((48 + n % 10) ∷ t)) ≡ scan (n / 10) ((48 + n % 10) ∷ t) → scan 0 (decimal n ++ t) ≡ scan n t
+    go low e =
+        let back : n / 10 * 10 + (48 + n % 10 - 48) ≡ n = omega arith in
+        rw (decimal-more n low, append-assoc) (e ∙ rw (digit-is (n % 10) (omega arith), back))
+
+-- Digits that no digit follows determine their number and what follows.
+pub decimal-cut : (n m : ℕ) (s t : List ℕ) → Ends s → Ends t → decimal n ++ s ≡ decimal m ++ t → (n ≡ m) × (s ≡ t)
+decimal-cut n m s t e f h =
+    let p : scan 0 (decimal n ++ s) ≡ got n s = scan-decimal n n s (omega arith) ∙ scan-end n s e in
+    let q : scan 0 (decimal m ++ t) ≡ got m t = scan-decimal m m t (omega arith) ∙ scan-end m t f in
+    let same : got n s ≡ got m t = sym p ∙ ap (scan 0) h ∙ q in
+    (cc, cc)

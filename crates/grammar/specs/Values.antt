@@ -1,0 +1,35 @@
+-- The values that a line can hold and be read back: what the theorems on lines ask of them.
+--     Small xs      fewer than 10,000 numbers, each below 10,000
+--     Marked xs ms  a mark for each letter, the first 0, each other 0 or 1
+-- Assumes nothing.
+use Prim.Native.Nat.{ℕ, _≤_, _<_}
+use mathlib.Core.Path.{_≡_}
+use mathlib.Core.List.{List, [], _∷_}
+use lib.ListN.{length}
+
+-- The first item as one predicate says, the others as another.
+abbrev pub Items : {A : Type 0} → (A → Type 0) → (A → Type 0) → List A → Type 0
+Items First Later [] = Unit
+Items First Later (a ∷ l) = First a × Items Later Later l
+
+-- A number that a line can hold: at most four digits.
+abbrev pub Short : ℕ → Type 0
+Short n = n < 10000
+
+-- Numbers that a line can hold, and no more of them than it can count.
+abbrev pub Small : List ℕ → Type 0
+Small xs = Short (length xs) × Items Short Short xs
+
+-- As many marks as letters, each 0 or 1.
+abbrev pub Stepped : List ℕ → List ℕ → Type 0
+Stepped [] [] = Unit
+Stepped [] (m ∷ ms) = ⊥
+Stepped (x ∷ xs) [] = ⊥
+Stepped (x ∷ xs) (m ∷ ms) = (m ≤ 1) × Stepped xs ms
+
+-- And the first mark is 0.
+abbrev pub Marked : List ℕ → List ℕ → Type 0
+Marked [] [] = Unit
+Marked [] (m ∷ ms) = ⊥
+Marked (x ∷ xs) [] = ⊥
+Marked (x ∷ xs) (m ∷ ms) = (m ≡ 0) × Stepped xs ms

@@ -1,0 +1,126 @@
+-- Demand 3 of document 01, as one theorem (theorem a). The statement is the record `Faithful` of specs/Classes.antt: lines shared exactly by joined
+-- words, moves that respect joining, recording ribbons that moves keep.
+--     same-tableau-joined   words of one tableau are joined
+--     faithful              the core: any line that tells tableaux apart, any set of allowed moves, no bound on rank or length
+--     classes               demand 3: at every rank, for any two words accepted at it, with the tableau line and the moves of that rank
+-- Around it: joined words get one reply, so one refusal number, from every move; joining is decidable. What shows that the claim is not
+-- vacuous stands in Examples. Assumes nothing.
+use Prim.Native.Nat.{ℕ, zero, suc, zero-le}
+use native.Mathlib.Nat.{le-refl}
+use native.Mathlib.Omega.{arith}
+use native.Mathlib.Decide.{ℕ-discrete}
+use mathlib.Core.Path.{_≡_, refl, sym, _∙_, ap, ap₂, subst₂}
+use mathlib.Core.Bool.{Bool, true, false, cond}
+use mathlib.Core.HLevel.{Discrete}
+use mathlib.Core.List.{List, [], _∷_, List-discrete}
+use mathlib.Core.Logic.{_↔_}
+use mathlib.Core.Option.{Option, none, some}
+use Rattle.grammar.specs.Lines.{tLine}
+use Rattle.grammar.specs.Values.{Marked, Stepped}
+use Rattle.grammar.proofs.Theory.Determined.{t-determined}
+use Rattle.hypoplactic.specs.Words.{Accepted}
+use Rattle.hypoplactic.specs.Rewriting.{Joined}
+use Rattle.hypoplactic.specs.Ribbons.{Tableau, Along, LetterStep}
+use Rattle.hypoplactic.specs.Insertion.{lettersOf, marksOf, recordingOf}
+use Rattle.hypoplactic.specs.Reading.{columnReading}
+use Rattle.hypoplactic.specs.Moves.{Move, Defined, movedWord, movedTableau, moveWord, indexOf}
+use Rattle.hypoplactic.specs.LineOperations.{tableauLine}
+use Rattle.hypoplactic.specs.Classes.{Faithful}
+use Rattle.hypoplactic.proofs.Theory.Joining.{_⨾_, joined-eq, joined-sym}
+use Rattle.hypoplactic.proofs.Theory.NormalForm.{word-reading}
+use Rattle.hypoplactic.proofs.Theory.Boundary.{tableau-of-word}
+use Rattle.hypoplactic.proofs.Theory.Invariants.{joined-tableau}
+use Rattle.hypoplactic.proofs.Theory.MoveRecording.{move-recording}
+use Rattle.hypoplactic.proofs.Theory.MoveTableau.{tableau-moved, tableau-unmoved}
+
+-- Words of one tableau are joined: each is joined to the tableau's column reading.
+pub same-tableau-joined : (u v : List ℕ) → lettersOf u ≡ lettersOf v → marksOf u ≡ marksOf v → Joined u v
+same-tableau-joined u v p q = word-reading u ⨾ joined-eq (ap₂ columnReading p q) ⨾ joined-sym (word-reading v)
+
+-- ---- moves on words of one tableau
+
+-- A result is not both undefined and defined.
+none-some : {A : Type 0} {w : List ℕ} → none ≡ some w → A
+none-some e = let z : _≡_ {A = ℕ} 0 1 = cc in let f : ⊥ = omega arith in absurd f
+
+some-same : {u v : List ℕ} → some u ≡ some v → u ≡ v
+some-same e = cc
+
+-- Both results are defined and have one tableau, or neither is defined.
+abbrev pub Alike : Option (List ℕ) → Option (List ℕ) → Type 0
+Alike none none = Unit {0}
+Alike none (some v) = ⊥
+Alike (some u) none = ⊥
+Alike (some u) (some v) = (lettersOf u ≡ lettersOf v) × (marksOf u ≡ marksOf v)
+
+alike-defined : (o p : Option (List ℕ)) → Alike o p → Defined o ↔ Defined p
+alike-defined none none h = (λ x. x, λ x. x)
+alike-defined none (some v) h = absurd h
+alike-defined (some u) none h = absurd h
+alike-defined (some u) (some v) h = (λ x. x, λ x. x)
+
+-- A move on two words of one tableau.
+pub moves-alike : (m : Move) (u v : List ℕ) → lettersOf u ≡ lettersOf v → marksOf u ≡ marksOf v → Alike (movedWord m u) (movedWord m v)
+moves-alike m u v p q = go (movedWord m u) (movedWord m v) refl refl
+  where
+    one : movedTableau m (lettersOf u) (marksOf u) ≡ movedTableau m (lettersOf v) (marksOf v)
+    one = ap₂ (movedTableau m) p q
+
+    go : (o r : Option (List ℕ)) → movedWord m u ≡ o → movedWord m v ≡ r → Alike o r
+    go none none e f = tt
+    go none (some v′) e f = none-some (sym (tableau-unmoved m u e) ∙ one ∙ tableau-moved m v v′ f)
+    go (some u′) none e f = none-some (sym (tableau-unmoved m v f) ∙ sym one ∙ tableau-moved m u u′ e)
+    go (some u′) (some v′) e f =
+        (some-same (sym (tableau-moved m u u′ e) ∙ one ∙ tableau-moved m v v′ f), (move-recording m u u′ e) .1 ∙ q ∙ sym ((move-recording m v v′ f) .1))
+
+-- The same where only some moves are allowed.
+allowed-alike : (b : Bool) (o p : Option (List ℕ)) → Alike o p → Alike (cond b o none) (cond b p none)
+allowed-alike true o p h = h
+allowed-alike false o p h = tt
+
+allowed-defined : (b : Bool) (o : Option (List ℕ)) (v : List ℕ) → cond b o none ≡ some v → o ≡ some v
+allowed-defined true o v e = e
+allowed-defined false o v e = none-some e
+
+-- ---- the claim
+
+-- The core: for any line that tells tableaux apart, and for any moves allowed, of any two words.
+pub faithful : {A : Type 0} (line : List ℕ → List ℕ → A) (allowed : Move → Bool)
+    → ((xs ms ys ns : List ℕ) → Tableau xs ms → Tableau ys ns → line xs ms ≡ line ys ns → (xs ≡ ys) × (ms ≡ ns))
+    → (u v : List ℕ) → Faithful (λ w. line (lettersOf w) (marksOf w)) (λ m w. cond (allowed m) (movedWord m w) none) u v
+faithful line allowed tells u v =
+    record
+    { shared =
+        ( λ e.
+            let t = tells (lettersOf u) (marksOf u) (lettersOf v) (marksOf v) (tableau-of-word u) (tableau-of-word v) e in
+            same-tableau-joined u v (t .0) (t .1)
+        , λ j. let t = joined-tableau j in ap₂ line (t .0) (t .1) )
+    ; together = λ j m. alike-defined (cond (allowed m) (movedWord m u) none) (cond (allowed m) (movedWord m v) none) (alike j m)
+    ; results = λ j m u′ v′ e f. let t = subst₂ Alike e f (alike j m) in ap₂ line (t .0) (t .1)
+    ; recordings = λ m u′ e. (move-recording m u u′ (allowed-defined (allowed m) (movedWord m u) u′ e)) .0
+    }
+  where
+    alike : Joined u v → (m : Move) → Alike (cond (allowed m) (movedWord m u) none) (cond (allowed m) (movedWord m v) none)
+    alike j m = let t = joined-tableau j in allowed-alike (allowed m) (movedWord m u) (movedWord m v) (moves-alike m u v (t .0) (t .1))
+
+-- A tableau's marks are such as its line shows.
+stepped : (x : ℕ) (xs ms : List ℕ) → Along LetterStep x xs ms → Stepped xs ms
+stepped x [] [] h = tt
+stepped x (y ∷ ys) (zero ∷ ms) h = (zero-le, stepped y ys ms (h .1))
+stepped x (y ∷ ys) (suc zero ∷ ms) h = (le-refl 1, stepped y ys ms (h .1))
+stepped x (y ∷ ys) (suc (suc m) ∷ ms) h = absurd (h .0)
+
+marked : (xs ms : List ℕ) → Tableau xs ms → Marked xs ms
+marked [] [] h = tt
+marked (x ∷ xs) (m ∷ ms) h = (h .0, stepped x xs ms (h .1))
+
+-- The T line tells tableaux apart.
+pub line-tells : (n : ℕ) (xs ms ys ns : List ℕ) → Tableau xs ms → Tableau ys ns → tLine n xs ms ≡ tLine n ys ns → (xs ≡ ys) × (ms ≡ ns)
+line-tells n xs ms ys ns h k e = let t = t-determined n n xs ys ms ns (marked xs ms h) (marked ys ns k) e in (t .1, t .2)
+
+-- Demand 3. For any rank n and any two words u and v accepted at it: (1) their tableau lines are equal byte for byte exactly when a chain of rewriting
+-- steps joins them; (2) if a chain joins them, each of the two moves with every index is defined on both or on neither, and the results' tableau
+-- lines are equal; (3) each move keeps the recording ribbon wherever it is defined.
+pub classes : (n : ℕ) (u v : List ℕ) → Accepted n u → Accepted n v → Faithful (tableauLine n) (moveWord n) u v
+unfolding tableauLine moveWord
+classes n u v a b = faithful (tLine n) (λ m. indexOf n (m .index)) (line-tells n) u v

@@ -1,0 +1,52 @@
+-- What a move leaves to change (document 01, "Moves"): each time one letter fewer.
+--     remaining m b w    how many letters of w the move m could change, none where the test b for an inversion passes
+--     Counted m b w o    what the answer o says of that number: undefined, it is 0; defined, it is one more than afterwards
+--     moved-counted      a move's answer says so
+-- Assumes nothing.
+use Prim.Native.Nat.{ℕ, suc}
+use mathlib.Core.Path.{_≡_, refl}
+use mathlib.Core.List.{List, [], _∷_}
+use mathlib.Core.Bool.{Bool, true, false, cond}
+use mathlib.Core.Option.{Option, none, some}
+use native.Mathlib.Omega.{arith}
+use lib.Dec.{eqb}
+use borrow.Author.Tests.{eq-eqb, ne-eqb}
+use Rattle.hypoplactic.specs.Words.{tick, count}
+use Rattle.hypoplactic.specs.Moves.{Side, raising, lowering, Move, taken, inverted, moved}
+use Rattle.hypoplactic.proofs.Theory.Undo.{Lacks, Changed, here, after, Turned, Outcome, moved-outcome}
+
+-- How many letters the move could change.
+abbrev pub remaining : Move → Bool → List ℕ → ℕ
+remaining m b w = cond b 0 (count (taken (m .side) (m .index)) w)
+
+-- What an answer says of that number.
+abbrev pub Counted : Move → Bool → List ℕ → Option (List ℕ) → Type 0
+Counted m b w none = remaining m b w ≡ 0
+Counted m b w (some v) = remaining m b w ≡ suc (remaining m false v)
+
+lacks-count : (a : ℕ) (w : List ℕ) → Lacks a w → count a w ≡ 0
+lacks-count a [] l = refl
+lacks-count a (x ∷ w) l = rw (ne-eqb x a (l .0)) (lacks-count a w (l .1))
+
+tick-suc : (t : Bool) (m n : ℕ) → m ≡ suc n → tick t m ≡ suc (tick t n)
+tick-suc true m n e = omega arith
+tick-suc false m n e = e
+
+-- One i+1 fewer, one i more.
+changed-count : {i : ℕ} {u v : List ℕ} → Changed i u v → (count (suc i) u ≡ suc (count (suc i) v)) × (count i v ≡ suc (count i u))
+changed-count {i} (here l) = (rw (eq-eqb (suc i) (suc i) refl, ne-eqb i (suc i) (omega arith)), rw (eq-eqb i i refl, ne-eqb (suc i) i (omega arith)))
+changed-count {i} (after {x} ne c) = let p = changed-count c in (tick-suc (eqb x (suc i)) _ _ (p .0), tick-suc (eqb x i) _ _ (p .1))
+
+-- A move takes one of its letters away.
+turned-count : (s : Side) (i : ℕ) (u v : List ℕ) → Turned s i u v → count (taken s i) u ≡ suc (count (taken s i) v)
+turned-count raising i u v c = changed-count c .0
+turned-count lowering i u v c = changed-count c .1
+
+-- Undefined, nothing is left to change; defined, one letter fewer.
+pub moved-counted : (m : Move) (b : Bool) (w : List ℕ) → (b ≡ false → inverted (m .index) w ≡ false) → Counted m b w (moved b m w)
+moved-counted m true w f = refl
+moved-counted m false w f = go (moved false m w) (moved-outcome m w (f refl))
+  where
+    go : (o : Option (List ℕ)) → Outcome (m .side) (m .index) w o → Counted m false w o
+    go none l = lacks-count (taken (m .side) (m .index)) w l
+    go (some v) t = turned-count (m .side) (m .index) w v t
