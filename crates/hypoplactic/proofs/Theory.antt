@@ -31,3 +31,6 @@ pub mod DownSteps
 pub mod Rows
 pub mod SameClass
 pub mod WeightOrder
+pub mod OneClass
+pub mod MoveValid
+pub mod Repeats

@@ -7,8 +7,8 @@
 --     wordJudgements, tableauJudgements, pairJudgements                      the lists that operations share
 -- Assumes nothing.
 use Prim.Native.Nat.{ℕ, zero, suc}
-use mathlib.Core.List.{List, [], _∷_, _++_}
-use mathlib.Core.Bool.{Bool, true, false, _&&_, _||_, not}
+use mathlib.Core.List.{List, [], _∷_}
+use mathlib.Core.Bool.{Bool, _&&_, _||_, not}
 use lib.Dec.{eqb, ltb, leb}
 use lib.ListN.{length}
 use Rattle.hypoplactic.specs.Words.{count, occurs}

@@ -11,7 +11,7 @@ use Prim.Native.Nat.{ℕ, suc}
 use mathlib.Core.List.{List, [], _∷_, _++_}
 use mathlib.Core.Bool.{cond}
 use lib.Dec.{ltb}
-use lib.ListN.{length, take, drop, getD}
+use lib.ListN.{length, take, getD}
 use Rattle.hypoplactic.specs.Ribbons.{rowAt, columnAt}
 use Rattle.hypoplactic.specs.Insertion.{Pair, insert, lettersOf, marksOf, recordingOf, wordOf}
 use Rattle.hypoplactic.specs.Reading.{columnReading}

@@ -45,10 +45,10 @@ line-complete kind r body a h = rw (eq-eqb kind kind refl, h)
 
 -- A rank, a count and its items are read back.
 ranked-complete : {A B : Type 0} {P Q : A → Type 0} {p q : A → List ℕ} {r s : List ℕ → Read A} → Complete P p r → Complete Q q s
-  → (join : ℕ → List A → B) (n : ℕ) (l : List A) (t : List ℕ) → Short n → Short (length l) → Items P Q l → Ends t
-  → ranked join r s (field n ++ (field (length l) ++ items p q l) ++ t) ≡ got (join n l) t
+    → (join : ℕ → List A → B) (n : ℕ) (l : List A) (t : List ℕ) → Short n → Short (length l) → Items P Q l → Ends t
+    → ranked join r s (field n ++ (field (length l) ++ items p q l) ++ t) ≡ got (join n l) t
 ranked-complete {p} {q} {r} {s} f g join n l t k h x e =
-  onward-complete join (λ m. counted r s) n (field (length l) ++ items p q l) t l k refl (counted-complete f g l t h x e)
+    onward-complete join (λ m. counted r s) n (field (length l) ++ items p q l) t l k refl (counted-complete f g l t h x e)
 
 step-read : (m : ℕ) (t : List ℕ) → m ≤ 1 → readStep (step m ∷ t) ≡ got m t
 step-read zero t h = refl
@@ -73,23 +73,23 @@ cell-complete =
 pub w-complete : (n : ℕ) (xs : List ℕ) → Short n → Small xs → readW (wLine n xs) ≡ got (n, xs) []
 unfolding wLine readW
 w-complete n xs k h =
-  line-complete 87 (ranked (λ m a. (m, a)) readField readField) (field n ++ (field (length xs) ++ items field field xs)) (n, xs)
+    line-complete 87 (ranked (λ m a. (m, a)) readField readField) (field n ++ (field (length xs) ++ items field field xs)) (n, xs)
     (ranked-complete field-complete field-complete (λ m a. (m, a)) n xs (10 ∷ []) k (h .0) (h .1) refl)
 
 -- T: rank, letters and marks are read back from their line.
 pub t-complete : (n : ℕ) (xs ms : List ℕ) → Short n → Small xs → Marked xs ms → readT (tLine n xs ms) ≡ got (n, xs, ms) []
 unfolding tLine readT
 t-complete n xs ms k h m =
-  let s : Stepped xs ms = stepped xs ms m in
-  let e : length (cells xs ms) ≡ length xs = cells-length xs ms s in
-  rw (← e)
+    let s : Stepped xs ms = stepped xs ms m in
+    let e : length (cells xs ms) ≡ length xs = cells-length xs ms s in
+    rw (← e)
     (line-complete 84 (ranked (λ m c. (m, letters c, marks c)) readFirst readCell) (field n ++ (field (length (cells xs ms)) ++ items firstCell cell (cells xs ms))) (n, xs, ms)
-      (ranked-complete first-complete cell-complete (λ m c. (m, letters c, marks c)) n (cells xs ms) (10 ∷ []) k (rw e (h .0)) (ribbon-good Short xs ms (h .1) m) refl
-        ∙ rw (cells-letters xs ms s, cells-marks xs ms s)))
+    (ranked-complete first-complete cell-complete (λ m c. (m, letters c, marks c)) n (cells xs ms) (10 ∷ []) k (rw e (h .0)) (ribbon-good Short xs ms (h .1) m) refl
+    ∙ rw (cells-letters xs ms s, cells-marks xs ms s)))
 
 -- N: entries are read back from their line.
 pub n-complete : (xs : List ℕ) → Small xs → readN (nLine xs) ≡ got xs []
 unfolding nLine readN
 n-complete xs h =
-  line-complete 78 (counted readField readField) (field (length xs) ++ items field field xs) xs
+    line-complete 78 (counted readField readField) (field (length xs) ++ items field field xs) xs
     (counted-complete field-complete field-complete xs (10 ∷ []) (h .0) (h .1) refl)

@@ -8,11 +8,9 @@
 use Prim.Native.Nat.{ℕ, zero, suc, zero-le}
 use native.Mathlib.Nat.{le-refl}
 use native.Mathlib.Omega.{arith}
-use native.Mathlib.Decide.{ℕ-discrete}
-use mathlib.Core.Path.{_≡_, refl, sym, _∙_, ap, ap₂, subst₂}
+use mathlib.Core.Path.{_≡_, refl, sym, _∙_, ap₂, subst₂}
 use mathlib.Core.Bool.{Bool, true, false, cond}
-use mathlib.Core.HLevel.{Discrete}
-use mathlib.Core.List.{List, [], _∷_, List-discrete}
+use mathlib.Core.List.{List, [], _∷_}
 use mathlib.Core.Logic.{_↔_}
 use mathlib.Core.Option.{Option, none, some}
 use Rattle.grammar.specs.Lines.{tLine}
@@ -21,7 +19,7 @@ use Rattle.grammar.proofs.Theory.Determined.{t-determined}
 use Rattle.hypoplactic.specs.Words.{Accepted}
 use Rattle.hypoplactic.specs.Rewriting.{Joined}
 use Rattle.hypoplactic.specs.Ribbons.{Tableau, Along, LetterStep}
-use Rattle.hypoplactic.specs.Insertion.{lettersOf, marksOf, recordingOf}
+use Rattle.hypoplactic.specs.Insertion.{lettersOf, marksOf}
 use Rattle.hypoplactic.specs.Reading.{columnReading}
 use Rattle.hypoplactic.specs.Moves.{Move, Defined, movedWord, movedTableau, moveWord, indexOf}
 use Rattle.hypoplactic.specs.LineOperations.{tableauLine}
@@ -89,15 +87,16 @@ pub faithful : {A : Type 0} (line : List ℕ → List ℕ → A) (allowed : Move
     → ((xs ms ys ns : List ℕ) → Tableau xs ms → Tableau ys ns → line xs ms ≡ line ys ns → (xs ≡ ys) × (ms ≡ ns))
     → (u v : List ℕ) → Faithful (λ w. line (lettersOf w) (marksOf w)) (λ m w. cond (allowed m) (movedWord m w) none) u v
 faithful line allowed tells u v =
-    record
-    { shared =
-        ( λ e.
+    record {
+      shared = (
+        λ e.
             let t = tells (lettersOf u) (marksOf u) (lettersOf v) (marksOf v) (tableau-of-word u) (tableau-of-word v) e in
-            same-tableau-joined u v (t .0) (t .1)
-        , λ j. let t = joined-tableau j in ap₂ line (t .0) (t .1) )
-    ; together = λ j m. alike-defined (cond (allowed m) (movedWord m u) none) (cond (allowed m) (movedWord m v) none) (alike j m)
-    ; results = λ j m u′ v′ e f. let t = subst₂ Alike e f (alike j m) in ap₂ line (t .0) (t .1)
-    ; recordings = λ m u′ e. (move-recording m u u′ (allowed-defined (allowed m) (movedWord m u) u′ e)) .0
+            same-tableau-joined u v (t .0) (t .1),
+        λ j. let t = joined-tableau j in ap₂ line (t .0) (t .1),
+      );
+      together = λ j m. alike-defined (cond (allowed m) (movedWord m u) none) (cond (allowed m) (movedWord m v) none) (alike j m);
+      results = λ j m u′ v′ e f. let t = subst₂ Alike e f (alike j m) in ap₂ line (t .0) (t .1);
+      recordings = λ m u′ e. (move-recording m u u′ (allowed-defined (allowed m) (movedWord m u) u′ e)) .0;
     }
   where
     alike : Joined u v → (m : Move) → Alike (cond (allowed m) (movedWord m u) none) (cond (allowed m) (movedWord m v) none)

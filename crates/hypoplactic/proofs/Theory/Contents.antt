@@ -108,5 +108,5 @@ accepted-snoc {n} {a} {w} h few i = record {
   rank-low = h .rank-low;
   rank-high = h .rank-high;
   short = omega (arith, length-append w (a ∷ []));
-  letters = within-snoc n a w (h .letters) i
+  letters = within-snoc n a w (h .letters) i;
 }

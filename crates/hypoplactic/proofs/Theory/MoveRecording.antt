@@ -32,6 +32,7 @@ seat-cases c x xs = go (leb x c) refl (seat c xs) refl
     go false e zero z = inr (rw (e, z), leb-false x c e, z)
     go false e (suc k) z = inl (rw z)
 
+-- Only what is larger stands after a seat that is the first.
 seat-first : (c x : ℕ) (xs : List ℕ) → seat c (x ∷ xs) ≡ 0 → (c < x) × (seat c xs ≡ 0)
 seat-first c x xs z = go (seat-cases c x xs)
   where
@@ -48,6 +49,7 @@ changed-first : {i : ℕ} {xs ys : List ℕ} (c : ℕ) → Changed i xs ys → s
 changed-first {i} c (here {back} l) z = seat-first c (suc i) back z .0
 changed-first c (after {x} {u} n ch) z = changed-first c ch (seat-first c x u z .1)
 
+-- Two tests that say the same.
 leb-same : (a b c d : ℕ) → (a ≤ b → c ≤ d) → (c ≤ d → a ≤ b) → leb a b ≡ leb c d
 leb-same a b c d f g = go (le-or-lt a b) (le-or-lt c d)
   where
@@ -68,6 +70,7 @@ changed-seat c ne (after {x} n ch) = ap (reached (leb x c)) (changed-seat c ne c
 
 -- ---- letters put among others
 
+-- A lacking letter stays lacking when another is put in.
 lacks-put : (a c k : ℕ) (xs : List ℕ) → c ≢ a → Lacks a xs → Lacks a (putAt k c xs)
 lacks-put a c zero xs ne l = (ne, l)
 lacks-put a c (suc k) [] ne l = (ne, l)
@@ -101,11 +104,12 @@ changed-put {i} c ne (after {x} {u} {v} n ch) = go (seat-cases c x u) (changed-p
 -- ---- pairs
 
 -- The letters changed as Changed tells, the same marks, the same recording entries.
-pub record Kept (i : ℕ) (p q : Pair) : Type 0 where
-  pub letters : Changed i (p .letters) (q .letters)
-  pub marks : p .marks ≡ q .marks
-  pub recording : p .recording ≡ q .recording
+record Kept (i : ℕ) (p q : Pair) : Type 0 where
+  letters : Changed i (p .letters) (q .letters)
+  marks : p .marks ≡ q .marks
+  recording : p .recording ≡ q .recording
 
+-- Kept by one more letter other than i.
 kept-insert : {i : ℕ} {p q : Pair} (c : ℕ) → c ≢ i → Kept i p q → Kept i (insert c p) (insert c q)
 unfolding insert
 kept-insert {i} {p} {q} c ne k =

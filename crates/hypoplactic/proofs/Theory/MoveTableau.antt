@@ -2,13 +2,14 @@
 --     inversion-below    an i-inversion of a word is i+1 directly below i in its tableau
 --     tableau-moved      the tableau of a moved word is the moved tableau
 --     tableau-unmoved    where a move is undefined on a word, it is undefined on its tableau
+--     tableau-answer     both in one equation
 -- Assumes nothing.
 use Prim.Native.Nat.{ℕ, suc, _≤_, _<_}
 use mathlib.Core.Path.{_≡_, refl, ap, _∙_}
 use mathlib.Core.Logic.{_⊎_, inl, inr}
 use mathlib.Core.List.{List, [], _∷_}
 use mathlib.Core.Bool.{Bool, true, false, _&&_, _||_, and-false}
-use mathlib.Core.Option.{Option, none, some}
+use mathlib.Core.Option.{Option, none, some, Option·map}
 use native.Mathlib.Omega.{arith}
 use lib.Dec.{eqb, ltb}
 use borrow.Author.Tests.{eqb-true, eqb-false, eq-eqb, lt-ltb}
@@ -117,3 +118,11 @@ module _ (m : Move) (w : List ℕ) where
       go : (o : Option (List ℕ)) → remaining m (inverted (m .index) w) (lettersOf w) ≡ 0 → Counted m (inverted (m .index) w) (lettersOf w) o → o ≡ none
       go none z c = refl
       go (some v) z c = let n : ⊥ = omega arith in absurd n
+
+  -- Both at once: the move is defined on both or on neither, and its answer on the tableau is the tableau of its answer on the word.
+  pub tableau-answer : movedTableau m (lettersOf w) (marksOf w) ≡ Option·map lettersOf (movedWord m w)
+  tableau-answer = go (movedWord m w) refl
+    where
+      go : (o : Option (List ℕ)) → movedWord m w ≡ o → movedTableau m (lettersOf w) (marksOf w) ≡ Option·map lettersOf o
+      go none e = tableau-unmoved e
+      go (some v) e = tableau-moved v e

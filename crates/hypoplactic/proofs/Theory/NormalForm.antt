@@ -1,7 +1,7 @@
 -- Column reading is a normal form (theorem c): every word is joined to the column reading of its tableau. That the tableau of a column reading
 -- is the tableau read stands in ReadBack. Assumes nothing.
 use Prim.Native.Nat.{ℕ}
-use mathlib.Core.Path.{_≡_, refl, sym, _∙_, ap}
+use mathlib.Core.Path.{sym, ap}
 use mathlib.Core.List.{List, [], _∷_, _++_}
 use Rattle.hypoplactic.specs.Rewriting.{Joined, same}
 use Rattle.hypoplactic.specs.Insertion.{insert, pairOf, lettersOf, marksOf}

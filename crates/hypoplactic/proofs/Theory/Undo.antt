@@ -2,7 +2,9 @@
 --     Lacks a w          the letter a stands nowhere in w
 --     Changed i u v      v is u with one i+1 made i; no i+1 stands left of that place and no i right of it
 --     Turned s i u v     the same read from the side of a move: raising takes u to v, lowering v to u
---     moved-turned       without an inversion a move answers the letters that Turned tells, and is undefined where its letter is lacking
+--     turned-upright     neither word has an inversion
+--     moved-outcome      without an inversion a move answers a word that Turned tells, and is undefined only where its letter is lacking
+--     moved-turned       a move under a test for an inversion, in the split form
 --     word-turned        a move takes the word u to v exactly when it turns u to v
 --     undo               raising takes u to v exactly when lowering takes v to u
 -- Assumes nothing.
@@ -38,10 +40,11 @@ Outcome s i w none = Lacks (taken s i) w
 Outcome s i w (some v) = Turned s i w v
 
 -- Both halves of a disjunction that fails.
-or-false-both : (a b : Bool) → (a || b) ≡ false → (a ≡ false) × (b ≡ false)
+pub or-false-both : (a b : Bool) → (a || b) ≡ false → (a ≡ false) × (b ≡ false)
 or-false-both true b e = absurd (true≢false e)
 or-false-both false b e = (refl, e)
 
+-- To lack a letter is that it does not occur.
 lacks-occurs : (a : ℕ) (w : List ℕ) → Lacks a w → occurs a w ≡ false
 lacks-occurs a [] l = refl
 lacks-occurs a (x ∷ w) l = rw (ne-eqb x a (l .0)) (lacks-occurs a w (l .1))
@@ -50,21 +53,22 @@ pub occurs-lacks : (a : ℕ) (w : List ℕ) → occurs a w ≡ false → Lacks a
 occurs-lacks a [] e = tt
 occurs-lacks a (x ∷ w) e = let p = or-false-both (eqb x a) (occurs a w) e in (eqb-false x a (p .0), occurs-lacks a w (p .1))
 
+-- Nothing stands left of a letter that is lacking.
 pub lacks-before : (p q : ℕ) (w : List ℕ) → Lacks p w → before w p q ≡ false
 lacks-before p q [] l = refl
 lacks-before p q (x ∷ w) l = rw (lacks-occurs p w (l .1), and-false) (lacks-before p q w (l .1))
 
--- A word that a move takes to another has no inversion, and neither has the other.
-pub changed-upright : {i : ℕ} {u v : List ℕ} → Changed i u v → (inverted i u ≡ false) × (inverted i v ≡ false)
+-- Neither of the two words has an inversion.
+changed-upright : {i : ℕ} {u v : List ℕ} → Changed i u v → (inverted i u ≡ false) × (inverted i v ≡ false)
 changed-upright {i} (here {back} l) =
     let e : before back i (suc i) ≡ false = lacks-before i (suc i) back l in
     (rw (lacks-occurs i back l, and-false) e, rw (lacks-occurs i back l, and-false) e)
 changed-upright {i} (after {x} ne c) = rw (ne-eqb x (suc i) ne) (changed-upright c)
 
--- The letters that it speaks of are there: i+1 in the first word, i in the second.
-changed-has : {i : ℕ} {u v : List ℕ} → Changed i u v → (Lacks (suc i) u → ⊥) × (Lacks i v → ⊥)
-changed-has (here l) = (λ n. n .0 refl, λ n. n .0 refl)
-changed-has (after ne c) = (λ n. changed-has c .0 (n .1), λ n. changed-has c .1 (n .1))
+-- The second word has an i.
+changed-has : {i : ℕ} {u v : List ℕ} → Changed i u v → Lacks i v → ⊥
+changed-has (here l) n = n .0 refl
+changed-has (after ne c) n = changed-has c (n .1)
 
 -- Without an inversion no i follows an i+1.
 upright-tail : (i x : ℕ) (w : List ℕ) → inverted i (x ∷ w) ≡ false → (x ≡ suc i → Lacks i w) × (inverted i w ≡ false)
@@ -72,18 +76,19 @@ upright-tail i x w e =
     let p = or-false-both (eqb x (suc i) && occurs i w) (inverted i w) e in
     (λ q. occurs-lacks i w (rw (eq-eqb x (suc i) q) at (p .0)), p .1)
 
--- One letter further to the left.
+-- Raising, one letter further to the left.
 raise-further : (i x : ℕ) (w : List ℕ) (t : Option ℕ) → (x ≡ suc i → Lacks i w) → (b : Bool) → eqb x (suc i) ≡ b
     → Outcome raising i w (replaced i w t) → Outcome raising i (x ∷ w) (replaced i (x ∷ w) (cond b (some 0) (onward t)))
 raise-further i x w t f true q o = let e : x ≡ suc i = eqb-true x (suc i) q in rw e (here (f e))
 raise-further i x w none f false q o = (eqb-false x (suc i) q, o)
 raise-further i x w (some k) f false q o = after (eqb-false x (suc i) q) o
 
+-- The same for lowering.
 lower-further : (i x : ℕ) (w : List ℕ) (t : Option ℕ) → (x ≡ suc i → Lacks i w) → (b : Bool) → eqb x i ≡ b
     → Outcome lowering i w (replaced (suc i) w t) → Outcome lowering i (x ∷ w) (replaced (suc i) (x ∷ w) (orHere b t))
 lower-further i x w none f true q o = rw (eqb-true x i q) (here o)
 lower-further i x w none f false q o = (eqb-false x i q, o)
-lower-further i x w (some k) f b q o = after (λ e. changed-has o .1 (f e)) o
+lower-further i x w (some k) f b q o = after (λ e. changed-has o (f e)) o
 
 -- What a move answers where there is no inversion.
 pub moved-outcome : (m : Move) (w : List ℕ) → inverted (m .index) w ≡ false → Outcome (m .side) (m .index) w (moved false m w)
@@ -115,21 +120,25 @@ changed-target {i} (after {x} {u} {v} ne c) =
     let p = changed-target c in
     (rw (ne-eqb x (suc i) ne) (stays i x u v (leftmost (suc i) u) false (p .0) .0), stays (suc i) x v u (rightmost i v) (eqb x i) (p .1) .1)
 
--- The same for either side.
-turned-target : (s : Side) (i : ℕ) (u v : List ℕ) → Turned s i u v → (inverted i u ≡ false) × (replaced (given s i) u (target s i u) ≡ some v)
-turned-target raising i u v c = (changed-upright c .0, changed-target c .0)
-turned-target lowering i u v c = (changed-upright c .1, changed-target c .1)
+-- The same for either side of a move.
+pub turned-upright : (s : Side) (i : ℕ) (u v : List ℕ) → Turned s i u v → (inverted i u ≡ false) × (inverted i v ≡ false)
+turned-upright raising i u v c = changed-upright c
+turned-upright lowering i u v c = (changed-upright c .1, changed-upright c .0)
+
+turned-target : (s : Side) (i : ℕ) (u v : List ℕ) → Turned s i u v → replaced (given s i) u (target s i u) ≡ some v
+turned-target raising i u v c = changed-target c .0
+turned-target lowering i u v c = changed-target c .1
 
 -- A move under the test b for an inversion takes u to v exactly when the test fails and the move turns u to v.
 pub moved-turned : (m : Move) (b : Bool) (u v : List ℕ) → (b ≡ false → inverted (m .index) u ≡ false) → moved b m u ≡ some v ↔ (b ≡ false) × Turned (m .side) (m .index) u v
 moved-turned m true u v f = (λ h. absurd (Option·none-ne-some v h), λ h. absurd (true≢false (h .0)))
-moved-turned m false u v f = (λ h. (refl, rw h at (moved-outcome m u (f refl))), λ h. turned-target (m .side) (m .index) u v (h .1) .1)
+moved-turned m false u v f = (λ h. (refl, rw h at (moved-outcome m u (f refl))), λ h. turned-target (m .side) (m .index) u v (h .1))
 
 -- A move takes the word u to v exactly when it turns u to v.
 pub word-turned : (m : Move) (u v : List ℕ) → movedWord m u ≡ some v ↔ Turned (m .side) (m .index) u v
 word-turned m u v =
     let t = moved-turned m (inverted (m .index) u) u v (λ e. e) in
-    (λ h. t .0 h .1, λ h. t .1 (turned-target (m .side) (m .index) u v h .0, h))
+    (λ h. t .0 h .1, λ h. t .1 (turned-upright (m .side) (m .index) u v h .0, h))
 
 -- Raising and lowering undo each other.
 pub undo : (i : ℕ) (u v : List ℕ) → movedWord (record { side = raising; index = i }) u ≡ some v ↔ movedWord (record { side = lowering; index = i }) v ≡ some u
