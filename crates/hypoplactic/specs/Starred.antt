@@ -1,17 +1,19 @@
 -- The starred cases of document 01 ("Checked words"), as one list: what the written meaning gives beside what the document says. A second list has
--- worked examples of the paper.
+-- worked examples of the paper, a third the other checked words and the refusals.
 -- Whole outputs stand as texts. A reply stands as its numbers: 0 and the values, or the refusal's number and place; after a move the letters follow.
 -- That the two sides of every case are equal is proved in proofs/Theory/Starred.antt. Assumes nothing.
 use Prim.Native.Nat.{ℕ}
 use Prim.Native.Char.{code}
 use Prim.Native.String.{String, [] as ending, _∷_ as _∷ᶜ_}
 use mathlib.Core.List.{List, [], _∷_, _++_}
-use Rattle.hypoplactic.specs.Insertion.{insert, pairOf, lettersOf, marksOf, recordingOf, wordOf}
+use lib.ListN.{replicate}
+use Rattle.hypoplactic.specs.Insertion.{Pair, insert, pairOf, lettersOf, marksOf, recordingOf, wordOf}
 use Rattle.hypoplactic.specs.Reading.{columnReading}
 use Rattle.hypoplactic.specs.Moves.{Move, raising, lowering}
-use Rattle.hypoplactic.specs.Replies.{Said, gives, refused}
-use Rattle.hypoplactic.specs.WordOperations.{moveWordRun, repeatWordSays, sameClassSays, weightsSays}
-use Rattle.hypoplactic.specs.TableauOperations.{lookSays}
+use Rattle.hypoplactic.specs.Replies.{Said, gives, refused, passed, first}
+use Rattle.hypoplactic.specs.Judgements.{fullJudged, wordJudgements}
+use Rattle.hypoplactic.specs.WordOperations.{junctionSays, moveWordRun, repeatWordSays, sameClassSays, weightsSays}
+use Rattle.hypoplactic.specs.TableauOperations.{tableauSays, recordingRun, insertSays, wordSays, moveTableauRun, repeatTableauSays, viewerSays, lookSays}
 use Rattle.hypoplactic.specs.LineOperations.{program, tableauLine}
 
 -- The bytes of a text.
@@ -33,6 +35,10 @@ raise i = record { side = raising; index = i }
 
 abbrev pub lower : ℕ → Move
 lower i = record { side = lowering; index = i }
+
+-- Three lent lists.
+abbrev pub pair : List ℕ → List ℕ → List ℕ → Pair
+pair xs ms rs = record { letters = xs; marks = ms; recording = rs }
 
 -- A case: what the definitions give, and what the document says.
 pub record Case : Type 0 where
@@ -102,4 +108,52 @@ workedCases =
     ∷ case (numbers (repeatWordSays 3 (raise 2) (3 ∷ 1 ∷ 2 ∷ 3 ∷ []))) (0 ∷ 0 ∷ [])
     -- section 5: 1324 and 3142 are in the same position of their components
     ∷ case (numbers (sameClassSays 4 (1 ∷ 3 ∷ 2 ∷ 4 ∷ []) 4 (3 ∷ 1 ∷ 4 ∷ 2 ∷ []))) (0 ∷ 1 ∷ [])
+    ∷ []
+
+-- The checked words that are not starred, as far as no text is read, and one case or more for each refusal number, at first, middle and last places.
+unfoldable pub refusalCases : List Case
+refusalCases =
+    -- 1: rank 1 and 64 pass, 0 and 65 do not
+    case (numbers (junctionSays 1 (1 ∷ []))) (0 ∷ 0 ∷ 1 ∷ [])
+    ∷ case (numbers (junctionSays 64 (64 ∷ []))) (0 ∷ 0 ∷ 1 ∷ [])
+    ∷ case (numbers (junctionSays 0 [])) (1 ∷ 0 ∷ [])
+    ∷ case (numbers (junctionSays 65 (65 ∷ []))) (1 ∷ 0 ∷ [])
+    -- 2: length 1,024 passes, 1,025 does not
+    ∷ case (numbers (first (wordJudgements 1 (replicate 1024 1)) passed)) (0 ∷ [])
+    ∷ case (numbers (first (wordJudgements 1 (replicate 1025 2)) passed)) (2 ∷ 0 ∷ [])
+    -- 3: parts that differ in length; a used count above a buffer
+    ∷ case (numbers (viewerSays 4 (1 ∷ 2 ∷ []) (0 ∷ []))) (3 ∷ 0 ∷ [])
+    ∷ case (numbers (insertSays 4 2 1 (pair (1 ∷ 2 ∷ 3 ∷ []) (0 ∷ 0 ∷ 0 ∷ []) (1 ∷ [])))) (3 ∷ 0 ∷ [])
+    -- 4: in a word, in a second word, in the letter to be inserted; what the program prints
+    ∷ case (numbers (junctionSays 4 (3 ∷ 5 ∷ 0 ∷ []))) (4 ∷ 1 ∷ [])
+    ∷ case (numbers (sameClassSays 4 (1 ∷ 2 ∷ []) 3 (3 ∷ 4 ∷ []))) (4 ∷ 3 ∷ [])
+    ∷ case (numbers (insertSays 4 2 5 (pair (2 ∷ 1 ∷ 0 ∷ []) (0 ∷ 0 ∷ 0 ∷ []) (1 ∷ 2 ∷ 0 ∷ [])))) (4 ∷ 2 ∷ [])
+    ∷ case (program 4 (5 ∷ [])) (text "E,4,0\n")
+    -- 5, 6: the later cell; a first mark that is not 0, a mark that is none, down between equals
+    ∷ case (numbers (viewerSays 4 (1 ∷ 3 ∷ 2 ∷ []) (1 ∷ 0 ∷ 0 ∷ []))) (5 ∷ 2 ∷ [])
+    ∷ case (numbers (viewerSays 4 (1 ∷ 1 ∷ []) (1 ∷ 1 ∷ []))) (6 ∷ 0 ∷ [])
+    ∷ case (numbers (viewerSays 4 (1 ∷ 2 ∷ 3 ∷ []) (0 ∷ 1 ∷ 2 ∷ []))) (6 ∷ 2 ∷ [])
+    ∷ case (numbers (viewerSays 4 (1 ∷ 1 ∷ 2 ∷ []) (0 ∷ 1 ∷ 2 ∷ []))) (6 ∷ 1 ∷ [])
+    -- 7: an entry 0, above L, met before
+    ∷ case (numbers (wordSays 4 (1 ∷ 2 ∷ []) (0 ∷ 0 ∷ []) (0 ∷ 3 ∷ []) 2)) (7 ∷ 0 ∷ [])
+    ∷ case (numbers (wordSays 4 (1 ∷ 2 ∷ []) (0 ∷ 0 ∷ []) (2 ∷ 3 ∷ []) 2)) (7 ∷ 1 ∷ [])
+    ∷ case (numbers (wordSays 4 (1 ∷ 2 ∷ 2 ∷ []) (0 ∷ 0 ∷ 0 ∷ []) (3 ∷ 1 ∷ 3 ∷ []) 3)) (7 ∷ 2 ∷ [])
+    -- 8: a rise at a down step, a fall at a right step
+    ∷ case (numbers (wordSays 4 (1 ∷ 2 ∷ []) (0 ∷ 1 ∷ []) (1 ∷ 2 ∷ []) 2)) (8 ∷ 1 ∷ [])
+    ∷ case (numbers (wordSays 4 (1 ∷ 2 ∷ 2 ∷ []) (0 ∷ 0 ∷ 0 ∷ []) (1 ∷ 3 ∷ 2 ∷ []) 3)) (8 ∷ 2 ∷ [])
+    -- 9: rank 1 has no move; index 0, and the rank itself; 11 for the empty word
+    ∷ case (outcome (moveWordRun 1 (lower 1) (1 ∷ []))) (9 ∷ 0 ∷ 1 ∷ [])
+    ∷ case (outcome (moveWordRun 3 (lower 0) (1 ∷ []))) (9 ∷ 0 ∷ 1 ∷ [])
+    ∷ case (numbers (repeatTableauSays 3 (raise 3) (1 ∷ []) (0 ∷ []))) (9 ∷ 0 ∷ [])
+    ∷ case (outcome (moveWordRun 4 (raise 3) [])) (11 ∷ 0 ∷ [])
+    -- 10, 11 on a tableau: 3 directly below 2, and 3 right of 2
+    ∷ case (outcome (moveTableauRun 4 (raise 2) (2 ∷ 3 ∷ []) (0 ∷ 1 ∷ []))) (10 ∷ 0 ∷ 2 ∷ 3 ∷ [])
+    ∷ case (outcome (moveTableauRun 4 (raise 2) (2 ∷ 3 ∷ 3 ∷ []) (0 ∷ 0 ∷ 0 ∷ []))) (0 ∷ 2 ∷ 2 ∷ 3 ∷ [])
+    ∷ case (outcome (moveTableauRun 4 (lower 1) (2 ∷ 3 ∷ []) (0 ∷ 1 ∷ []))) (11 ∷ 0 ∷ 2 ∷ 3 ∷ [])
+    -- 12, 13: full; the first output that is too short; elements beyond those needed keep their values
+    ∷ case (numbers (fullJudged 1024)) (12 ∷ 1024 ∷ [])
+    ∷ case (numbers (insertSays 4 1 3 (pair (1 ∷ []) (0 ∷ 0 ∷ []) (1 ∷ 0 ∷ [])))) (13 ∷ 2 ∷ [])
+    ∷ case (numbers (tableauSays 4 w433 3 2)) (13 ∷ 3 ∷ [])
+    ∷ case (outcome (recordingRun 4 w433 (9 ∷ 9 ∷ 9 ∷ 9 ∷ 9 ∷ []))) (0 ∷ 3 ∷ 2 ∷ 3 ∷ 1 ∷ 9 ∷ 9 ∷ [])
+    ∷ case (outcome (recordingRun 4 w433 (9 ∷ 9 ∷ []))) (13 ∷ 3 ∷ 9 ∷ 9 ∷ [])
     ∷ []

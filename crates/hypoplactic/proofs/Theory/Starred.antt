@@ -1,5 +1,5 @@
 -- The starred cases of document 01, all of them, of the written meaning: one theorem over the list of specs/Starred.antt, computed by the checker.
--- Beside it the paper's worked examples, the same way.
+-- Beside it the paper's worked examples, and the other checked words and refusals, the same way.
 -- Assumes nothing.
 use mathlib.Core.Path.{_≡_, refl}
 use mathlib.Core.List.{map}
@@ -8,14 +8,14 @@ use Rattle.grammar.specs.Numbers.{decimal}
 use Rattle.grammar.specs.Lines.{wLine, tLine, nLine, jLine, eLine}
 use Rattle.hypoplactic.specs.Insertion.{insert, pairOf, wordOf}
 use Rattle.hypoplactic.specs.Reading.{columnReading}
-use Rattle.hypoplactic.specs.Moves.{repeatWord}
+use Rattle.hypoplactic.specs.Moves.{repeatWord, repeatTableau}
 use Rattle.hypoplactic.specs.Junctions.{number, junctionSet, rowsOf, sameClass}
 use Rattle.hypoplactic.specs.Weights.{compareWeights}
-use Rattle.hypoplactic.specs.Judgements.{rankJudged, lengthJudged, lettersJudged, indexJudged, inversionJudged, letterJudged, alikeJudged, risingJudged, marksJudged}
-use Rattle.hypoplactic.specs.WordOperations.{moveWordSays, moveWordRun, repeatWordSays, sameClassSays, weightsSays}
-use Rattle.hypoplactic.specs.TableauOperations.{lookSays}
+use Rattle.hypoplactic.specs.Judgements.{rankJudged, lengthJudged, lettersJudged, indexJudged, inversionJudged, letterJudged, alikeJudged, usedJudged, risingJudged, marksJudged, entriesJudged, recordingJudged, fullJudged, roomJudged}
+use Rattle.hypoplactic.specs.WordOperations.{junctionSays, moveWordSays, moveWordRun, repeatWordSays, sameClassSays, weightsSays}
+use Rattle.hypoplactic.specs.TableauOperations.{tableauSays, recordingSays, recordingRun, insertSays, wordSays, moveTableauSays, moveTableauRun, repeatTableauSays, viewerSays, lookSays}
 use Rattle.hypoplactic.specs.LineOperations.{tableauLine, program}
-use Rattle.hypoplactic.specs.Starred.{Case, starredCases, workedCases}
+use Rattle.hypoplactic.specs.Starred.{Case, starredCases, workedCases, refusalCases}
 
 -- Every starred case: the meaning is what the document says.
 pub starred : map (λ (c : Case). c .meaning) starredCases ≡ map (λ (c : Case). c .document) starredCases
@@ -26,3 +26,8 @@ starred = refl
 pub worked : map (λ (c : Case). c .meaning) workedCases ≡ map (λ (c : Case). c .document) workedCases
 unfolding workedCases pairOf insert columnReading repeatWord number junctionSet sameClass rankJudged lengthJudged lettersJudged alikeJudged risingJudged marksJudged indexJudged repeatWordSays sameClassSays lookSays
 worked = refl
+
+-- The other checked words, and every refusal number.
+pub refusals : map (λ (c : Case). c .meaning) refusalCases ≡ map (λ (c : Case). c .document) refusalCases
+unfolding refusalCases program tableauLine tLine nLine wLine jLine eLine decimal pairOf insert columnReading junctionSet number rowsOf ones onesIn sameClass repeatTableau rankJudged lengthJudged alikeJudged usedJudged lettersJudged risingJudged marksJudged entriesJudged recordingJudged indexJudged inversionJudged letterJudged fullJudged roomJudged junctionSays moveWordSays moveWordRun sameClassSays tableauSays recordingSays recordingRun insertSays wordSays moveTableauSays moveTableauRun repeatTableauSays viewerSays
+refusals = refl
