@@ -1,6 +1,11 @@
 pub mod Complete
 pub mod Decimal
 pub mod Determined
+pub mod Exact
 pub mod Examples
 pub mod Items
+pub mod LinesExact
+pub mod Longest
 pub mod Numbers
+pub mod NumbersExact
+pub mod Sound

@@ -34,3 +34,5 @@ pub mod WeightOrder
 pub mod OneClass
 pub mod MoveValid
 pub mod Repeats
+pub mod Layers
+pub mod Places

@@ -49,3 +49,21 @@ cells-good P (x ∷ xs) (m ∷ ms) g h = ((g .0, h .0), cells-good P xs ms (g .1
 pub ribbon-good : (P : ℕ → Type 0) (xs ms : List ℕ) → Items P P xs → Marked xs ms → Items (First P) (Cell P) (cells xs ms)
 ribbon-good P [] [] g h = tt
 ribbon-good P (x ∷ xs) (m ∷ ms) g h = ((g .0, h .0), cells-good P xs ms (g .1) (h .1))
+
+-- Cells are those of their letters and marks.
+pub cells-of : (cs : List (ℕ × ℕ)) → cells (letters cs) (marks cs) ≡ cs
+cells-of [] = refl
+cells-of (c ∷ cs) = rw (cells-of cs)
+
+-- Good cells have good letters and marks.
+letters-good : (P : ℕ → Type 0) (cs : List (ℕ × ℕ)) → Items (Cell P) (Cell P) cs → Items P P (letters cs) × Stepped (letters cs) (marks cs)
+letters-good P [] h = (tt, tt)
+letters-good P (c ∷ cs) h =
+    let r : Items P P (letters cs) × Stepped (letters cs) (marks cs) = letters-good P cs (h .1) in
+    ((h .0 .0, r .0), (h .0 .1, r .1))
+
+pub ribbon-of : (P : ℕ → Type 0) (cs : List (ℕ × ℕ)) → Items (First P) (Cell P) cs → Items P P (letters cs) × Marked (letters cs) (marks cs)
+ribbon-of P [] h = (tt, tt)
+ribbon-of P (c ∷ cs) h =
+    let r : Items P P (letters cs) × Stepped (letters cs) (marks cs) = letters-good P cs (h .1) in
+    ((h .0 .0, r .0), (h .0 .1, r .1))

@@ -29,6 +29,21 @@ number-begun (suc j) k n t low high e =
     (number-begun j (suc k) (n / 10) ((48 + n % 10) ∷ t) (omega arith) (omega arith) (omega arith)
     ∙ rw (digit-is (n % 10) (omega arith), back))
 
+-- A number of more than j digits, read as far as they go.
+number-sized : (k j n : ℕ) → j + k ≡ 3 → 10 ^ j ≤ n → Short n → (l : ℕ) × ((t : List ℕ) → readNumber (decimal n ++ t) ≡ moreDigits l n t)
+number-sized zero j n e low h =
+    let three : j ≡ 3 = omega arith in
+    (0, λ t. number-begun 3 0 n t (rw three at low) h refl)
+number-sized (suc k) j n e low h =
+    elim (decLt n (10 ^ suc j)) [
+      | yes p ↦ (suc k, λ t. number-begun j (suc k) n t low p e)
+      | no q ↦ number-sized k (suc j) n (omega arith) (omega arith) h
+    ]
+
+-- A number but 0, read as far as its digits go: the rest of the text is left to the digits that may still come.
+pub number-digits : (n : ℕ) → 0 < n → Short n → (l : ℕ) × ((t : List ℕ) → readNumber (decimal n ++ t) ≡ moreDigits l n t)
+number-digits n p h = number-sized 3 0 n refl p h
+
 -- The text goes on with no digit.
 abbrev pub Ends : List ℕ → Type 0
 Ends [] = Unit
@@ -39,22 +54,13 @@ digits-end zero n t h = refl
 digits-end (suc k) n [] h = refl
 digits-end (suc k) n (b ∷ t) h = rw h
 
--- A number of more than j digits is read back where no digit follows.
-number-sized : (k j n : ℕ) (t : List ℕ) → j + k ≡ 3 → 10 ^ j ≤ n → Short n → Ends t → readNumber (decimal n ++ t) ≡ got n t
-number-sized zero j n t e low h stop =
-    let three : j ≡ 3 = omega arith in
-    number-begun 3 0 n t (rw three at low) h refl ∙ digits-end 0 n t stop
-number-sized (suc k) j n t e low h stop =
-    elim (decLt n (10 ^ suc j)) [
-      | yes p ↦ number-begun j (suc k) n t low p e ∙ digits-end (suc k) n t stop
-      | no q ↦ number-sized k (suc j) n t (omega arith) (omega arith) h stop
-    ]
-
 -- A number is read back where no digit follows.
 pub number-read : (n : ℕ) (t : List ℕ) → Short n → Ends t → readNumber (decimal n ++ t) ≡ got n t
 unfolding decimal
 number-read zero t h stop = refl
-number-read (suc n) t h stop = number-sized 3 0 (suc n) t refl (omega arith) h stop
+number-read (suc n) t h stop =
+    let d : (l : ℕ) × ((t : List ℕ) → readNumber (decimal (suc n) ++ t) ≡ moreDigits l (suc n) t) = number-digits (suc n) (omega arith) h in
+    d .1 t ∙ digits-end (d .0) (suc n) t stop
 
 -- All digits there are, after those of a number.
 abbrev scan : ℕ → List ℕ → Read ℕ

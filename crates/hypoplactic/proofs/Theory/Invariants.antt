@@ -6,13 +6,13 @@
 --     joined-kept        a chain of steps keeps both
 --     joined-count, joined-inversion, joined-tableau     so joined words have equal counts, equal inversions and one tableau
 -- Assumes nothing.
-use Prim.Native.Nat.{ℕ, suc, _+_, _≤_, _<_}
+use Prim.Native.Nat.{ℕ, suc, _≤_, _<_}
 use mathlib.Core.Path.{_≡_, refl, sym, ap₂, _∙_}
 use mathlib.Core.List.{List, [], _∷_, _++_}
 use mathlib.Core.Bool.{Bool, true, false, _&&_, _||_, and-false, or-true}
 use mathlib.Core.Logic.{_⊎_, inl, inr}
 use native.Mathlib.Omega.{arith}
-use lib.Dec.{eqb, ltb}
+use lib.Dec.{eqb}
 use borrow.Author.Tests.{ltb-true, eq-eqb, ne-eqb, eqb-true}
 use Rattle.hypoplactic.specs.Words.{tick, count, occurs, before}
 use Rattle.hypoplactic.specs.Insertion.{lettersOf, marksOf}
@@ -106,7 +106,8 @@ module _ (s t : List ℕ) (x y : ℕ) (l : x < y) where
       let y-in : occurs y s ≡ true = rw y-is o in
       simp (before-append s, y-in, eq-eqb x x refl, ne-eqb y x (omega arith), or-true)
   before-held (on-right b o g h) apart =
-      let x-is : x ≡ b = apart-low x y b (s ++ x ∷ y ∷ t) apart (omega (arith, counted b t o, count-append b s (x ∷ y ∷ t), count-tail b y t, count-tail b x (y ∷ t))) g h in
+      let x-is : x ≡ b = apart-low x y b (s ++ x ∷ y ∷ t) apart
+      (omega (arith, counted b t o, count-append b s (x ∷ y ∷ t), count-tail b y t, count-tail b x (y ∷ t))) g h in
       let x-in : occurs x t ≡ true = rw x-is o in
       simp (before-append s, x-in, eq-eqb x x refl, eq-eqb y y refl, ne-eqb y x (omega arith), ne-eqb x y (omega arith), or-true)
 

@@ -45,7 +45,8 @@ regroup true false false u q v = rw (and-false q)
 -- Some q stands left of some p in u, in v, or across.
 pub before-append : (u v : List ℕ) (p q : ℕ) → before (u ++ v) p q ≡ (before u p q || occurs q u && occurs p v || before v p q)
 before-append [] v p q = refl
-before-append (x ∷ u) v p q = rw (before-append u v p q, occurs-append p u v) (regroup (eqb x q) (occurs p u) (occurs p v) (before u p q) (occurs q u) (before v p q))
+before-append (x ∷ u) v p q =
+    rw (before-append u v p q, occurs-append p u v) (regroup (eqb x q) (occurs p u) (occurs p v) (before u p q) (occurs q u) (before v p q))
 
 -- One letter more at the end has every letter of the word left of it.
 pub before-snoc : (w : List ℕ) (a p q : ℕ) → before (w ++ (a ∷ [])) p q ≡ (before w p q || occurs q w && eqb a p)

@@ -1,0 +1,74 @@
+-- Lines are read exactly: w-exact, t-exact, n-exact, from the exactness of numbers and steps.
+-- Assumes nothing.
+use Prim.Native.Nat.{ℕ, zero, suc, _≤_}
+use mathlib.Core.Path.{_≡_, refl, sym, ap, _∙_}
+use mathlib.Core.List.{List, [], _∷_, _++_, append-nil}
+use native.Mathlib.Omega.{arith}
+use lib.ListN.{length, length-map}
+use Rattle.grammar.specs.Lines.{line, field, items, step, firstCell, cell, cells, wLine, tLine, nLine}
+use Rattle.grammar.specs.Values.{Items, Short, Small, Stepped, Marked}
+use Rattle.grammar.specs.Reading.{Read, got, many, after, both, counted, ranked, readLine, readField, readStep, readFirst, readCell, letters, marks, readW, readT, readN}
+use Rattle.grammar.proofs.Theory.Items.{Cell, First, cells-of, ribbon-of}
+use Rattle.grammar.proofs.Theory.Exact.{Exact, nothing-exact, ended-exact, after-exact, both-exact}
+use Rattle.grammar.proofs.Theory.NumbersExact.{field-exact, step-exact}
+
+-- So many items.
+many-exact : {A : Type 0} {P Q : A → Type 0} {p q : A → List ℕ} {r s : List ℕ → Read A} → Exact P p r → Exact Q q s
+    → (n : ℕ) → Exact (λ l. (length l ≡ n) × Items P Q l) (items p q) (many r s n)
+many-exact {p} {q} f g zero = nothing-exact (items p q) [] (refl, tt) refl
+many-exact {P} {Q} {p} {q} f g (suc n) =
+    both-exact (λ l. (length l ≡ suc n) × Items P Q l) (items p q) _∷_ f (λ a. many-exact g g n)
+    (λ a l x y. ((ap suc (y .0), (x, y .1)), refl))
+
+-- A count and its items.
+counted-exact : {A : Type 0} {P Q : A → Type 0} {p q : A → List ℕ} {r s : List ℕ → Read A} → Exact P p r → Exact Q q s
+    → Exact (λ l. Short (length l) × Items P Q l) (λ l. field (length l) ++ items p q l) (counted r s)
+counted-exact {P} {Q} {p} {q} f g =
+    both-exact (λ l. Short (length l) × Items P Q l) (λ l. field (length l) ++ items p q l) (λ n l. l) field-exact (many-exact f g)
+    (λ n l x y. ((rw (y .0) x, y .1), rw (y .0)))
+
+-- The first cell and the others.
+first-exact : Exact (First Short) firstCell readFirst
+first-exact =
+    both-exact (First Short) firstCell (λ x m. (x, m)) field-exact (λ x. nothing-exact {Good = λ m. m ≡ 0} (λ m. []) 0 refl refl)
+    (λ x m h g. ((h, g), sym (append-nil (field x))))
+
+cell-exact : Exact (Cell Short) cell readCell
+cell-exact = both-exact (Cell Short) cell (λ m x. (x, m)) (after-exact 44 step-exact) (λ m. field-exact) (λ m x h g. ((g, h), refl))
+
+-- A whole line.
+line-exact : {A : Type 0} {P : A → Type 0} {p : A → List ℕ} {r : List ℕ → Read A} (kind : ℕ) → Exact P p r → Exact P (λ a. line kind (p a)) (readLine kind r)
+line-exact {P} {p} kind f =
+    after-exact kind (both-exact P (λ a. p a ++ (10 ∷ [])) (λ a u. a) f (λ a. after-exact 10 ended-exact) (λ a u h g. (h, refl)))
+
+-- What W lines hold, and their exact reading.
+abbrev pub WGood : ℕ × List ℕ → Type 0
+WGood v = Short (v .0) × Small (v .1)
+
+pub w-exact : Exact WGood (λ v. wLine (v .0) (v .1)) readW
+unfolding wLine readW
+w-exact =
+    line-exact 87
+    (both-exact WGood (λ v. field (v .0) ++ (field (length (v .1)) ++ items field field (v .1))) (λ n xs. (n, xs)) field-exact
+    (λ n. counted-exact field-exact field-exact)
+    (λ n xs h g. ((h, g), refl)))
+
+-- What T lines hold, and their exact reading.
+abbrev pub TGood : ℕ × List ℕ × List ℕ → Type 0
+TGood v = Short (v .0) × Small (v .1) × Marked (v .1) (v .2)
+
+pub t-exact : Exact TGood (λ v. tLine (v .0) (v .1) (v .2)) readT
+unfolding tLine readT
+t-exact =
+    line-exact 84
+    (both-exact TGood (λ v. field (v .0) ++ (field (length (v .1)) ++ items firstCell cell (cells (v .1) (v .2)))) (λ n cs. (n, letters cs, marks cs)) field-exact
+    (λ n. counted-exact first-exact cell-exact)
+    (λ n cs h g.
+    let r : Items Short Short (letters cs) × Marked (letters cs) (marks cs) = ribbon-of Short cs (g .1) in
+    let e : length (letters cs) ≡ length cs = length-map cs (λ c. c .0) in
+    ((h, (rw e (g .0), r .0), r .1), rw (e, cells-of cs))))
+
+-- N lines and their exact reading.
+pub n-exact : Exact Small nLine readN
+unfolding nLine readN
+n-exact = line-exact 78 (counted-exact field-exact field-exact)
