@@ -28,7 +28,7 @@ firstCell c = field (c .0)
 abbrev pub cell : ℕ × ℕ → List ℕ
 cell c = 44 ∷ step (c .1) ∷ field (c .0)
 
--- Letters and marks as cells.
+-- Letters and marks as cells, as many as there are of both.
 abbrev pub cells : List ℕ → List ℕ → List (ℕ × ℕ)
 cells [] ms = []
 cells (x ∷ xs) [] = []

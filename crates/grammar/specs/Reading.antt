@@ -71,17 +71,19 @@ abbrev pub readStep : List ℕ → Read ℕ
 readStep [] = broken []
 readStep (b ∷ t) = cond (eqb b 114) (got 0 t) (cond (eqb b 100) (got 1 t) (broken (b ∷ t)))
 
--- A cell as letter and mark. The first has no step before it, and its mark is 0.
+-- The first cell as letter and mark: no step stands before it, and its mark is 0.
 abbrev pub readFirst : List ℕ → Read (ℕ × ℕ)
 readFirst = both (λ x m. (x, m)) readField (λ x. got 0)
 
+-- Another cell as letter and mark: a comma and its step, then its letter.
 abbrev pub readCell : List ℕ → Read (ℕ × ℕ)
 readCell = both (λ m x. (x, m)) (after 44 readStep) (λ m. readField)
 
--- The letters and the marks of cells.
+-- The letters of cells.
 abbrev pub letters : List (ℕ × ℕ) → List ℕ
 letters = map (λ c. c .0)
 
+-- The marks of cells.
 abbrev pub marks : List (ℕ × ℕ) → List ℕ
 marks = map (λ c. c .1)
 

@@ -1,7 +1,6 @@
 -- Lines written out, byte for byte, and read back: those of the word 4323 at rank 4, of the empty word, and two more. Assumes nothing.
-use Prim.Native.Nat.{ℕ}
 use mathlib.Core.Path.{_≡_, refl}
-use mathlib.Core.List.{List, [], _∷_}
+use mathlib.Core.List.{[], _∷_}
 use Rattle.grammar.specs.Numbers.{decimal}
 use Rattle.grammar.specs.Lines.{wLine, tLine, nLine, jLine, eLine}
 use Rattle.grammar.specs.Reading.{readW, readT, readN, got, broken}

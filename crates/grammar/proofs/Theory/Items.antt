@@ -4,7 +4,7 @@
 --     cells-length, cells-letters, cells-marks, ribbon-good
 --                             the cells of letters and marks have those letters and marks, and are good where those are
 -- Assumes nothing.
-use Prim.Native.Nat.{ℕ, zero, suc, _≤_}
+use Prim.Native.Nat.{ℕ, suc, _≤_}
 use mathlib.Core.Path.{_≡_, refl, ap}
 use mathlib.Core.List.{List, [], _∷_, _++_, append-assoc}
 use native.Mathlib.Omega.{arith}

@@ -1,13 +1,12 @@
 -- Lines are read exactly: w-exact, t-exact, n-exact, from the exactness of numbers and steps.
 -- Assumes nothing.
-use Prim.Native.Nat.{ℕ, zero, suc, _≤_}
-use mathlib.Core.Path.{_≡_, refl, sym, ap, _∙_}
+use Prim.Native.Nat.{ℕ, zero, suc}
+use mathlib.Core.Path.{_≡_, refl, sym, ap}
 use mathlib.Core.List.{List, [], _∷_, _++_, append-nil}
-use native.Mathlib.Omega.{arith}
 use lib.ListN.{length, length-map}
-use Rattle.grammar.specs.Lines.{line, field, items, step, firstCell, cell, cells, wLine, tLine, nLine}
-use Rattle.grammar.specs.Values.{Items, Short, Small, Stepped, Marked}
-use Rattle.grammar.specs.Reading.{Read, got, many, after, both, counted, ranked, readLine, readField, readStep, readFirst, readCell, letters, marks, readW, readT, readN}
+use Rattle.grammar.specs.Lines.{line, field, items, firstCell, cell, cells, wLine, tLine, nLine}
+use Rattle.grammar.specs.Values.{Items, Short, Small, Marked}
+use Rattle.grammar.specs.Reading.{Read, many, counted, readLine, readFirst, readCell, letters, marks, readW, readT, readN}
 use Rattle.grammar.proofs.Theory.Items.{Cell, First, cells-of, ribbon-of}
 use Rattle.grammar.proofs.Theory.Exact.{Exact, nothing-exact, ended-exact, after-exact, both-exact}
 use Rattle.grammar.proofs.Theory.NumbersExact.{field-exact, step-exact}

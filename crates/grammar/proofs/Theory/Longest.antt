@@ -2,16 +2,16 @@
 --     Breaks              the first p bytes begin some line of the kind and the first p + 1 do not, or the text ends at p and is no line
 --     w-breaks, t-breaks, n-breaks     a reading is broken with the rest from p on exactly when the kind breaks at p
 -- Assumes nothing.
-use Prim.Native.Nat.{ℕ, zero, suc, _+_, _-_, _≤_, _<_}
+use Prim.Native.Nat.{ℕ, suc, _+_, _-_, _≤_, _<_}
 use mathlib.Core.Path.{_≡_, refl, sym, ap, _∙_, subst}
 use mathlib.Core.Logic.{_↔_}
-use mathlib.Core.List.{List, [], _∷_, _++_, append-assoc, append-nil}
+use mathlib.Core.List.{List, [], _∷_, _++_, append-assoc}
 use native.Mathlib.Decide.{decLe}
 use native.Mathlib.Omega.{arith}
 use lib.ListN.{length, take, drop, getD, length-append, length-drop, take-append-drop}
 use lib.Seq.{take-at, append-snoc, drop-at, drop-cons, take-suc, take-take}
 use Rattle.grammar.specs.Lines.{wLine, tLine, nLine}
-use Rattle.grammar.specs.Values.{Short, Small, Marked}
+use Rattle.grammar.specs.Values.{Small}
 use Rattle.grammar.specs.Reading.{Read, got, broken, readW, readT, readN}
 use Rattle.grammar.proofs.Theory.Exact.{Broke, Exact, not-both}
 use Rattle.grammar.proofs.Theory.LinesExact.{WGood, TGood, w-exact, t-exact, n-exact}
@@ -99,13 +99,15 @@ module _ {A : Type 0} {Good : A → Type 0} {put : A → List ℕ} {get : List �
   exactly : (text : List ℕ) (p : ℕ) → Breaks (Written Good put) text p ↔ ((p ≤ length text) × (get text ≡ broken (drop p text)))
   exactly text p = (λ h. (h .within, breaks-broken text p h), λ h. broken-breaks text p (h .0) (h .1))
 
--- The W lines, T lines and N lines.
+-- The texts that are W lines.
 abbrev pub IsW : List ℕ → Type 0
 IsW text = (v : ℕ × List ℕ) × WGood v × (text ≡ wLine (v .0) (v .1))
 
+-- The texts that are T lines.
 abbrev pub IsT : List ℕ → Type 0
 IsT text = (v : ℕ × List ℕ × List ℕ) × TGood v × (text ≡ tLine (v .0) (v .1) (v .2))
 
+-- The texts that are N lines.
 abbrev pub IsN : List ℕ → Type 0
 IsN text = (xs : List ℕ) × Small xs × (text ≡ nLine xs)
 
@@ -145,12 +147,14 @@ t-breaks = exactly t-kind
 pub n-breaks : (text : List ℕ) (p : ℕ) → Breaks IsN text p ↔ ((p ≤ length text) × (readN text ≡ broken (drop p text)))
 n-breaks = exactly n-kind
 
--- A broken reading's place is the text's length less what is left.
+-- Where a W reading is broken, W lines break at the text's length less what is left.
 pub w-place : (text rest : List ℕ) → readW text ≡ broken rest → Breaks IsW text (length text - length rest)
 w-place = place-breaks w-kind
 
+-- So with T lines.
 pub t-place : (text rest : List ℕ) → readT text ≡ broken rest → Breaks IsT text (length text - length rest)
 t-place = place-breaks t-kind
 
+-- So with N lines.
 pub n-place : (text rest : List ℕ) → readN text ≡ broken rest → Breaks IsN text (length text - length rest)
 n-place = place-breaks n-kind

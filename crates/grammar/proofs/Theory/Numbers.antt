@@ -11,7 +11,7 @@ use native.Mathlib.Omega.{arith}
 use borrow.Author.Tests.{le-leb, ne-eqb}
 use Rattle.grammar.specs.Numbers.{decimal}
 use Rattle.grammar.specs.Values.{Short}
-use Rattle.grammar.specs.Reading.{Read, got, broken, digit, moreDigits, readNumber}
+use Rattle.grammar.specs.Reading.{Read, got, digit, moreDigits, readNumber}
 use Rattle.grammar.proofs.Theory.Decimal.{decimal-digit, decimal-more}
 
 digit-is : (d : ℕ) → d < 10 → digit (48 + d) ≡ true

@@ -11,7 +11,7 @@ use borrow.Author.Tests.{leb-true, eqb-true, eqb-false}
 use Rattle.grammar.specs.Numbers.{decimal}
 use Rattle.grammar.specs.Lines.{field, step}
 use Rattle.grammar.specs.Values.{Short}
-use Rattle.grammar.specs.Reading.{Read, got, broken, after, digit, moreDigits, readNumber, readField, readStep}
+use Rattle.grammar.specs.Reading.{Read, got, broken, digit, moreDigits, readNumber, readField, readStep}
 use Rattle.grammar.proofs.Theory.Decimal.{decimal-digit, decimal-more}
 use Rattle.grammar.proofs.Theory.Numbers.{number-digits}
 use Rattle.grammar.proofs.Theory.Exact.{Broke, Exact, not-both, at-once, after-exact}
