@@ -36,3 +36,11 @@ pub mod MoveValid
 pub mod Repeats
 pub mod Layers
 pub mod Places
+pub mod Passing
+pub mod Once
+pub mod Judgements
+pub mod StepJudgements
+pub mod Judged
+pub mod Results
+pub mod MoveResults
+pub mod Closure

@@ -2,8 +2,8 @@
 --     Inside n a            a is one of 1 to n
 --     within-counts         each letter is inside exactly when only letters inside occur
 --     sum-within            each letter is inside exactly when the counts of the letters inside add up to the length
---     sum-same              words of the same content have the same sums of counts
 --     accepted-content      a word with the content of an accepted word is accepted
+--     accepted-snoc         so is an accepted word of fewer than 1,024 letters with one letter more
 -- Assumes nothing.
 use Prim.Native.Nat.{ℕ, zero, suc, _≤_, _<_, _+_}
 use native.Mathlib.Omega.{arith}
@@ -14,7 +14,7 @@ use mathlib.Core.List.{List, [], _∷_, _++_}
 use mathlib.Core.Logic.{_↔_, _⊎_, inl, inr, dite}
 use lib.Dec.{eqb}
 use lib.ListN.{length, length-append}
-use borrow.Author.Tests.{eqb-true, eqb-false, eq-eqb, ne-eqb}
+use borrow.Author.Tests.{eqb-true, eqb-false, ne-eqb}
 use Rattle.hypoplactic.specs.Words.{Accepted, Within, count, tick}
 use Rattle.hypoplactic.specs.Weights.{sumTo}
 use Rattle.hypoplactic.proofs.Theory.Occurrences.{count-tail}
@@ -87,6 +87,7 @@ length-sum k (x ∷ w) e = go (length-sum k w) (inside-or-out k x)
 pub sum-within : (k : ℕ) (w : List ℕ) → (sumTo k w ≡ length w) ↔ Within k w
 sum-within k w = (length-sum k w, sum-length k w)
 
+-- Words of the same content have the same sums of counts.
 sum-same : (k : ℕ) (u v : List ℕ) → ((a : ℕ) → count a u ≡ count a v) → sumTo k u ≡ sumTo k v
 sum-same zero u v f = refl
 sum-same (suc k) u v f = ap₂ _+_ (sum-same k u v f) (f (suc k))

@@ -1,0 +1,81 @@
+-- Chains of judgements: when all of them pass, and what is then replied.
+--     Passes s             s is no refusal
+--     Passing js           no judgement of the list refuses
+--     first-passed         the chain replies passed exactly when none refuses
+--     first-answer         where none refuses, the reply is the answer
+--     first-append         a chain may be cut anywhere
+--     first-past           what a chain says past judgements that refuse nothing; first-both past all of two lists
+--     passes-then          a test and the rest pass exactly when the facts of both hold
+--     passes-test          a single test passes exactly when its fact holds
+--     passes-further       a refusal's place is no reason to refuse
+--     ran-answer           where none refuses, lent memory is changed
+--     refused-keeps        a refusal changes no lent memory
+-- Assumes nothing.
+use Prim.Native.Nat.{ℕ}
+use mathlib.Core.Path.{_≡_, refl, sym, subst, _∙_}
+use mathlib.Core.Bool.{Bool, true, false, true≢false}
+use mathlib.Core.List.{List, [], _∷_, _++_}
+use mathlib.Core.Logic.{_↔_}
+use Rattle.hypoplactic.specs.Replies.{Said, gives, refused, passed, orElse, first, refuseIf, countOn, ranTo}
+
+-- No refusal.
+abbrev pub Passes : Said → Type 0
+Passes (gives vs) = Unit {0}
+Passes (refused k p) = ⊥
+
+-- No refusal in the list.
+abbrev pub Passing : List Said → Type 0
+Passing [] = Unit {0}
+Passing (j ∷ js) = Passes j × Passing js
+
+-- Where no judgement refuses, the reply is the answer.
+pub first-answer : (js : List Said) (a : Said) → Passing js → first js a ≡ a
+first-answer [] a p = refl
+first-answer (gives vs ∷ js) a p = first-answer js a (p .1)
+first-answer (refused k i ∷ js) a p = absurd (p .0)
+
+passing-first : (js : List Said) → Passes (first js passed) → Passing js
+passing-first [] p = tt
+passing-first (gives vs ∷ js) p = (tt, passing-first js p)
+passing-first (refused k i ∷ js) p = absurd p
+
+-- The chain replies passed exactly when no judgement refuses.
+pub first-passed : (js : List Said) → (first js passed ≡ passed) ↔ Passing js
+first-passed js = (λ e. passing-first js (subst Passes (sym e) tt), first-answer js passed)
+
+-- A chain may be cut anywhere: what the first part refuses, else what the second says.
+pub first-append : (js ks : List Said) (a : Said) → first (js ++ ks) a ≡ orElse (first js passed) (first ks a)
+first-append [] ks a = refl
+first-append (gives vs ∷ js) ks a = first-append js ks a
+first-append (refused k i ∷ js) ks a = refl
+
+-- Past judgements that refuse nothing the chain goes on,
+pub first-past : (js ks : List Said) (a : Said) → Passing js → first (js ++ ks) a ≡ first ks a
+first-past js ks a p = rw (first-append js ks a, first-answer js passed p)
+
+-- and past all of two lists the reply is the answer.
+pub first-both : (js ks : List Said) (a : Said) → Passing js → Passing ks → first (js ++ ks) a ≡ a
+first-both js ks a p q = first-past js ks a p ∙ first-answer ks a q
+
+-- A test and then the rest: both facts.
+pub passes-then : {P Q : Type 0} (b : Bool) (k i : ℕ) (s : Said) → ((b ≡ false) ↔ P) → Passes s ↔ Q → Passes (refuseIf b k i s) ↔ (P × Q)
+passes-then true k i s p q = (λ r. absurd r, λ r. true≢false (p .1 (r .0)))
+passes-then false k i s p q = (λ r. (p .0 refl, q .0 r), λ r. q .1 (r .1))
+
+-- A single test: its fact.
+pub passes-test : {P : Type 0} (b : Bool) (k i : ℕ) → ((b ≡ false) ↔ P) → Passes (refuseIf b k i passed) ↔ P
+passes-test true k i p = (λ r. absurd r, λ r. true≢false (p .1 r))
+passes-test false k i p = (λ r. p .0 refl, λ r. tt)
+
+-- Counting a refusal's place on refuses nothing.
+pub passes-further : (k : ℕ) (s : Said) → Passes s → Passes (countOn k s)
+passes-further k (gives vs) p = tt
+passes-further k (refused j i) p = p
+
+-- Where no judgement refuses, the values are given and lent memory is the new one.
+pub ran-answer : {A : Type 0} (js ks : List Said) (vs : List ℕ) (new old : A) → Passing js → Passing ks → ranTo (first (js ++ ks) (gives vs)) new old ≡ (gives vs, new)
+ran-answer js ks vs new old p q = rw (first-both js ks (gives vs) p q)
+
+-- A refusal changes no lent memory.
+pub refused-keeps : {A : Type 0} (s : Said) (k i : ℕ) (new old : A) → s ≡ refused k i → ranTo s new old ≡ (refused k i, old)
+refused-keeps s k i new old e = rw e

@@ -1,0 +1,128 @@
+-- An input that keeps the limits, with outputs long enough, gets its result: what each operation but the moves then replies, and lent memory.
+--     tableau-result, recording-result            tableau and recording ribbon of a word
+--     insert-result                               one letter inserted
+--     word-result, reading-result                 pair back to word, column reading
+--     viewer-result, look-result                  the viewer and a look through it
+--     junction-result, same-class-result, weights-result           of words
+--     repeat-word-result, repeat-tableau-result                    repeat counts
+-- Moves are in Theory.MoveResults; that a refusal changes no lent memory is refused-keeps of Theory.Passing. Assumes nothing.
+use Prim.Native.Nat.{ℕ, suc, _≤_, _<_}
+use native.Mathlib.Omega.{arith}
+use mathlib.Core.Path.{_≡_}
+use mathlib.Core.List.{List, [], _∷_, _++_}
+use lib.ListN.{length, take}
+use lib.Seq.{length-take-le}
+use Rattle.hypoplactic.specs.Words.{Accepted, tick}
+use Rattle.hypoplactic.specs.Ribbons.{PairAt, TableauAt}
+use Rattle.hypoplactic.specs.Insertion.{Pair, insert, lettersOf, marksOf, recordingOf, wordOf}
+use Rattle.hypoplactic.specs.Reading.{columnReading}
+use Rattle.hypoplactic.specs.Moves.{Move, repeatTableau, repeatWord}
+use Rattle.hypoplactic.specs.Junctions.{junctionSet, rowsOf, sameClass}
+use Rattle.hypoplactic.specs.Weights.{compareWeights}
+use Rattle.hypoplactic.specs.Replies.{gives, passed, written}
+use Rattle.hypoplactic.specs.Judgements.{entriesJudged, fullJudged, indexJudged, lengthJudged, lettersJudged, marksJudged, pairJudgements, rankJudged, recordingJudged, risingJudged, roomJudged, tableauJudgements, usedJudged, wordJudgements}
+use Rattle.hypoplactic.specs.WordOperations.{comparisonNumber, junctionSays, repeatWordSays, sameClassSays, weightsSays, wordsJudgements}
+use Rattle.hypoplactic.specs.TableauOperations.{cellAt, insertRun, insertSays, lookSays, readingRun, readingSays, recordingRun, recordingSays, repeatTableauSays, tableauRun, tableauSays, usedCells, viewerSays, wordRun, wordSays, writtenPair}
+use Rattle.hypoplactic.proofs.Theory.Passing.{Passing, first-answer, first-both, passes-further, ran-answer}
+use Rattle.hypoplactic.proofs.Theory.Contents.{Inside, accepted-snoc}
+use Rattle.hypoplactic.proofs.Theory.Judgements.{full-judged, index-judged, letters-judged, room-judged, used-judged}
+use Rattle.hypoplactic.proofs.Theory.Judged.{pair-passing, tableau-passing, word-passing}
+
+-- ---- of a word
+
+module _ (n : ℕ) (w : List ℕ) (a : Accepted n w) where
+  -- The tableau, into letters and marks long enough.
+  pub tableau-result : (letters marks : List ℕ) → length w ≤ length letters → length w ≤ length marks
+      → tableauRun n w letters marks ≡ (gives (length w ∷ []), (written (lettersOf w) letters, written (marksOf w) marks))
+  unfolding tableauRun tableauSays
+  tableau-result letters marks p q =
+      ran-answer (wordJudgements n w) (roomJudged (length w) (length letters) ∷ roomJudged (length w) (length marks) ∷ []) _ _ _
+      (word-passing n w .1 a) (room-judged _ _ .1 p, (room-judged _ _ .1 q, tt))
+
+  -- The recording ribbon, into entries long enough.
+  pub recording-result : (entries : List ℕ) → length w ≤ length entries → recordingRun n w entries ≡ (gives (length w ∷ []), written (recordingOf w) entries)
+  unfolding recordingRun recordingSays
+  recording-result entries p = ran-answer (wordJudgements n w) (roomJudged (length w) (length entries) ∷ []) _ _ _ (word-passing n w .1 a) (room-judged _ _ .1 p, tt)
+
+  -- The junction set and the rows.
+  pub junction-result : junctionSays n w ≡ gives (junctionSet w ∷ rowsOf w ∷ [])
+  unfolding junctionSays
+  junction-result = first-answer (wordJudgements n w) _ (word-passing n w .1 a)
+
+  -- The repeat count of a move with an index of the rank.
+  pub repeat-word-result : (m : Move) → 1 ≤ m .index → m .index < n → repeatWordSays n m w ≡ gives (repeatWord m w ∷ [])
+  unfolding repeatWordSays
+  repeat-word-result m p q = first-both (wordJudgements n w) (indexJudged n (m .index) ∷ []) _ (word-passing n w .1 a) (index-judged n (m .index) .1 (p, q), tt)
+
+-- ---- of two words
+
+module _ (n : ℕ) (u : List ℕ) (m : ℕ) (v : List ℕ) (a : Accepted n u) (b : Accepted m v) where
+  -- All checks over both words.
+  words-passing : Passing (wordsJudgements n u m v)
+  words-passing =
+      let (rank, (short, (letters, t))) = word-passing n u .1 a in
+      let (rank′, (short′, (letters′, t′))) = word-passing m v .1 b in
+      (rank, (rank′, (short, (short′, (letters, (passes-further (length u) (lettersJudged m v) letters′, tt))))))
+
+  -- Whether they are of one class: 1 or 0.
+  pub same-class-result : sameClassSays n u m v ≡ gives (tick (sameClass n u m v) 0 ∷ [])
+  unfolding sameClassSays
+  same-class-result = first-answer (wordsJudgements n u m v) _ words-passing
+
+  -- The comparison of their weights: the first word's against the second's.
+  pub weights-result : weightsSays n u m v ≡ gives (comparisonNumber (compareWeights u v) ∷ [])
+  unfolding weightsSays
+  weights-result = first-answer (wordsJudgements n u m v) _ words-passing
+
+-- ---- of a tableau
+
+module _ (n : ℕ) (xs ms : List ℕ) (h : TableauAt n xs ms) where
+  -- The column reading, into letters long enough.
+  pub reading-result : (out : List ℕ) → length xs ≤ length out → readingRun n xs ms out ≡ (gives (length xs ∷ []), written (columnReading xs ms) out)
+  unfolding readingRun readingSays
+  reading-result out p = ran-answer (tableauJudgements n xs ms) (roomJudged (length xs) (length out) ∷ []) _ _ _ (tableau-passing n xs ms .1 h) (room-judged _ _ .1 p, tt)
+
+  -- The repeat count of a move with an index of the rank.
+  pub repeat-tableau-result : (m : Move) → 1 ≤ m .index → m .index < n → repeatTableauSays n m xs ms ≡ gives (repeatTableau m xs ms ∷ [])
+  unfolding repeatTableauSays
+  repeat-tableau-result m p q = first-both (tableauJudgements n xs ms) (indexJudged n (m .index) ∷ []) _ (tableau-passing n xs ms .1 h) (index-judged n (m .index) .1 (p, q), tt)
+
+  -- A viewer is made.
+  pub viewer-result : viewerSays n xs ms ≡ passed
+  unfolding viewerSays
+  viewer-result = first-answer (tableauJudgements n xs ms) _ (tableau-passing n xs ms .1 h)
+
+  -- A look at a cell through it.
+  pub look-result : (k : ℕ) → lookSays n xs ms k ≡ gives (cellAt xs ms k)
+  unfolding lookSays
+  look-result k = first-answer (tableauJudgements n xs ms) _ (tableau-passing n xs ms .1 h)
+
+-- ---- of a pair
+
+-- The word of a pair, into letters long enough.
+pub word-result : (n : ℕ) (xs ms rs out : List ℕ) → PairAt n xs ms rs → length xs ≤ length out
+    → wordRun n xs ms rs out ≡ (gives (length xs ∷ []), written (wordOf xs rs) out)
+unfolding wordRun wordSays
+word-result n xs ms rs out h p = ran-answer (pairJudgements n xs ms rs) (roomJudged (length xs) (length out) ∷ []) _ _ _ (pair-passing n xs ms rs .1 h) (room-judged _ _ .1 p, tt)
+
+-- One letter inserted into fewer than 1,024 used cells, with room for one more.
+pub insert-result : (n used a : ℕ) (p : Pair) → PairAt n (take used (p .letters)) (take used (p .marks)) (take used (p .recording)) → used < 1024 → Inside n a
+    → used < length (p .letters) → used < length (p .marks) → used < length (p .recording)
+    → insertRun n used a p ≡ (gives (suc used ∷ []), writtenPair (insert a (usedCells used p)) p)
+unfolding insertRun insertSays
+insert-result n used a p h few i as-letters as-marks as-recording =
+    let xs : List ℕ = take used (p .letters) in
+    let ms : List ℕ = take used (p .marks) in
+    let rs : List ℕ = take used (p .recording) in
+    let size : length xs ≡ used = length-take-le used (p .letters) (omega arith) in
+    let lengths : List ℕ = length (p .letters) ∷ length (p .marks) ∷ length (p .recording) ∷ [] in
+    let (rank, (short, (alike, (letters, (rising, (marks, (entries, (recording, t)))))))) = pair-passing n xs ms rs .1 h in
+    let held = used-judged used lengths .1 (omega arith) in
+    let all = letters-judged n (xs ++ a ∷ []) .1 (accepted-snoc (h .word) (omega arith) i .letters) in
+    ran-answer
+    (rankJudged n ∷ lengthJudged used ∷ usedJudged used lengths ∷ lettersJudged n (xs ++ a ∷ []) ∷ risingJudged xs ∷ marksJudged xs ms
+    ∷ entriesJudged used rs ∷ recordingJudged rs ms ∷ [])
+    (fullJudged used ∷ roomJudged (suc used) (length (p .letters)) ∷ roomJudged (suc used) (length (p .marks))
+    ∷ roomJudged (suc used) (length (p .recording)) ∷ []) _ _ _
+    (rank, (rw size at short, (held, (all, (rising, (marks, (rw size at entries, (recording, tt))))))))
+    (full-judged used .1 few, (room-judged _ _ .1 as-letters, (room-judged _ _ .1 as-marks, (room-judged _ _ .1 as-recording, tt))))
