@@ -3,9 +3,11 @@
 --     first js a       the first refusal of a list of judgements, else the answer a
 --     countOn k s      the same refusal k places further on: places in a second word count on from the first's length
 --     written vs old   a lent list with values at its beginning: elements beyond those needed keep their values
+--     OneNumber s t    both give values, or both refuse with one number
 --     ranTo s new old  the reply s beside lent memory: new where values are given, old where refused
 -- Assumes nothing.
 use Prim.Native.Nat.{ℕ, _+_}
+use mathlib.Core.Path.{_≡_}
 use mathlib.Core.List.{List, [], _∷_, _++_}
 use mathlib.Core.Bool.{Bool, true, false}
 use lib.ListN.{length, drop}
@@ -47,3 +49,10 @@ after (refused k p) new old = old
 
 abbrev pub ranTo : {A : Type 0} → Said → A → A → Said × A
 ranTo s new old = (s, after s new old)
+
+-- Two replies agree on whether, and with which number, they refuse.
+abbrev pub OneNumber : Said → Said → Type 0
+OneNumber (gives vs) (gives us) = Unit {0}
+OneNumber (gives vs) (refused k p) = ⊥
+OneNumber (refused k p) (gives vs) = ⊥
+OneNumber (refused k p) (refused j q) = k ≡ j

@@ -1,0 +1,115 @@
+-- Joined words get the same refusal number from every move, whether the words are accepted or not (beside theorem a). Only the place of 4 can differ.
+--     joined-refusal     the replies of a move to two joined words
+--     joined-reply       the same for accepted words, where the replies are equal
+-- Assumes nothing.
+use Prim.Native.Nat.{ℕ, suc}
+use mathlib.Core.Path.{_≡_, refl, sym, ap, ap₂, _∙_, subst}
+use mathlib.Core.Logic.{_↔_}
+use mathlib.Core.Bool.{Bool, true, false}
+use mathlib.Core.List.{List, [], _∷_, _++_}
+use lib.Dec.{eqb}
+use lib.ListN.{length}
+use Rattle.hypoplactic.specs.Words.{Accepted}
+use Rattle.hypoplactic.specs.Rewriting.{Joined}
+use Rattle.hypoplactic.specs.Moves.{Move, inverted, taken}
+use Rattle.hypoplactic.specs.Replies.{Said, gives, refused, passed, first, refuseIf, OneNumber}
+use Rattle.hypoplactic.specs.Judgements.{outside, rankJudged, lengthJudged, lettersFrom, lettersJudged, letterJudged, inversionJudged, indexJudged, wordJudgements}
+use Rattle.hypoplactic.specs.WordOperations.{moveJudgements, moveWordSays}
+use Rattle.hypoplactic.proofs.Theory.Passing.{Passes, first-past}
+use Rattle.hypoplactic.proofs.Theory.Contents.{within-counts}
+use Rattle.hypoplactic.proofs.Theory.Invariants.{joined-count, joined-inversion, joined-tableau}
+use Rattle.hypoplactic.proofs.Theory.Pairs.{length-letters}
+use Rattle.hypoplactic.proofs.Theory.Joining.{joined-sym}
+use Rattle.hypoplactic.proofs.Theory.Judgements.{letters-judged}
+use Rattle.hypoplactic.proofs.Theory.Judged.{word-passing}
+use Rattle.hypoplactic.proofs.Theory.Closure.{chain-accepted}
+
+-- ---- replies of one number
+
+one-same : (s : Said) → OneNumber s s
+one-same (gives vs) = tt
+one-same (refused k p) = refl
+
+one-equal : {s t : Said} → s ≡ t → OneNumber s t
+one-equal {s} e = subst (OneNumber s) e (one-same s)
+
+-- Judgements that agree one by one.
+abbrev OneByOne : List Said → List Said → Type 0
+OneByOne [] [] = Unit {0}
+OneByOne [] (k ∷ ks) = ⊥
+OneByOne (j ∷ js) [] = ⊥
+OneByOne (j ∷ js) (k ∷ ks) = OneNumber j k × OneByOne js ks
+
+first-one : (js ks : List Said) (a : Said) → OneByOne js ks → OneNumber (first js a) (first ks a)
+first-one [] [] a h = one-same a
+first-one (gives vs ∷ js) (gives us ∷ ks) a h = first-one js ks a (h .1)
+first-one (gives vs ∷ js) (refused k p ∷ ks) a h = absurd (h .0)
+first-one (refused k p ∷ js) (gives vs ∷ ks) a h = absurd (h .0)
+first-one (refused k p ∷ js) (refused i q ∷ ks) a h = h .0
+
+-- ---- the letters of joined words
+
+-- A refusal, if it is one, has the number k.
+abbrev Only : ℕ → Said → Type 0
+Only k (gives vs) = Unit {0}
+Only k (refused j p) = j ≡ k
+
+only-one : (k : ℕ) (s t : Said) → Only k s → Only k t → (Passes s ↔ Passes t) → OneNumber s t
+only-one k (gives vs) (gives us) a b f = tt
+only-one k (gives vs) (refused j p) a b f = f .0 tt
+only-one k (refused j p) (gives vs) a b f = f .1 tt
+only-one k (refused j p) (refused i q) a b f = a ∙ sym b
+
+letters-only : (n i : ℕ) (xs : List ℕ) → Only 4 (lettersFrom n i xs)
+letters-only n i [] = tt
+letters-only n i (x ∷ xs) = go (outside n x) (letters-only n (suc i) xs)
+  where
+    go : (b : Bool) → Only 4 (lettersFrom n (suc i) xs) → Only 4 (refuseIf b 4 i (lettersFrom n (suc i) xs))
+    go true h = refl
+    go false h = h
+
+module _ {u v : List ℕ} (j : Joined u v) where
+  letters-one : (n : ℕ) → OneNumber (lettersJudged n u) (lettersJudged n v)
+  unfolding lettersJudged
+  letters-one n = only-one 4 (lettersJudged n u) (lettersJudged n v) (letters-only n 0 u) (letters-only n 0 v) (across j, across (joined-sym j))
+    where
+      across : {s t : List ℕ} → Joined s t → Passes (lettersJudged n s) → Passes (lettersJudged n t)
+      across {s} {t} k h =
+          letters-judged n t .1 (within-counts n t .1 (λ a c. within-counts n s .0 (letters-judged n s .0 h) a (rw (joined-count k a) c)))
+
+  joined-length : length u ≡ length v
+  joined-length = sym (length-letters u) ∙ ap length (joined-tableau j .0) ∙ length-letters v
+
+  letter-same : (a : ℕ) → letterJudged a u ≡ letterJudged a v
+  unfolding letterJudged
+  letter-same a = ap (λ (c : ℕ). refuseIf (eqb c 0) 11 0 passed) (joined-count j a)
+
+  -- Every move replies to joined words with one number, or refuses neither.
+  pub joined-refusal : (n : ℕ) (m : Move) → OneNumber (moveWordSays n m u) (moveWordSays n m v)
+  unfolding moveWordSays
+  joined-refusal n m =
+      first-one (wordJudgements n u ++ moveJudgements n m (inverted (m .index) u) u) (wordJudgements n v ++ moveJudgements n m (inverted (m .index) v) v)
+      (gives []) (
+        one-same (rankJudged n),
+        (
+          one-equal (ap lengthJudged joined-length),
+          (
+            letters-one n,
+            (
+              one-same (indexJudged n (m .index)),
+              (
+                one-equal (ap inversionJudged (joined-inversion j (m .index))),
+                (one-equal (letter-same (taken (m .side) (m .index))), tt),
+              ),
+            ),
+          ),
+        ),
+      )
+
+  -- To accepted words that are joined it replies the same.
+  pub joined-reply : (n : ℕ) (m : Move) → Accepted n u → moveWordSays n m u ≡ moveWordSays n m v
+  unfolding moveWordSays
+  joined-reply n m a =
+      first-past (wordJudgements n u) (moveJudgements n m (inverted (m .index) u) u) (gives []) (word-passing n u .1 a)
+      ∙ ap₂ (λ (b : Bool) (k : Said). first (indexJudged n (m .index) ∷ inversionJudged b ∷ k ∷ []) (gives [])) (joined-inversion j (m .index)) (letter-same (taken (m .side) (m .index)))
+      ∙ sym (first-past (wordJudgements n v) (moveJudgements n m (inverted (m .index) v) v) (gives []) (word-passing n v .1 (chain-accepted a j)))

@@ -1,0 +1,57 @@
+-- Writers of lines: an input that keeps the limits, with room for the bytes, gets its line (theorem i), and the program prints the four lines. Assumes nothing.
+use Prim.Native.Nat.{ℕ, _≤_}
+use mathlib.Core.Path.{_≡_}
+use mathlib.Core.List.{List, [], _∷_, _++_}
+use lib.ListN.{length}
+use Rattle.grammar.specs.Lines.{wLine, tLine, nLine, jLine}
+use Rattle.hypoplactic.specs.Words.{Accepted, Within}
+use Rattle.hypoplactic.specs.Ribbons.{TableauAt}
+use Rattle.hypoplactic.specs.Insertion.{lettersOf, marksOf, recordingOf}
+use Rattle.hypoplactic.specs.Reading.{columnReading}
+use Rattle.hypoplactic.specs.Junctions.{junctionSet, rowsOf}
+use Rattle.hypoplactic.specs.Replies.{Said, gives, passed, written}
+use Rattle.hypoplactic.specs.Judgements.{lengthJudged, entriesJudged, roomJudged, wordJudgements, tableauJudgements}
+use Rattle.hypoplactic.specs.LineOperations.{tableauLine, lineRun, wLineRun, tLineRun, nLineRun, tableauLineRun, jLineRun, program}
+use Rattle.hypoplactic.proofs.Theory.Passing.{Passing, ran-answer, first-answer}
+use Rattle.hypoplactic.proofs.Theory.Once.{Simple}
+use Rattle.hypoplactic.proofs.Theory.Judgements.{length-judged, entries-judged, room-judged}
+use Rattle.hypoplactic.proofs.Theory.Judged.{word-passing, tableau-passing}
+
+-- Any writer whose checks refuse nothing, with room for its bytes.
+line-result : (checks : List Said) (bytes out : List ℕ) → Passing checks → length bytes ≤ length out → lineRun checks bytes out ≡ (gives (length bytes ∷ []), written bytes out)
+line-result checks bytes out p r = ran-answer checks (roomJudged (length bytes) (length out) ∷ []) (length bytes ∷ []) (written bytes out) out p (room-judged _ _ .1 r, tt)
+
+module _ (n : ℕ) (w : List ℕ) (a : Accepted n w) where
+  pub w-line-result : (out : List ℕ) → length (wLine n w) ≤ length out → wLineRun n w out ≡ (gives (length (wLine n w) ∷ []), written (wLine n w) out)
+  unfolding wLineRun
+  w-line-result out r = line-result (wordJudgements n w) (wLine n w) out (word-passing n w .1 a) r
+
+  -- The tableau line of an accepted word is written whole.
+  pub tableau-line-result : (out : List ℕ) → length (tableauLine n w) ≤ length out
+      → tableauLineRun n w out ≡ (gives (length (tableauLine n w) ∷ []), written (tableauLine n w) out)
+  unfolding tableauLineRun
+  tableau-line-result out r = line-result (wordJudgements n w) (tableauLine n w) out (word-passing n w .1 a) r
+
+  pub j-line-result : (out : List ℕ) → length (jLine (junctionSet w) (rowsOf w)) ≤ length out
+      → jLineRun n w out ≡ (gives (length (jLine (junctionSet w) (rowsOf w)) ∷ []), written (jLine (junctionSet w) (rowsOf w)) out)
+  unfolding jLineRun
+  j-line-result out r = line-result (wordJudgements n w) (jLine (junctionSet w) (rowsOf w)) out (word-passing n w .1 a) r
+
+  -- The program prints four lines for an accepted word.
+  pub program-result : program n w
+      ≡ tableauLine n w ++ (nLine (recordingOf w) ++ (wLine n (columnReading (lettersOf w) (marksOf w)) ++ jLine (junctionSet w) (rowsOf w)))
+  unfolding program
+  program-result = rw (first-answer (wordJudgements n w) passed (word-passing n w .1 a))
+
+pub t-line-result : (n : ℕ) (xs ms out : List ℕ) → TableauAt n xs ms → length (tLine n xs ms) ≤ length out
+    → tLineRun n xs ms out ≡ (gives (length (tLine n xs ms) ∷ []), written (tLine n xs ms) out)
+unfolding tLineRun
+t-line-result n xs ms out h r = line-result (tableauJudgements n xs ms) (tLine n xs ms) out (tableau-passing n xs ms .1 h) r
+
+-- A recording ribbon alone: at most 1,024 entries, each 1 to L, none twice.
+pub n-line-result : (rs out : List ℕ) → length rs ≤ 1024 → Within (length rs) rs → Simple rs → length (nLine rs) ≤ length out
+    → nLineRun rs out ≡ (gives (length (nLine rs) ∷ []), written (nLine rs) out)
+unfolding nLineRun
+n-line-result rs out l i s r =
+    line-result (lengthJudged (length rs) ∷ entriesJudged (length rs) rs ∷ []) (nLine rs) out
+    (length-judged (length rs) .1 l, (entries-judged (length rs) rs .1 (i, s), tt)) r
