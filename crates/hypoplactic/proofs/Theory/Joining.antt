@@ -5,6 +5,7 @@
 --     joined-under, joined-front, joined-back   a letter before, a word before, a word behind both words
 --     rule-acb, rule-bac, rule-cadb, rule-bdac  each rule at the head of a word, with any tail
 -- Assumes nothing.
+use native.Mathlib.Omega.{arith}
 use Prim.Native.Nat.{ℕ, _≤_, _<_}
 use mathlib.Core.Path.{_≡_, subst}
 use mathlib.Core.List.{List, [], _∷_, _++_, append-assoc}
@@ -59,14 +60,14 @@ joined-back b (via s p) = via (step-back b s) (joined-back b p)
 -- The rules at the head of a word.
 module _ {a b c : ℕ} {t : List ℕ} where
   pub rule-acb : a ≤ b → b < c → Joined (a ∷ c ∷ b ∷ t) (c ∷ a ∷ b ∷ t)
-  rule-acb p q = via (forth [] t (acb-cab p q)) same
+  rule-acb p q = via (forth [] t (acb-cab {a = a} {b = b} {c = c} (omega arith) (omega arith))) same
 
   pub rule-bac : a < b → b ≤ c → Joined (b ∷ a ∷ c ∷ t) (b ∷ c ∷ a ∷ t)
-  rule-bac p q = via (forth [] t (bac-bca p q)) same
+  rule-bac p q = via (forth [] t (bac-bca {a = a} {b = b} {c = c} (omega arith) (omega arith))) same
 
 module _ {a b c d : ℕ} {t : List ℕ} where
   pub rule-cadb : a ≤ b → b < c → c ≤ d → Joined (c ∷ a ∷ d ∷ b ∷ t) (a ∷ c ∷ b ∷ d ∷ t)
-  rule-cadb p q r = via (forth [] t (cadb-acbd p q r)) same
+  rule-cadb p q r = via (forth [] t (cadb-acbd {a = a} {b = b} {c = c} {d = d} (omega arith) (omega arith) (omega arith))) same
 
   pub rule-bdac : a < b → b ≤ c → c < d → Joined (b ∷ d ∷ a ∷ c ∷ t) (d ∷ b ∷ c ∷ a ∷ t)
-  rule-bdac p q r = via (forth [] t (bdac-dbca p q r)) same
+  rule-bdac p q r = via (forth [] t (bdac-dbca {a = a} {b = b} {c = c} {d = d} (omega arith) (omega arith) (omega arith))) same

@@ -62,7 +62,7 @@ module _ (n : ℕ) (u : List ℕ) (m : ℕ) (v : List ℕ) (a : Accepted n u) (b
   words-passing =
       let (rank, (short, (letters, t))) = word-passing n u .1 a in
       let (rank′, (short′, (letters′, t′))) = word-passing m v .1 b in
-      (rank, (rank′, (short, (short′, (letters, (passes-further (length u) (lettersJudged m v) letters′, tt))))))
+      (rank, (rank′, (short, (short′, (letters, (passes-further _ (lettersJudged m v) letters′, tt))))))
 
   -- Whether they are of one class: 1 or 0.
   pub same-class-result : sameClassSays n u m v ≡ gives (tick (sameClass n u m v) 0 ∷ [])
