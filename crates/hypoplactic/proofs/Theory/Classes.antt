@@ -3,8 +3,8 @@
 --     same-tableau-joined   words of one tableau are joined
 --     faithful              the core: any line that tells tableaux apart, any set of allowed moves, no bound on rank or length
 --     classes               demand 3: at every rank, for any two words accepted at it, with the tableau line and the moves of that rank
--- Around it: joined words get one reply, so one refusal number, from every move; joining is decidable. What shows that the claim is not
--- vacuous stands in Examples. Assumes nothing.
+-- Around it: that the claim is not vacuous stands in Examples, that joined words get one refusal number from every move in JoinedReplies, that
+-- joining is the same-class test and decidable in OneClass. Assumes nothing.
 use Prim.Native.Nat.{ℕ, zero, suc, zero-le}
 use native.Mathlib.Nat.{le-refl}
 use native.Mathlib.Omega.{arith}
