@@ -57,10 +57,14 @@ moreDigits zero n t = got n t
 moreDigits (suc k) n [] = got n []
 moreDigits (suc k) n (b ∷ t) = cond (digit b) (moreDigits k (n * 10 + (b - 48)) t) (got n (b ∷ t))
 
+-- After its first digit a number has at most so many more.
+abbrev pub furtherDigits : ℕ
+furtherDigits = 3
+
 -- A number.
 abbrev pub readNumber : List ℕ → Read ℕ
 readNumber [] = broken []
-readNumber (b ∷ t) = cond (eqb b 48) (got 0 t) (cond (digit b) (moreDigits 3 (b - 48) t) (broken (b ∷ t)))
+readNumber (b ∷ t) = cond (eqb b 48) (got 0 t) (cond (digit b) (moreDigits furtherDigits (b - 48) t) (broken (b ∷ t)))
 
 -- A comma and a number.
 abbrev pub readField : List ℕ → Read ℕ

@@ -54,15 +54,9 @@ any (x ∷ xs) = (tt, any xs)
 field-cuts : Cut Any field
 field-cuts = record { cut = λ n m s t x y d e h. decimal-cut n m s t d e (ap (drop 1) h); opens = λ n t. refl }
 
-first-cuts : Cut (First Any) firstCell
-first-cuts =
-    record {
-      cut = λ a b s t x y d e h.
-          let r : (a .0 ≡ b .0) × (s ≡ t) = decimal-cut (a .0) (b .0) s t d e (ap (drop 1) h) in
-          let m : a .1 ≡ b .1 = x .1 ∙ sym (y .1) in
-          (λ i. (r .0 i, m i), r .1);
-      opens = λ a t. refl;
-    }
+-- Cells of one letter and one mark, and what follows them.
+cell-cut : (a b : ℕ × ℕ) (s t : List ℕ) → Ends s → Ends t → decimal (a .0) ++ s ≡ decimal (b .0) ++ t → a .1 ≡ b .1 → (a ≡ b) × (s ≡ t)
+cell-cut a b s t d e h m = let r : (a .0 ≡ b .0) × (s ≡ t) = decimal-cut (a .0) (b .0) s t d e h in (λ i. (r .0 i, m i), r .1)
 
 -- A step's letter tells the mark.
 step-mark : (m k : ℕ) → m ≤ 1 → k ≤ 1 → step m ≡ step k → m ≡ k
@@ -71,13 +65,14 @@ step-mark zero (suc k) h g e = let z : ⊥ = omega arith in absurd z
 step-mark (suc m) zero h g e = let z : ⊥ = omega arith in absurd z
 step-mark (suc m) (suc k) h g e = omega arith
 
+first-cuts : Cut (First Any) firstCell
+first-cuts = record { cut = λ a b s t x y d e h. cell-cut a b s t d e (ap (drop 1) h) (x .1 ∙ sym (y .1)); opens = λ a t. refl }
+
 cell-cuts : Cut (Cell Any) cell
 cell-cuts =
     record {
       cut = λ a b s t x y d e h.
-          let r : (a .0 ≡ b .0) × (s ≡ t) = decimal-cut (a .0) (b .0) s t d e (ap (drop 3) h) in
-          let m : a .1 ≡ b .1 = step-mark (a .1) (b .1) (x .1) (y .1) (ap (λ (l : List ℕ). getD l 1 0) h) in
-          (λ i. (r .0 i, m i), r .1);
+          cell-cut a b s t d e (ap (drop 3) h) (step-mark (a .1) (b .1) (x .1) (y .1) (ap (λ (l : List ℕ). getD l 1 0) h));
       opens = λ a t. refl;
     }
 

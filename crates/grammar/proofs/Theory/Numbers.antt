@@ -1,4 +1,5 @@
 -- Numbers read back from their digits.
+--     number-zero       after a 0 nothing more is taken
 --     number-read       a number of at most four digits, by the grammar, where no digit follows
 --     decimal-cut       digits that no digit follows determine their number and what follows
 -- Assumes nothing.
@@ -11,18 +12,18 @@ use native.Mathlib.Omega.{arith}
 use borrow.Author.Tests.{le-leb, ne-eqb}
 use Rattle.grammar.specs.Numbers.{decimal}
 use Rattle.grammar.specs.Values.{Short}
-use Rattle.grammar.specs.Reading.{Read, got, digit, moreDigits, readNumber}
+use Rattle.grammar.specs.Reading.{Read, got, digit, furtherDigits, moreDigits, readNumber}
 use Rattle.grammar.proofs.Theory.Decimal.{decimal-digit, decimal-more}
 
 digit-is : (d : ℕ) → d < 10 → digit (48 + d) ≡ true
 digit-is d h = rw (le-leb 48 (48 + d) (omega arith), le-leb (48 + d) 57 (omega arith))
 
 -- A number's digits, read as far as they go: j is how many there are beside the first, k how many more there may be.
-number-begun : (j k n : ℕ) (t : List ℕ) → 10 ^ j ≤ n → n < 10 ^ suc j → j + k ≡ 3 → readNumber (decimal n ++ t) ≡ moreDigits k n t
+number-begun : (j k n : ℕ) (t : List ℕ) → 10 ^ j ≤ n → n < 10 ^ suc j → j + k ≡ furtherDigits → readNumber (decimal n ++ t) ≡ moreDigits k n t
 number-begun zero k n t low high e =
-    let three : k ≡ 3 = omega arith in
+    let all : k ≡ furtherDigits = omega arith in
     let back : 48 + n - 48 ≡ n = omega arith in
-    rw (three, decimal-digit n high, ne-eqb (48 + n) 48 (omega arith), digit-is n high, back)
+    rw (all, decimal-digit n high, ne-eqb (48 + n) 48 (omega arith), digit-is n high, back)
 number-begun (suc j) k n t low high e =
     let back : n / 10 * 10 + (48 + n % 10 - 48) ≡ n = omega arith in
     rw (decimal-more n (omega arith), append-assoc)
@@ -30,10 +31,10 @@ number-begun (suc j) k n t low high e =
     ∙ rw (digit-is (n % 10) (omega arith), back))
 
 -- A number of more than j digits, read as far as they go.
-number-sized : (k j n : ℕ) → j + k ≡ 3 → 10 ^ j ≤ n → Short n → (l : ℕ) × ((t : List ℕ) → readNumber (decimal n ++ t) ≡ moreDigits l n t)
+number-sized : (k j n : ℕ) → j + k ≡ furtherDigits → 10 ^ j ≤ n → Short n → (l : ℕ) × ((t : List ℕ) → readNumber (decimal n ++ t) ≡ moreDigits l n t)
 number-sized zero j n e low h =
-    let three : j ≡ 3 = omega arith in
-    (0, λ t. number-begun 3 0 n t (rw three at low) h refl)
+    let all : j ≡ furtherDigits = omega arith in
+    (0, λ t. number-begun furtherDigits 0 n t (rw all at low) (omega arith) refl)
 number-sized (suc k) j n e low h =
     elim (decLt n (10 ^ suc j)) [
       | yes p ↦ (suc k, λ t. number-begun j (suc k) n t low p e)
@@ -42,7 +43,7 @@ number-sized (suc k) j n e low h =
 
 -- A number but 0, read as far as its digits go: the rest of the text is left to the digits that may still come.
 pub number-digits : (n : ℕ) → 0 < n → Short n → (l : ℕ) × ((t : List ℕ) → readNumber (decimal n ++ t) ≡ moreDigits l n t)
-number-digits n p h = number-sized 3 0 n refl p h
+number-digits n p h = number-sized furtherDigits 0 n refl p h
 
 -- The text goes on with no digit.
 abbrev pub Ends : List ℕ → Type 0
@@ -54,10 +55,14 @@ digits-end zero n t h = refl
 digits-end (suc k) n [] h = refl
 digits-end (suc k) n (b ∷ t) h = rw h
 
+-- After a 0 nothing more is taken, whatever follows.
+pub number-zero : (t : List ℕ) → readNumber (decimal 0 ++ t) ≡ got 0 t
+unfolding decimal
+number-zero t = refl
+
 -- A number is read back where no digit follows.
 pub number-read : (n : ℕ) (t : List ℕ) → Short n → Ends t → readNumber (decimal n ++ t) ≡ got n t
-unfolding decimal
-number-read zero t h stop = refl
+number-read zero t h stop = number-zero t
 number-read (suc n) t h stop =
     let d : (l : ℕ) × ((t : List ℕ) → readNumber (decimal (suc n) ++ t) ≡ moreDigits l (suc n) t) = number-digits (suc n) (omega arith) h in
     d .1 t ∙ digits-end (d .0) (suc n) t stop

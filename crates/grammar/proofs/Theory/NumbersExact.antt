@@ -11,9 +11,9 @@ use borrow.Author.Tests.{leb-true, eqb-true, eqb-false}
 use Rattle.grammar.specs.Numbers.{decimal}
 use Rattle.grammar.specs.Lines.{field, step}
 use Rattle.grammar.specs.Values.{Short}
-use Rattle.grammar.specs.Reading.{Read, got, broken, digit, moreDigits, readNumber, readField, readStep}
+use Rattle.grammar.specs.Reading.{Read, got, broken, digit, furtherDigits, moreDigits, readNumber, readField, readStep}
 use Rattle.grammar.proofs.Theory.Decimal.{decimal-digit, decimal-more}
-use Rattle.grammar.proofs.Theory.Numbers.{number-digits}
+use Rattle.grammar.proofs.Theory.Numbers.{number-digits, number-zero}
 use Rattle.grammar.proofs.Theory.Exact.{Broke, Exact, not-both, at-once, after-exact}
 
 digit-range : (b : ℕ) → digit b ≡ true → (48 ≤ b) × (b ≤ 57)
@@ -70,7 +70,7 @@ number-sound : (t : List ℕ) (n : ℕ) (rest : List ℕ) → readNumber t ≡ g
 number-sound [] n rest h = absurd (not-both (sym h))
 number-sound (b ∷ t) n rest h = go (eqb b 48) (digit b) refl refl h
   where
-    go : (x y : Bool) → eqb b 48 ≡ x → digit b ≡ y → cond x (got 0 t) (cond y (moreDigits 3 (b - 48) t) (broken (b ∷ t))) ≡ got n rest → Short n × (b ∷ t ≡ decimal n ++ rest)
+    go : (x y : Bool) → eqb b 48 ≡ x → digit b ≡ y → cond x (got 0 t) (cond y (moreDigits furtherDigits (b - 48) t) (broken (b ∷ t))) ≡ got n rest → Short n × (b ∷ t ≡ decimal n ++ rest)
     go true y d e h =
         let z : 0 ≡ n = cc in
         let u : t ≡ rest = cc in
@@ -78,7 +78,7 @@ number-sound (b ∷ t) n rest h = go (eqb b 48) (digit b) refl refl h
     go false true d e h =
         let range : (48 ≤ b) × (b ≤ 57) = digit-range b e in
         let more : b ≢ 48 = eqb-false b 48 d in
-        let r : Taken (b - 48) t n rest = more-taken 3 1 (b - 48) t n rest refl (omega arith) (omega arith) h in
+        let r : Taken (b - 48) t n rest = more-taken furtherDigits 1 (b - 48) t n rest refl (omega arith) (omega arith) h in
         let back : 48 + (b - 48) ≡ b = omega arith in
         (r .short, sym (rw (decimal-digit (b - 48) (omega arith), back)) ∙ r .text)
     go false false d e h = absurd (not-both (sym h))
@@ -107,7 +107,7 @@ more-steady (suc k) n b s z p h = go (digit b) refl h
     go false d h = rw d
 
 number-steady : (t : List ℕ) (n b : ℕ) (s z : List ℕ) → readNumber t ≡ got n (b ∷ s) → readNumber (decimal n ++ (b ∷ z)) ≡ got n (b ∷ z)
-number-steady t zero b s z h = rw (decimal-digit 0 (omega arith))
+number-steady t zero b s z h = number-zero (b ∷ z)
 number-steady t (suc n) b s z h =
     let x : Short (suc n) × (t ≡ decimal (suc n) ++ (b ∷ s)) = number-sound t (suc n) (b ∷ s) h in
     let d : (l : ℕ) × ((u : List ℕ) → readNumber (decimal (suc n) ++ u) ≡ moreDigits l (suc n) u) = number-digits (suc n) (omega arith) (x .0) in
@@ -126,7 +126,7 @@ number-broke : (t rest : List ℕ) → readNumber t ≡ broken rest → Broke Sh
 number-broke [] rest h = at-once decimal readNumber 0 (omega arith) [] rest (cc) (λ b s z e. cc)
 number-broke (c ∷ t) rest h = go (eqb c 48) (digit c) refl refl h
   where
-    go : (x y : Bool) → eqb c 48 ≡ x → digit c ≡ y → cond x (got 0 t) (cond y (moreDigits 3 (c - 48) t) (broken (c ∷ t))) ≡ broken rest → Broke Short decimal readNumber (c ∷ t) rest
+    go : (x y : Bool) → eqb c 48 ≡ x → digit c ≡ y → cond x (got 0 t) (cond y (moreDigits furtherDigits (c - 48) t) (broken (c ∷ t))) ≡ broken rest → Broke Short decimal readNumber (c ∷ t) rest
     go true y d e h = absurd (not-both h)
     go false true d e h = absurd (more-gives 3 (c - 48) t rest h)
     go false false d e h = at-once decimal readNumber 0 (omega arith) (c ∷ t) rest (cc) (λ b s z i. let q : c ≡ b = cc in rw (← q, d, e))
