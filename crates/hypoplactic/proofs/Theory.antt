@@ -42,9 +42,11 @@ pub mod OneClass
 pub mod WeightOrder
 -- ---- replies
 pub mod Passing
+pub mod Memory
 pub mod Once
 pub mod Judgements
 pub mod StepJudgements
+pub mod FirstPlaces
 pub mod Judged
 pub mod Results
 pub mod MoveResults

@@ -75,15 +75,15 @@ unfoldable pub entriesJudged : ℕ → List ℕ → Said
 entriesJudged L rs = entriesFrom L [] 0 rs
 
 -- Whether the entries r and then s break the step between them: a rise at a down step, a fall at a right step.
-abbrev pub broken : ℕ → ℕ → ℕ → Bool
-broken zero r s = ltb s r
-broken (suc m) r s = ltb r s
+abbrev pub stepBroken : ℕ → ℕ → ℕ → Bool
+stepBroken zero r s = ltb s r
+stepBroken (suc m) r s = ltb r s
 
 -- 8: a step that the entries break, at the later cell's place, the cells from place i on after r.
 abbrev pub stepsFrom : ℕ → ℕ → List ℕ → List ℕ → Said
 stepsFrom i r [] ms = passed
 stepsFrom i r (s ∷ ss) [] = passed
-stepsFrom i r (s ∷ ss) (m ∷ ms) = refuseIf (broken m r s) 8 i (stepsFrom (suc i) s ss ms)
+stepsFrom i r (s ∷ ss) (m ∷ ms) = refuseIf (stepBroken m r s) 8 i (stepsFrom (suc i) s ss ms)
 
 unfoldable pub recordingJudged : List ℕ → List ℕ → Said
 recordingJudged [] ms = passed

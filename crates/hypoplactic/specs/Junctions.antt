@@ -7,11 +7,12 @@
 -- Assumes nothing.
 use Prim.Native.Nat.{ℕ, zero, suc, _*_}
 use mathlib.Core.List.{List, [], _∷_}
-use mathlib.Core.Bool.{Bool, true, false, _&&_, _||_, cond}
+use mathlib.Core.Bool.{Bool, true, false, _&&_, cond}
 use mathlib.Core.Option.{Option, none, some}
 use lib.Count.{ones}
 use lib.Dec.{eqb, ltb}
 use Rattle.hypoplactic.specs.Words.{before, count, tick}
+use Rattle.hypoplactic.specs.Ribbons.{downStep}
 
 -- The smaller of x and another number, if there is another.
 abbrev pub least : ℕ → Option ℕ → ℕ
@@ -54,14 +55,10 @@ sameCounts (suc n) k u v = eqb (count k u) (count k v) && sameCounts n (suc k) u
 unfoldable pub sameClass : ℕ → List ℕ → ℕ → List ℕ → Bool
 sameClass n u m v = eqb n m && sameCounts 64 1 u v && eqb (junctionSet u) (junctionSet v)
 
--- A down step out of a, in the cells of a tableau after one that holds x.
-abbrev pub downOutAfter : ℕ → ℕ → List ℕ → List ℕ → Bool
-downOutAfter a x [] ms = false
-downOutAfter a x (y ∷ ys) [] = false
-downOutAfter a x (y ∷ ys) (m ∷ ms) = eqb x a && eqb m 1 || downOutAfter a y ys ms
+-- Out of a, whatever follows.
+abbrev pub outOf : ℕ → ℕ → ℕ → Bool
+outOf a x y = eqb x a
 
--- Some cell with the mark 1 comes straight after a cell with the letter a.
+-- A down step leads out of a cell with the letter a.
 abbrev pub downOut : ℕ → List ℕ → List ℕ → Bool
-downOut a [] ms = false
-downOut a (x ∷ xs) [] = false
-downOut a (x ∷ xs) (m ∷ ms) = downOutAfter a x xs ms
+downOut a xs ms = downStep (outOf a) xs ms

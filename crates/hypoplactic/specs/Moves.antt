@@ -10,11 +10,12 @@
 -- Assumes nothing.
 use Prim.Native.Nat.{ℕ, zero, suc}
 use mathlib.Core.List.{List, [], _∷_}
-use mathlib.Core.Bool.{Bool, true, false, _&&_, _||_, cond}
+use mathlib.Core.Bool.{Bool, true, false, _&&_, cond}
 use mathlib.Core.Option.{Option, none, some}
 use lib.Dec.{eqb, ltb}
 use lib.ListN.{set}
 use Rattle.hypoplactic.specs.Words.{before, count}
+use Rattle.hypoplactic.specs.Ribbons.{downStep}
 
 -- The raising operators are the paper's e, the lowering ones its f.
 pub data Side : Type 0 where
@@ -38,17 +39,13 @@ given lowering i = suc i
 abbrev pub inverted : ℕ → List ℕ → Bool
 inverted i w = before w i (suc i)
 
--- The same in the cells of a tableau after one that holds x.
-abbrev pub belowAfter : ℕ → ℕ → List ℕ → List ℕ → Bool
-belowAfter i x [] ms = false
-belowAfter i x (y ∷ ys) [] = false
-belowAfter i x (y ∷ ys) (m ∷ ms) = eqb x i && eqb y (suc i) && eqb m 1 || belowAfter i y ys ms
+-- From i directly down to i+1.
+abbrev pub fromTo : ℕ → ℕ → ℕ → Bool
+fromTo i x y = eqb x i && eqb y (suc i)
 
 -- The inversion of a tableau: i+1 stands directly below i.
 abbrev pub below : ℕ → List ℕ → List ℕ → Bool
-below i [] ms = false
-below i (x ∷ xs) [] = false
-below i (x ∷ xs) (m ∷ ms) = belowAfter i x xs ms
+below i xs ms = downStep (fromTo i) xs ms
 
 -- One place further on.
 abbrev pub onward : Option ℕ → Option ℕ

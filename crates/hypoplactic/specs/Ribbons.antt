@@ -5,11 +5,14 @@
 --     Recording ms rs     the entries rs are a recording ribbon of the shape that the marks ms tell
 --     ValidPair xs ms rs  both
 --     TableauAt n xs ms, PairAt n xs ms rs   the same within the limits of rank n
+--     downStep f xs ms    some down step joins two entries that pass the test f
 --     rowAt, columnAt     the row and the column of a cell, from 0
 -- Assumes nothing.
 use Prim.Native.Nat.{ℕ, zero, suc, _≤_, _<_}
 use mathlib.Core.Path.{_≡_}
 use mathlib.Core.List.{List, [], _∷_}
+use mathlib.Core.Bool.{Bool, false, _&&_, _||_}
+use lib.Dec.{eqb}
 use lib.ListN.{length, take, drop}
 use Rattle.hypoplactic.specs.Words.{Accepted, count}
 
@@ -62,6 +65,18 @@ pub record TableauAt (n : ℕ) (xs ms : List ℕ) : Type 0 where
 pub record PairAt (n : ℕ) (xs ms rs : List ℕ) : Type 0 where
   pub word : Accepted n xs
   pub pair : ValidPair xs ms rs
+
+-- Whether a down step joins entries that pass a test, in the cells after one that holds x.
+abbrev pub downAfter : (ℕ → ℕ → Bool) → ℕ → List ℕ → List ℕ → Bool
+downAfter f x [] ms = false
+downAfter f x (y ∷ ys) [] = false
+downAfter f x (y ∷ ys) (m ∷ ms) = f x y && eqb m 1 || downAfter f y ys ms
+
+-- The same from the first cell on.
+abbrev pub downStep : (ℕ → ℕ → Bool) → List ℕ → List ℕ → Bool
+downStep f [] ms = false
+downStep f (x ∷ xs) [] = false
+downStep f (x ∷ xs) (m ∷ ms) = downAfter f x xs ms
 
 -- The row of the cell at place k: the down steps up to it.
 abbrev pub rowAt : List ℕ → ℕ → ℕ

@@ -5,7 +5,8 @@
 -- Assumes nothing.
 use Prim.Native.Nat.{ℕ}
 use mathlib.Core.Path.{_≡_, refl, sym, ap, _∙_, subst}
-use mathlib.Core.Bool.{Bool, true, false, cond}
+use mathlib.Core.Bool.{Bool, true, false}
+use mathlib.Core.Logic.{_⊎_, inl, inr, ⊎-elim}
 use mathlib.Core.List.{List, [], _∷_, _++_, append-assoc}
 use native.Mathlib.Omega.{arith}
 use lib.Dec.{eqb}
@@ -67,30 +68,32 @@ ended-exact = record { some = tt; fine = tt; sound = sound; steady = steady; bro
 
 -- A byte, and what follows it.
 module _ {A : Type 0} {Good : A → Type 0} {put : A → List ℕ} {get : List ℕ → Read A} (k : ℕ) (f : Exact Good put get) where
+  -- The byte that is due is passed; at any other the reading breaks.
+  after-cases : (c : ℕ) (t : List ℕ) → ((c ≡ k) × (after k get (c ∷ t) ≡ get t)) ⊎ ((eqb c k ≡ false) × (after k get (c ∷ t) ≡ broken (c ∷ t)))
+  after-cases c t = go (eqb c k) refl
+    where
+      go : (x : Bool) → eqb c k ≡ x → ((c ≡ k) × (after k get (c ∷ t) ≡ get t)) ⊎ ((eqb c k ≡ false) × (after k get (c ∷ t) ≡ broken (c ∷ t)))
+      go true e = inl (eqb-true c k e, rw e)
+      go false e = inr (e, rw e)
+
   after-sound : (t : List ℕ) (a : A) (rest : List ℕ) → after k get t ≡ got a rest → Good a × (t ≡ k ∷ (put a ++ rest))
   after-sound [] a rest h = absurd (not-both (sym h))
-  after-sound (b ∷ t) a rest h = go (eqb b k) refl h
-    where
-      go : (x : Bool) → eqb b k ≡ x → cond x (get t) (broken (b ∷ t)) ≡ got a rest → Good a × (b ∷ t ≡ k ∷ (put a ++ rest))
-      go true e h = let r : Good a × (t ≡ put a ++ rest) = f .sound t a rest h in let q : b ≡ k = eqb-true b k e in (r .0, rw (q, r .1))
-      go false e h = absurd (not-both (sym h))
+  after-sound (b ∷ t) a rest h =
+      ⊎-elim (λ c. let r : Good a × (t ≡ put a ++ rest) = f .sound t a rest (sym (c .1) ∙ h) in (r .0, rw (c .0, r .1))) (λ c. absurd (not-both (sym h ∙ c .1)))
+      (after-cases b t)
 
   after-steady : (t : List ℕ) (a : A) (b : ℕ) (s z : List ℕ) → after k get t ≡ got a (b ∷ s) → after k get (k ∷ (put a ++ (b ∷ z))) ≡ got a (b ∷ z)
   after-steady [] a b s z h = absurd (not-both (sym h))
-  after-steady (c ∷ t) a b s z h = go (eqb c k) refl h
-    where
-      go : (x : Bool) → eqb c k ≡ x → cond x (get t) (broken (c ∷ t)) ≡ got a (b ∷ s) → after k get (k ∷ (put a ++ (b ∷ z))) ≡ got a (b ∷ z)
-      go true e h = rw (eq-eqb k k refl) (f .steady t a b s z h)
-      go false e h = absurd (not-both (sym h))
+  after-steady (c ∷ t) a b s z h =
+      ⊎-elim (λ d. rw (eq-eqb k k refl) (f .steady t a b s z (sym (d .1) ∙ h))) (λ d. absurd (not-both (sym h ∙ d .1))) (after-cases c t)
 
   after-broke : (t rest : List ℕ) → after k get t ≡ broken rest → Broke Good (λ a. k ∷ put a) (after k get) t rest
   after-broke [] rest h = at-once (λ a. k ∷ put a) (after k get) (f .some) (f .fine) [] rest (cc) (λ b s z e. cc)
-  after-broke (c ∷ t) rest h = go (eqb c k) refl h
+  after-broke (c ∷ t) rest h = ⊎-elim (λ d. on (d .0) (sym (d .1) ∙ h)) (λ d. here (d .0) (sym (d .1) ∙ h)) (after-cases c t)
     where
-      go : (x : Bool) → eqb c k ≡ x → cond x (get t) (broken (c ∷ t)) ≡ broken rest → Broke Good (λ a. k ∷ put a) (after k get) (c ∷ t) rest
-      go true e h =
+      on : c ≡ k → get t ≡ broken rest → Broke Good (λ a. k ∷ put a) (after k get) (c ∷ t) rest
+      on q h =
           let r : Broke Good put get t rest = f .broke t rest h in
-          let q : c ≡ k = eqb-true c k e in
           record {
             begun = k ∷ r .begun;
             parts = λ i. q i ∷ r .parts i;
@@ -100,8 +103,9 @@ module _ {A : Type 0} {Good : A → Type 0} {put : A → List ℕ} {get : List �
             goes-on = λ i. k ∷ r .goes-on i;
             stays = λ b s z d. rw (eq-eqb k k refl) (r .stays b s z d);
           }
-      go false e h =
-          at-once (λ a. k ∷ put a) (after k get) (f .some) (f .fine) (c ∷ t) rest (cc) (λ b s z d. let q : c ≡ b = cc in rw (← q, e))
+
+      here : eqb c k ≡ false → _≡_ {A = Read A} (broken (c ∷ t)) (broken rest) → Broke Good (λ a. k ∷ put a) (after k get) (c ∷ t) rest
+      here e h = at-once (λ a. k ∷ put a) (after k get) (f .some) (f .fine) (c ∷ t) rest (cc) (λ b s z d. let q : c ≡ b = cc in rw (← q, e))
 
   pub after-exact : Exact Good (λ a. k ∷ put a) (after k get)
   after-exact = record { some = f .some; fine = f .fine; sound = after-sound; steady = after-steady; broke = after-broke }

@@ -7,12 +7,11 @@
 -- joining is the same-class test and decidable in OneClass. Assumes nothing.
 use Prim.Native.Nat.{ℕ, zero, suc, zero-le}
 use native.Mathlib.Nat.{le-refl}
-use native.Mathlib.Omega.{arith}
 use mathlib.Core.Path.{_≡_, refl, sym, _∙_, ap₂, subst₂}
 use mathlib.Core.Bool.{Bool, true, false, cond}
 use mathlib.Core.List.{List, [], _∷_}
 use mathlib.Core.Logic.{_↔_}
-use mathlib.Core.Option.{Option, none, some}
+use mathlib.Core.Option.{Option, none, some, Option·map, Option·none-ne-some, Option·some-injective}
 use Rattle.grammar.specs.Lines.{tLine}
 use Rattle.grammar.specs.Values.{Marked, Stepped}
 use Rattle.grammar.proofs.Theory.Determined.{t-determined}
@@ -29,20 +28,13 @@ use Rattle.hypoplactic.proofs.Theory.NormalForm.{word-reading}
 use Rattle.hypoplactic.proofs.Theory.Boundary.{tableau-of-word}
 use Rattle.hypoplactic.proofs.Theory.Invariants.{joined-tableau}
 use Rattle.hypoplactic.proofs.Theory.MoveRecording.{move-recording}
-use Rattle.hypoplactic.proofs.Theory.MoveTableau.{tableau-moved, tableau-unmoved}
+use Rattle.hypoplactic.proofs.Theory.MoveTableau.{tableau-answer}
 
 -- Words of one tableau are joined: each is joined to the tableau's column reading.
 pub same-tableau-joined : (u v : List ℕ) → lettersOf u ≡ lettersOf v → marksOf u ≡ marksOf v → Joined u v
 same-tableau-joined u v p q = word-reading u ⨾ joined-eq (ap₂ columnReading p q) ⨾ joined-sym (word-reading v)
 
 -- ---- moves on words of one tableau
-
--- A result is not both undefined and defined.
-none-some : {A : Type 0} {w : List ℕ} → none ≡ some w → A
-none-some e = let z : _≡_ {A = ℕ} 0 1 = cc in let f : ⊥ = omega arith in absurd f
-
-some-same : {u v : List ℕ} → some u ≡ some v → u ≡ v
-some-same e = cc
 
 -- Both results are defined and have one tableau, or neither is defined.
 abbrev pub Alike : Option (List ℕ) → Option (List ℕ) → Type 0
@@ -59,17 +51,14 @@ alike-defined (some u) (some v) h = (λ x. x, λ x. x)
 
 -- A move on two words of one tableau.
 pub moves-alike : (m : Move) (u v : List ℕ) → lettersOf u ≡ lettersOf v → marksOf u ≡ marksOf v → Alike (movedWord m u) (movedWord m v)
-moves-alike m u v p q = go (movedWord m u) (movedWord m v) refl refl
+moves-alike m u v p q = go (movedWord m u) (movedWord m v) refl refl (sym (tableau-answer m u) ∙ ap₂ (movedTableau m) p q ∙ tableau-answer m v)
   where
-    one : movedTableau m (lettersOf u) (marksOf u) ≡ movedTableau m (lettersOf v) (marksOf v)
-    one = ap₂ (movedTableau m) p q
-
-    go : (o r : Option (List ℕ)) → movedWord m u ≡ o → movedWord m v ≡ r → Alike o r
-    go none none e f = tt
-    go none (some v′) e f = none-some (sym (tableau-unmoved m u e) ∙ one ∙ tableau-moved m v v′ f)
-    go (some u′) none e f = none-some (sym (tableau-unmoved m v f) ∙ sym one ∙ tableau-moved m u u′ e)
-    go (some u′) (some v′) e f =
-        (some-same (sym (tableau-moved m u u′ e) ∙ one ∙ tableau-moved m v v′ f), (move-recording m u u′ e) .1 ∙ q ∙ sym ((move-recording m v v′ f) .1))
+    go : (o r : Option (List ℕ)) → movedWord m u ≡ o → movedWord m v ≡ r → Option·map lettersOf (movedWord m u) ≡ Option·map lettersOf (movedWord m v) → Alike o r
+    go none none e f h = tt
+    go none (some v′) e f h = absurd (Option·none-ne-some (lettersOf v′) (rw (e, f) at h))
+    go (some u′) none e f h = absurd (Option·none-ne-some (lettersOf u′) (sym (rw (e, f) at h)))
+    go (some u′) (some v′) e f h =
+        (Option·some-injective (lettersOf u′) (lettersOf v′) (rw (e, f) at h), (move-recording m u u′ e) .1 ∙ q ∙ sym ((move-recording m v v′ f) .1))
 
 -- The same where only some moves are allowed.
 allowed-alike : (b : Bool) (o p : Option (List ℕ)) → Alike o p → Alike (cond b o none) (cond b p none)
@@ -78,7 +67,7 @@ allowed-alike false o p h = tt
 
 allowed-defined : (b : Bool) (o : Option (List ℕ)) (v : List ℕ) → cond b o none ≡ some v → o ≡ some v
 allowed-defined true o v e = e
-allowed-defined false o v e = none-some e
+allowed-defined false o v e = absurd (Option·none-ne-some v e)
 
 -- ---- the claim
 

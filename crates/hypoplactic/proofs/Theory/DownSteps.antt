@@ -14,8 +14,9 @@ use native.Mathlib.Nat.{eq-or-lt-of-le}
 use native.Mathlib.Omega.{arith}
 use lib.Dec.{eqb, ltb}
 use Rattle.hypoplactic.specs.Words.{before, occurs, tick}
+use Rattle.hypoplactic.specs.Ribbons.{downAfter}
 use Rattle.hypoplactic.specs.Insertion.{lettersOf, marksOf}
-use Rattle.hypoplactic.specs.Junctions.{downOut, downOutAfter, junction, leftOf, nextLarger}
+use Rattle.hypoplactic.specs.Junctions.{outOf, downOut, junction, leftOf, nextLarger}
 use Rattle.hypoplactic.specs.Places.{marksAfter, marksBy}
 use Rattle.hypoplactic.proofs.Theory.Letters.{count-low, count-letters}
 use Rattle.hypoplactic.proofs.Theory.Limits.{occurs-none}
@@ -27,7 +28,7 @@ use Rattle.hypoplactic.proofs.Theory.Pairs.{Rising, letters-rising, le-
 -- ---- the down steps of marks that the word's order makes
 
 -- Cells above a have no down step out of a.
-pub down-above : (a x : ℕ) (xs ms : List ℕ) → a < x → Rising x xs → downOutAfter a x xs ms ≡ false
+pub down-above : (a x : ℕ) (xs ms : List ℕ) → a < x → Rising x xs → downAfter (outOf a) x xs ms ≡ false
 down-above a x [] ms l r = refl
 down-above a x (y ∷ ys) [] l r = refl
 down-above a x (y ∷ ys) (m ∷ ms) l r = rw (ne-eqb x a (λ e. omega arith)) (down-above a y ys ms (omega arith) (r .1))
@@ -42,13 +43,13 @@ mark-is false = refl
 
 -- Walking over the letters at most a, the step down out of a is the one into the next larger letter.
 down-next : (w : List ℕ) (a x : ℕ) (xs : List ℕ) → x ≤ a → Rising x xs
-    → downOutAfter a x xs (marksAfter (before w) x xs) ≡ (occurs a (x ∷ xs) && leftOf w a (nextLarger a xs))
+    → downAfter (outOf a) x xs (marksAfter (before w) x xs) ≡ (occurs a (x ∷ xs) && leftOf w a (nextLarger a xs))
 down-next w a x [] h r = sym (and-false (eqb x a || false))
 down-next w a x (y ∷ ys) h r = go (λ l. down-next w a y ys l (r .1)) (eq-or-lt-of-le h) (le-or-lt y a)
   where
-    go : (y ≤ a → downOutAfter a y ys (marksAfter (before w) y ys) ≡ (occurs a (y ∷ ys) && leftOf w a (nextLarger a ys)))
+    go : (y ≤ a → downAfter (outOf a) y ys (marksAfter (before w) y ys) ≡ (occurs a (y ∷ ys) && leftOf w a (nextLarger a ys)))
         → (x ≡ a) ⊎ (x < a) → (y ≤ a) ⊎ (a < y)
-        → downOutAfter a x (y ∷ ys) (marksAfter (before w) x (y ∷ ys)) ≡ (occurs a (x ∷ y ∷ ys) && leftOf w a (nextLarger a (y ∷ ys)))
+        → downAfter (outOf a) x (y ∷ ys) (marksAfter (before w) x (y ∷ ys)) ≡ (occurs a (x ∷ y ∷ ys) && leftOf w a (nextLarger a (y ∷ ys)))
     go rest (inl e) (inl l) = rw (rest l, le-ltb x y (omega arith), le-ltb a y l, eq-eqb x a e, eq-eqb y a (omega arith))
     go rest (inr k) (inl l) = rw (rest l, le-ltb a y l, ne-eqb x a (λ e. omega arith))
     go rest (inl e) (inr l) =

@@ -83,31 +83,23 @@ order-swap false false yp true t z e f = refl
 counted : (b : ℕ) (w : List ℕ) → occurs b w ≡ true → 0 < count b w
 counted b w o = ltb-true 0 (count b w) (sym (occurs-count b w) ∙ o)
 
--- A letter of the word that is none of those between x and y, from x on and below y, is x; above x and up to y, it is y.
-apart-low : (x y b : ℕ) (w : List ℕ) → Apart x y w → 0 < count b w → x ≤ b → b < y → x ≡ b
-apart-low x y b w apart c g h = go (le-or-lt b x)
-  where
-    go : (b ≤ x) ⊎ (x < b) → x ≡ b
-    go (inl k) = omega arith
-    go (inr k) = omega (arith, apart b k h)
-
-apart-high : (x y b : ℕ) (w : List ℕ) → Apart x y w → 0 < count b w → x < b → b ≤ y → y ≡ b
-apart-high x y b w apart c g h = go (le-or-lt y b)
-  where
-    go : (y ≤ b) ⊎ (b < y) → y ≡ b
-    go (inl k) = omega arith
-    go (inr k) = omega (arith, apart b g k)
+-- No letter of the word lies between x and y.
+apart-between : (x y b : ℕ) (w : List ℕ) → Apart x y w → 0 < count b w → x < b → b < y → ⊥
+apart-between x y b w apart c g h = omega (arith, apart b g h)
 
 module _ (s t : List ℕ) (x y : ℕ) (l : x < y) where
   -- The exchanged letters are p and q themselves: b is one of them, so some q stands left of some p before and after.
   before-held : Beside s t x y → Apart x y (s ++ x ∷ y ∷ t) → before (s ++ x ∷ y ∷ t) x y ≡ before (s ++ y ∷ x ∷ t) x y
   before-held (on-left b o g h) apart =
-      let y-is : y ≡ b = apart-high x y b (s ++ x ∷ y ∷ t) apart (omega (arith, counted b s o, count-append b s (x ∷ y ∷ t))) g h in
+      let in-front : 0 < count b (s ++ x ∷ y ∷ t) = omega (arith, counted b s o, count-append b s (x ∷ y ∷ t)) in
+      let not-below : ¬ (b < y) = apart-between x y b (s ++ x ∷ y ∷ t) apart in-front g in
+      let y-is : y ≡ b = omega arith in
       let y-in : occurs y s ≡ true = rw y-is o in
       simp (before-append s, y-in, eq-eqb x x refl, ne-eqb y x (omega arith), or-true)
   before-held (on-right b o g h) apart =
-      let x-is : x ≡ b = apart-low x y b (s ++ x ∷ y ∷ t) apart
-      (omega (arith, counted b t o, count-append b s (x ∷ y ∷ t), count-tail b y t, count-tail b x (y ∷ t))) g h in
+      let behind : 0 < count b (s ++ x ∷ y ∷ t) = omega (arith, counted b t o, count-append b s (x ∷ y ∷ t), count-tail b y t, count-tail b x (y ∷ t)) in
+      let not-above : ¬ (x < b) = λ k. apart-between x y b (s ++ x ∷ y ∷ t) apart behind k h in
+      let x-is : x ≡ b = omega arith in
       let x-in : occurs x t ≡ true = rw x-is o in
       simp (before-append s, x-in, eq-eqb x x refl, eq-eqb y y refl, ne-eqb y x (omega arith), ne-eqb x y (omega arith), or-true)
 

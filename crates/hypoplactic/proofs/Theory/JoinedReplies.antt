@@ -7,12 +7,11 @@ use mathlib.Core.Path.{_≡_, refl, sym, ap, ap₂, _∙_, subst}
 use mathlib.Core.Logic.{_↔_}
 use mathlib.Core.Bool.{Bool, true, false}
 use mathlib.Core.List.{List, [], _∷_, _++_}
-use lib.Dec.{eqb}
 use lib.ListN.{length}
 use Rattle.hypoplactic.specs.Words.{Accepted}
 use Rattle.hypoplactic.specs.Rewriting.{Joined}
 use Rattle.hypoplactic.specs.Moves.{Move, inverted, taken}
-use Rattle.hypoplactic.specs.Replies.{Said, gives, refused, passed, first, refuseIf, OneNumber}
+use Rattle.hypoplactic.specs.Replies.{Said, gives, refused, first, refuseIf, OneNumber}
 use Rattle.hypoplactic.specs.Judgements.{outside, rankJudged, lengthJudged, lettersFrom, lettersJudged, letterJudged, inversionJudged, indexJudged, wordJudgements}
 use Rattle.hypoplactic.specs.WordOperations.{moveJudgements, moveWordSays}
 use Rattle.hypoplactic.proofs.Theory.Passing.{Passes, first-past}
@@ -82,7 +81,7 @@ module _ {u v : List ℕ} (j : Joined u v) where
 
   letter-same : (a : ℕ) → letterJudged a u ≡ letterJudged a v
   unfolding letterJudged
-  letter-same a = ap (λ (c : ℕ). refuseIf (eqb c 0) 11 0 passed) (joined-count j a)
+  letter-same a = cc (joined-count j a)
 
   -- Every move replies to joined words with one number, or refuses neither.
   pub joined-refusal : (n : ℕ) (m : Move) → OneNumber (moveWordSays n m u) (moveWordSays n m v)

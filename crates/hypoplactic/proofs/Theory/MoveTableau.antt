@@ -14,8 +14,9 @@ use native.Mathlib.Omega.{arith}
 use lib.Dec.{eqb, ltb}
 use borrow.Author.Tests.{eqb-true, eqb-false, eq-eqb, lt-ltb}
 use Rattle.hypoplactic.specs.Words.{tick, occurs, before}
+use Rattle.hypoplactic.specs.Ribbons.{downAfter}
 use Rattle.hypoplactic.specs.Insertion.{lettersOf, marksOf}
-use Rattle.hypoplactic.specs.Moves.{Move, taken, inverted, belowAfter, below, moved, movedWord, movedTableau}
+use Rattle.hypoplactic.specs.Moves.{Move, taken, inverted, fromTo, below, moved, movedWord, movedTableau}
 use Rattle.hypoplactic.specs.Places.{marksAfter, marksBy}
 use Rattle.hypoplactic.proofs.Theory.Pairs.{Rising, le-or-lt, letters-rising}
 use Rattle.hypoplactic.proofs.Theory.Occurrences.{occurs-count, before-absent}
@@ -48,10 +49,10 @@ mark-told true b = refl
 mark-told false b = and-false b
 
 -- The cells of rising letters with the marks by D, after one that holds x.
-belowAfter-marks : (D : ℕ → ℕ → Bool) (i x : ℕ) (xs : List ℕ) → Rising x xs
-    → belowAfter i x xs (marksAfter D x xs) ≡ (occurs i (x ∷ xs) && occurs (suc i) xs && D i (suc i))
-belowAfter-marks D i x [] r = rw and-false
-belowAfter-marks D i x (y ∷ ys) r = rw (belowAfter-marks D i y ys (r .1)) (go (eqb x i) refl (eqb y (suc i)) refl)
+below-after-marks : (D : ℕ → ℕ → Bool) (i x : ℕ) (xs : List ℕ) → Rising x xs
+    → downAfter (fromTo i) x xs (marksAfter D x xs) ≡ (occurs i (x ∷ xs) && occurs (suc i) xs && D i (suc i))
+below-after-marks D i x [] r = rw and-false
+below-after-marks D i x (y ∷ ys) r = rw (below-after-marks D i y ys (r .1)) (go (eqb x i) refl (eqb y (suc i)) refl)
   where
     go : (s : Bool) → eqb x i ≡ s → (t : Bool) → eqb y (suc i) ≡ t
         → (eqb x i && eqb y (suc i) && eqb (tick (ltb x y && D x y) 0) 1 || occurs i (y ∷ ys) && occurs (suc i) ys && D i (suc i))
@@ -71,7 +72,7 @@ belowAfter-marks D i x (y ∷ ys) r = rw (belowAfter-marks D i y ys (r .1)) (go 
 -- The same from the first cell on.
 below-marks : (D : ℕ → ℕ → Bool) (i k : ℕ) (xs : List ℕ) → Rising k xs → below i xs (marksBy D xs) ≡ (occurs i xs && occurs (suc i) xs && D i (suc i))
 below-marks D i k [] r = refl
-below-marks D i k (x ∷ xs) r = belowAfter-marks D i x xs (r .1) ∙ go (eqb x (suc i)) refl
+below-marks D i k (x ∷ xs) r = below-after-marks D i x xs (r .1) ∙ go (eqb x (suc i)) refl
   where
     go : (t : Bool) → eqb x (suc i) ≡ t → (occurs i (x ∷ xs) && occurs (suc i) xs && D i (suc i)) ≡ (occurs i (x ∷ xs) && occurs (suc i) (x ∷ xs) && D i (suc i))
     go true e = rw (occurs-low i x (x ∷ xs) (omega (arith, eqb-true x (suc i) e)) (omega arith, r .1))

@@ -15,8 +15,8 @@ use mathlib.Core.Option.{some}
 use native.Mathlib.Omega.{arith}
 use lib.Dec.{eqb}
 use borrow.Author.Tests.{eqb-true, eq-eqb, ne-eqb}
-use Rattle.hypoplactic.specs.Ribbons.{Along, Ribbon, LetterStep, Tableau}
-use Rattle.hypoplactic.specs.Moves.{Side, raising, lowering, Move, inverted, belowAfter, below, movedTableau}
+use Rattle.hypoplactic.specs.Ribbons.{Along, Ribbon, LetterStep, Tableau, downAfter}
+use Rattle.hypoplactic.specs.Moves.{Side, raising, lowering, Move, inverted, fromTo, below, movedTableau}
 use Rattle.hypoplactic.proofs.Theory.Seating.{rising-of-along}
 use Rattle.hypoplactic.proofs.Theory.Boundary.{along-of-tableau}
 use Rattle.hypoplactic.proofs.Theory.Undo.{Lacks, Changed, here, after, Turned, or-false-both, moved-turned}
@@ -41,14 +41,14 @@ free-step i (suc zero) x y = (λ h. (h .0, λ e f. true≢false (rw (eq-eqb x i 
 free-step i (suc (suc m)) x y = (λ h. h .0, λ h. absurd h)
 
 -- The cells after one that holds x.
-along-free : (i x : ℕ) (xs ms : List ℕ) → Along LetterStep x xs ms × (belowAfter i x xs ms ≡ false) ↔ Along (FreeStep i) x xs ms
+along-free : (i x : ℕ) (xs ms : List ℕ) → Along LetterStep x xs ms × (downAfter (fromTo i) x xs ms ≡ false) ↔ Along (FreeStep i) x xs ms
 along-free i x [] [] = (λ h. tt, λ h. (tt, refl))
 along-free i x [] (m ∷ ms) = (λ h. h .0, λ h. (h, refl))
 along-free i x (y ∷ ys) [] = (λ h. h .0, λ h. (h, refl))
 along-free i x (y ∷ ys) (m ∷ ms) =
     let s = free-step i m x y in
     let r = along-free i y ys ms in (
-      λ h. let p = or-false-both (eqb x i && eqb y (suc i) && eqb m 1) (belowAfter i y ys ms) (h .1) in (s .0 (h .0 .0, p .0), r .0 (h .0 .1, p .1)),
+      λ h. let p = or-false-both (eqb x i && eqb y (suc i) && eqb m 1) (downAfter (fromTo i) y ys ms) (h .1) in (s .0 (h .0 .0, p .0), r .0 (h .0 .1, p .1)),
       λ h. let a = s .1 (h .0) in let b = r .1 (h .1) in ((a .0, b .0), rw (a .1) (b .1)),
     )
 

@@ -16,7 +16,7 @@ use lib.ListN.{length, getD, replicate}
 use borrow.Author.Tests.{lt-ltb, le-ltb, ne-eqb}
 use Rattle.hypoplactic.specs.Words.{count, occurs, before, Within}
 use Rattle.hypoplactic.specs.Insertion.{lettersOf, marksOf}
-use Rattle.hypoplactic.specs.Places.{marksAfter, marksBy, layers, copies, consIf, places, lastOr, firstPlace, lastPlace, orPlace, run, marksFrom}
+use Rattle.hypoplactic.specs.Places.{marksAfter, marksBy, layers, copies, consIf, places, lastOr, firstPlace, lastPlace, orPlace, run, marksOfRuns}
 use Rattle.hypoplactic.proofs.Theory.Layers.{letters-layers, places-snoc}
 use Rattle.hypoplactic.proofs.Theory.Marks.{marks-before}
 use Rattle.hypoplactic.proofs.Theory.Occurrences.{occurs-append, occurs-count, before-snoc, before-absent}
@@ -141,16 +141,16 @@ marks-copies D x zero r = refl
 marks-copies D x (suc c) r = rw (le-ltb x x (omega arith), marks-copies D x c r)
 
 -- After a letter p below k, the marks of the letters from k on.
-runs-after : (w : List ℕ) (n k p : ℕ) → p < k → marksAfter (before w) p (layers (copies w) n k) ≡ marksFrom w n k (lastPlace p w)
-unfolding layers marksFrom
+runs-after : (w : List ℕ) (n k p : ℕ) → p < k → marksAfter (before w) p (layers (copies w) n k) ≡ marksOfRuns w n k (lastPlace p w)
+unfolding layers marksOfRuns
 runs-after w zero k p h = refl
 runs-after w (suc n) k p h = go (count k w) refl (runs-after w n (suc k))
   where
     rest : ℕ → List ℕ
-    rest l = marksFrom w n (suc k) (orPlace (lastPlace k w) l)
+    rest l = marksOfRuns w n (suc k) (orPlace (lastPlace k w) l)
 
     go : (c : ℕ) → count k w ≡ c
-        → ((r : ℕ) → r < suc k → marksAfter (before w) r (layers (copies w) n (suc k)) ≡ marksFrom w n (suc k) (lastPlace r w))
+        → ((r : ℕ) → r < suc k → marksAfter (before w) r (layers (copies w) n (suc k)) ≡ marksOfRuns w n (suc k) (lastPlace r w))
         → marksAfter (before w) p (replicate (count k w) k ++ layers (copies w) n (suc k))
         ≡ run (ltb (firstPlace k w) (lastPlace p w)) (count k w) ++ rest (lastPlace p w)
     go zero e ih =
@@ -181,7 +181,7 @@ marks-from-zero D [] h = refl
 marks-from-zero D (x ∷ xs) h = rw (h x, and-false)
 
 -- The marks of the tableau, letter by letter, by first and last places.
-pub marks-runs : (n : ℕ) (w : List ℕ) → Within n w → marksOf w ≡ marksFrom w n 1 0
+pub marks-runs : (n : ℕ) (w : List ℕ) → Within n w → marksOf w ≡ marksOfRuns w n 1 0
 marks-runs n w h =
     marks-before w ∙ marks-from-zero (before w) (lettersOf w) (λ q. zero-unfollowed n q w h)
     ∙ rw (letters-layers n w h, runs-after w n 1 0 (omega arith), places-absent 1 0 w (zero-absent n w h))

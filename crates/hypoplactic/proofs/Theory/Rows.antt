@@ -16,8 +16,8 @@ use lib.ListN.{length, take}
 use lib.Seq.{take-all}
 use Rattle.hypoplactic.specs.Words.{Within, count}
 use Rattle.hypoplactic.specs.Insertion.{lettersOf, marksOf}
-use Rattle.hypoplactic.specs.Ribbons.{Along, LetterStep, Tableau, rowAt, columnAt}
-use Rattle.hypoplactic.specs.Junctions.{downOut, downOutAfter, junction, junctionSet, number, rowsOf}
+use Rattle.hypoplactic.specs.Ribbons.{Along, LetterStep, Tableau, downAfter, rowAt, columnAt}
+use Rattle.hypoplactic.specs.Junctions.{outOf, downOut, junction, junctionSet, number, rowsOf}
 use Rattle.hypoplactic.proofs.Theory.Bits.{howMany, howMany-none, howMany-same, howMany-more, ones-number}
 use Rattle.hypoplactic.proofs.Theory.Boundary.{tableau-of-word}
 use Rattle.hypoplactic.proofs.Theory.DownSteps.{down-above, junction-down}
@@ -28,15 +28,15 @@ use Rattle.hypoplactic.proofs.Theory.Seating.{rising-of-along}
 -- ---- down steps and the letters that they go out of
 
 -- In the cells after one that holds x, the letters with a down step out of them are as many as the marks 1: a down step goes out of x and of no later cell with that letter.
-downs-after : (n x : ℕ) (xs ms : List ℕ) → Along LetterStep x xs ms → 1 ≤ x → x ≤ n → Within n xs → howMany (λ a. downOutAfter a x xs ms) n 1 ≡ count 1 ms
+downs-after : (n x : ℕ) (xs ms : List ℕ) → Along LetterStep x xs ms → 1 ≤ x → x ≤ n → Within n xs → howMany (λ a. downAfter (outOf a) x xs ms) n 1 ≡ count 1 ms
 downs-after n x [] [] h low high w = howMany-none n 1
 downs-after n x [] (m ∷ ms) h low high w = absurd h
 downs-after n x (y ∷ ys) [] h low high w = absurd h
 downs-after n x (y ∷ ys) (zero ∷ ms) h low high w =
-    howMany-same _ _ n 1 (λ a l. ap (λ b. b || downOutAfter a y ys ms) (and-false (eqb x a))) ∙ downs-after n y ys ms (h .1) (w .0) (w .1) (w .2)
+    howMany-same _ _ n 1 (λ a l. ap (λ b. b || downAfter (outOf a) y ys ms) (and-false (eqb x a))) ∙ downs-after n y ys ms (h .1) (w .0) (w .1) (w .2)
 downs-after n x (y ∷ ys) (suc zero ∷ ms) h low high w =
     let l : x < y = h .0 in
-    howMany-more _ (λ a. downOutAfter a y ys ms) n 1 x low (omega arith)
+    howMany-more _ (λ a. downAfter (outOf a) y ys ms) n 1 x low (omega arith)
     (rw (eq-eqb x x refl)) (down-above x y ys ms l (rising-of-along y ys ms (h .1))) (λ a o. rw (ne-eqb x a (λ e. o (sym e))))
     ∙ ap suc (downs-after n y ys ms (h .1) (w .0) (w .1) (w .2))
 downs-after n x (y ∷ ys) (suc (suc m) ∷ ms) h low high w = absurd (h .0)

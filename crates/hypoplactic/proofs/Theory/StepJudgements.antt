@@ -14,7 +14,7 @@ use lib.Dec.{eqb, ltb}
 use lib.ListN.{length}
 use borrow.Author.Tests.{ltb-false, le-ltb, eqb-false, eq-eqb, ne-eqb}
 use Rattle.hypoplactic.specs.Ribbons.{Along, Ribbon, LetterStep, EntryStep, Tableau}
-use Rattle.hypoplactic.specs.Judgements.{risingFrom, risingJudged, marksFrom, marksJudged, broken, stepsFrom, recordingJudged}
+use Rattle.hypoplactic.specs.Judgements.{risingFrom, risingJudged, marksFrom, marksJudged, stepBroken, stepsFrom, recordingJudged}
 use Rattle.hypoplactic.proofs.Theory.Passing.{Passes, passes-then}
 use Rattle.hypoplactic.proofs.Theory.Occurrences.{count-tail}
 use Rattle.hypoplactic.proofs.Theory.Once.{Simple}
@@ -65,7 +65,7 @@ marks-small x (y ∷ ys) [] h = absurd h
 marks-small x (y ∷ ys) (m ∷ ms) h = (ltb-false 1 m (or-false-iff _ _ .0 (letter-step m x y .1 (h .0) .1) .0), marks-small y ys ms (h .1))
 
 -- One step: the test of 8.
-entry-step : (m r s : ℕ) → m ≤ 1 → (r ≡ s → ⊥) → (broken m r s ≡ false) ↔ EntryStep m r s
+entry-step : (m r s : ℕ) → m ≤ 1 → (r ≡ s → ⊥) → (stepBroken m r s ≡ false) ↔ EntryStep m r s
 entry-step zero r s small apart = (λ h. omega (arith, ltb-false s r h, apart), λ h. le-ltb s r (omega arith))
 entry-step (suc zero) r s small apart = (λ h. omega (arith, ltb-false r s h, apart), λ h. le-ltb r s (omega arith))
 entry-step (suc (suc m)) r s small apart = let z : ⊥ = omega arith in absurd z
@@ -75,7 +75,7 @@ entry-steps : (i r : ℕ) (ss ms : List ℕ) → length ms ≡ length ss → All
 entry-steps i r [] [] e small simple = Iff·rfl
 entry-steps i r [] (m ∷ ms) e small simple = let z : ⊥ = omega arith in absurd z
 entry-steps i r (s ∷ ss) [] e small simple = let z : ⊥ = omega arith in absurd z
-entry-steps i r (s ∷ ss) (m ∷ ms) e small simple = passes-then (broken m r s) 8 i _ (entry-step m r s (small .0) (λ e. omega (arith, rw (eq-eqb r r refl, eq-eqb s r (sym e)) at (simple r))))
+entry-steps i r (s ∷ ss) (m ∷ ms) e small simple = passes-then (stepBroken m r s) 8 i _ (entry-step m r s (small .0) (λ e. omega (arith, rw (eq-eqb r r refl, eq-eqb s r (sym e)) at (simple r))))
     (entry-steps (suc i) s ss ms (omega arith) (small .1) (λ e. omega (arith, simple e, count-tail e r (s ∷ ss))))
 
 -- 8: the entries rise at right steps and fall at down steps.
