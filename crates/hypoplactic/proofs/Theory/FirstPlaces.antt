@@ -3,6 +3,7 @@
 -- refusal that has more than one place to name.
 --     scan k i size fault        refused with k at the first of so many places, counted from i, whose fault stands; passed where none does
 --     scan-first                 what a refusal by a scan says
+--     shorter xs ms              the length of the shorter of two lists: 6 and 8 judge the places that both have
 --     letters-scan, rising-scan, marks-scan, entries-scan, recording-scan     4, 5, 6, 7, 8 as scans
 -- Assumes nothing.
 use Prim.Native.Nat.{ℕ, zero, suc, _+_, _<_}
@@ -55,6 +56,12 @@ scan-same : (k i size : ℕ) (f g : ℕ → Bool) → ((q : ℕ) → f q ≡ g q
 scan-same k i zero f g h = refl
 scan-same k i (suc size) f g h = ap₂ (λ (b : Bool) (s : Said). refuseIf b k i s) (h 0) (scan-same k (suc i) size (λ q. f (suc q)) (λ q. g (suc q)) (λ q. h (suc q)))
 
+-- As long as the shorter of two lists.
+abbrev pub shorter : List ℕ → List ℕ → ℕ
+shorter [] ms = 0
+shorter (x ∷ xs) [] = 0
+shorter (x ∷ xs) (m ∷ ms) = suc (shorter xs ms)
+
 -- ---- 4: a letter outside 1 to rank
 
 letters-from : (n i : ℕ) (xs : List ℕ) → lettersFrom n i xs ≡ scan 4 i (length xs) (λ q. outside n (getD xs q 0))
@@ -82,17 +89,17 @@ abbrev pub markFault : List ℕ → List ℕ → ℕ → Bool
 markFault xs ms zero = ltb 0 (getD ms 0 0)
 markFault xs ms (suc q) = ltb 1 (getD ms (suc q) 0) || eqb (getD ms (suc q) 0) 1 && eqb (getD xs q 0) (getD xs (suc q) 0)
 
-marks-from : (i x : ℕ) (ys ms : List ℕ) → length ms ≡ length ys
-    → marksFrom i x ys ms ≡ scan 6 i (length ys) (λ q. ltb 1 (getD ms q 0) || eqb (getD ms q 0) 1 && eqb (getD (x ∷ ys) q 0) (getD ys q 0))
-marks-from i x [] ms e = refl
-marks-from i x (y ∷ ys) [] e = let f : ⊥ = omega arith in absurd f
-marks-from i x (y ∷ ys) (m ∷ ms) e = ap (refuseIf (ltb 1 m || eqb m 1 && eqb x y) 6 i) (marks-from (suc i) y ys ms (omega arith))
+marks-from : (i x : ℕ) (ys ms : List ℕ)
+    → marksFrom i x ys ms ≡ scan 6 i (shorter ys ms) (λ q. ltb 1 (getD ms q 0) || eqb (getD ms q 0) 1 && eqb (getD (x ∷ ys) q 0) (getD ys q 0))
+marks-from i x [] ms = refl
+marks-from i x (y ∷ ys) [] = refl
+marks-from i x (y ∷ ys) (m ∷ ms) = ap (refuseIf (ltb 1 m || eqb m 1 && eqb x y) 6 i) (marks-from (suc i) y ys ms)
 
-pub marks-scan : (xs ms : List ℕ) → length ms ≡ length xs → marksJudged xs ms ≡ scan 6 0 (length xs) (markFault xs ms)
+pub marks-scan : (xs ms : List ℕ) → marksJudged xs ms ≡ scan 6 0 (shorter xs ms) (markFault xs ms)
 unfolding marksJudged
-marks-scan [] ms e = refl
-marks-scan (x ∷ xs) [] e = let f : ⊥ = omega arith in absurd f
-marks-scan (x ∷ xs) (m ∷ ms) e = ap (refuseIf (ltb 0 m) 6 0) (marks-from 1 x xs ms (omega arith))
+marks-scan [] ms = refl
+marks-scan (x ∷ xs) [] = refl
+marks-scan (x ∷ xs) (m ∷ ms) = ap (refuseIf (ltb 0 m) 6 0) (marks-from 1 x xs ms)
 
 -- ---- 7: an entry that is 0, above L, or met before, at its second place
 
@@ -115,13 +122,12 @@ entries-scan L rs =
 
 -- ---- 8: a step that the entries break, at the later cell's place
 
-steps-from : (i r : ℕ) (ss ms : List ℕ) → length ms ≡ length ss
-    → stepsFrom i r ss ms ≡ scan 8 i (length ss) (λ q. stepBroken (getD ms q 0) (getD (r ∷ ss) q 0) (getD ss q 0))
-steps-from i r [] ms e = refl
-steps-from i r (s ∷ ss) [] e = let f : ⊥ = omega arith in absurd f
-steps-from i r (s ∷ ss) (m ∷ ms) e = ap (refuseIf (stepBroken m r s) 8 i) (steps-from (suc i) s ss ms (omega arith))
+steps-from : (i r : ℕ) (ss ms : List ℕ) → stepsFrom i r ss ms ≡ scan 8 i (shorter ss ms) (λ q. stepBroken (getD ms q 0) (getD (r ∷ ss) q 0) (getD ss q 0))
+steps-from i r [] ms = refl
+steps-from i r (s ∷ ss) [] = refl
+steps-from i r (s ∷ ss) (m ∷ ms) = ap (refuseIf (stepBroken m r s) 8 i) (steps-from (suc i) s ss ms)
 
-pub recording-scan : (r : ℕ) (rs : List ℕ) (m : ℕ) (ms : List ℕ) → length ms ≡ length rs
-    → recordingJudged (r ∷ rs) (m ∷ ms) ≡ scan 8 1 (length rs) (λ q. stepBroken (getD ms q 0) (getD (r ∷ rs) q 0) (getD rs q 0))
+pub recording-scan : (r : ℕ) (rs : List ℕ) (m : ℕ) (ms : List ℕ)
+    → recordingJudged (r ∷ rs) (m ∷ ms) ≡ scan 8 1 (shorter rs ms) (λ q. stepBroken (getD ms q 0) (getD (r ∷ rs) q 0) (getD rs q 0))
 unfolding recordingJudged
-recording-scan r rs m ms e = steps-from 1 r rs ms e
+recording-scan r rs m ms = steps-from 1 r rs ms
