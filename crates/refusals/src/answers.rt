@@ -1,0 +1,49 @@
+// What operations answer: each kind of answer is an enum of its own, whose last case passes a refusal on. What each case says in document 01's numbers is
+// fixed in specs/Said.antt.
+use crate::refusal::Refusal;
+
+// What a check answers.
+pub enum Verdict {
+    Passed,
+    Refused(Refusal),
+}
+
+// Where a scan finds the first fault of its check.
+pub enum Fault {
+    At(usize),
+    Nowhere,
+}
+
+// What a move answers: it was made in the lent letters.
+pub enum Move {
+    Made,
+    Refused(Refusal),
+}
+
+// What a repeat count answers.
+pub enum Repeat {
+    Times(usize),
+    Refused(Refusal),
+}
+
+// What the junction question answers: the junction set and the rows.
+pub enum Junctions {
+    Found(u64, usize),
+    Refused(Refusal),
+}
+
+// What the same-class test answers.
+pub enum Class {
+    Same,
+    Different,
+    Refused(Refusal),
+}
+
+// What the comparison of weights answers of the first word against the second.
+pub enum Weights {
+    Equal,
+    Lower,
+    Higher,
+    Neither,
+    Refused(Refusal),
+}

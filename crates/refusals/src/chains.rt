@@ -1,0 +1,26 @@
+// Chains of checks: the first refusal, in the order of the checks.
+use crate::answers::Verdict;
+use crate::numbers::check_length;
+use crate::numbers::check_rank;
+ghost use mathlib.Core.Path.{_≡_};
+ghost use mathlib.Core.List.{[], _∷_};
+ghost use Rattle.hypoplactic.specs.Replies.{first, orElse, passed};
+ghost use Rattle.hypoplactic.specs.Judgements.{lengthJudged, rankJudged};
+ghost use Rattle.refusals.specs.Said.{saidVerdict};
+
+// The first verdict if it refuses, else the second.
+pub fn or_else(one: Verdict, other: Verdict) -> Verdict
+    ensures { λ r. ⌜ saidVerdict r ≡ orElse (saidVerdict one) (saidVerdict other) ⌝ }
+{
+    match one {
+        Verdict::Refused(refusal) => Verdict::Refused(refusal),
+        Verdict::Passed => other,
+    }
+}
+
+// 1 and 2: the limits that every operation but a reader of entries checks first.
+pub fn check_limits(rank: usize, length: usize) -> Verdict
+    ensures { λ r. ⌜ saidVerdict r ≡ first (rankJudged rank ∷ lengthJudged length ∷ []) passed ⌝ }
+{
+    or_else(check_rank(rank), check_length(length))
+}
