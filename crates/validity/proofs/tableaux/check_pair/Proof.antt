@@ -1,0 +1,11 @@
+-- `validity::tableaux::check_pair` meets its contract, by the laws of specs/Chains. Assumes nothing.
+use Rattle.refusals.specs.Chains.{chaining}
+use borrow.Author.Needs.{needs}
+use Rattle.validity.proofs.tableaux.check_pair.Statement.{statement}
+use Rattle.validity.proofs.tableaux.check_pair.Tie as tie
+
+pub check-pair-spec : {M : Type 1} → statement M
+check-pair-spec =
+    tie.close
+    (tie.spec (λ c κs. search needs) (λ c κs. search needs) (λ c κs. search needs) (λ c κs. search needs)
+    (λ c κs. search needs) (λ c κs. search needs) (λ c κs. search needs) (λ c. search chaining))

@@ -1,0 +1,96 @@
+-- The faults that the checks 5 and 6 look for at a place, and that each check is the scan for its fault.
+--     fallFault, markFault (hypoplactic, FirstPlaces)      5, 6
+--     Shorter a b r                                        r is the smaller of two lengths: how many places two lists have in common
+--     start-rising, start-marks                            where the two scans begin
+--     scanning                                             the ruleset of the scans
+-- Assumes nothing.
+use Prim.Native.Nat.{ℕ, zero, suc, _+_, _-_, _<_, _≤_}
+use mathlib.Core.Path.{_≡_, refl, _∙_}
+use mathlib.Core.Bool.{Bool, _&&_, _||_, or-false}
+use mathlib.Core.Logic.{_⊎_, inl, inr}
+use mathlib.Core.List.{List, [], _∷_}
+use native.Mathlib.Omega.{arith}
+use lib.Dec.{eqb, ltb}
+use lib.ListN.{length, getD}
+use borrow.Author.Needs.{needs}
+use borrow.Author.Tests.{ne-eqb}
+use Rattle.hypoplactic.specs.Judgements.{risingJudged, marksJudged}
+use Rattle.hypoplactic.proofs.Theory.FirstPlaces.{rising-scan, marks-scan, markFault, shorter}
+use Rattle.hypoplactic.proofs.Theory.Pairs.{le-or-lt}
+use Rattle.refusals.specs.Scanning.{Scanning, scanFrom, scan-from, start, turn, found, none}
+
+-- ---- letters
+
+-- 5: the letter is smaller than the one before it.
+unfoldable pub fallFault : List ℕ → ℕ → Bool
+fallFault xs p = ltb (getD xs p 0) (getD xs (p - 1) 0)
+
+pub opens-fall : {b : Bool} (xs : List ℕ) (p : ℕ) → b ≡ ltb (getD xs p 0) (getD xs (p - 1) 0) → b ≡ fallFault xs p
+unfolding fallFault
+opens-fall xs p e = e
+
+pub start-rising : (xs : List ℕ) → Scanning 5 (fallFault xs) (length xs) (risingJudged xs) 1
+unfolding fallFault risingJudged scanFrom
+start-rising [] = start 0 refl refl
+start-rising (x ∷ xs) =
+    start (length xs)
+    (rising-scan x xs
+    ∙ scan-from 5 1 (length xs) _ (fallFault (x ∷ xs))
+    (λ q l. let e : 1 + q - 1 ≡ q = omega arith in let f : 1 + q ≡ suc q = omega arith in rw (e, f)))
+    (omega arith)
+
+-- ---- marks
+
+-- How many places two lists have in common, from their lengths.
+pub record Shorter (a b r : ℕ) : Type 0 where
+  pub first : r ≤ a
+  pub second : r ≤ b
+  pub whole : (i : ℕ) → i < a → i < b → i < r
+
+pub shorter-first : (a b : ℕ) → a < b → Shorter a b a
+shorter-first a b h = record { first = omega arith; second = omega arith; whole = λ i f s. f }
+
+pub shorter-second : (a b : ℕ) → b ≤ a → Shorter a b b
+shorter-second a b h = record { first = h; second = omega arith; whole = λ i f s. s }
+
+pub shorter-size : (xs ms : List ℕ) → Shorter (length xs) (length ms) (shorter xs ms)
+shorter-size [] ms = record { first = omega arith; second = omega arith; whole = λ i f s. f }
+shorter-size (x ∷ xs) [] = record { first = omega arith; second = omega arith; whole = λ i f s. s }
+shorter-size (x ∷ xs) (m ∷ ms) = go (shorter-size xs ms)
+  where
+    go : Shorter (length xs) (length ms) (shorter xs ms) → Shorter (suc (length xs)) (suc (length ms)) (suc (shorter xs ms))
+    go s = record { first = omega (arith, s .first); second = omega (arith, s .second); whole = at }
+      where
+        at : (i : ℕ) → i < suc (length xs) → i < suc (length ms) → i < suc (shorter xs ms)
+        at zero f l = omega arith
+        at (suc i) f l = omega (arith, s .whole i (omega arith) (omega arith))
+
+pub shorter-is : {a b r q : ℕ} → Shorter a b r → Shorter a b q → r ≡ q
+shorter-is {a} {b} {r} {q} s t = go (le-or-lt r q) (le-or-lt q r)
+  where
+    go : (r ≤ q) ⊎ (q < r) → (q ≤ r) ⊎ (r < q) → r ≡ q
+    go (inl f) (inl g) = omega arith
+    go (inr f) g = absurd (omega (arith, t .whole q (omega (arith, s .first)) (omega (arith, s .second))))
+    go (inl f) (inr g) = absurd (omega (arith, s .whole r (omega (arith, t .first)) (omega (arith, t .second))))
+
+-- The three faults of a mark: at the first place, of a mark 1, of any other.
+pub mark-first : (xs ms : List ℕ) (p : ℕ) → p ≡ 0 → ltb 0 (getD ms p 0) ≡ markFault xs ms p
+mark-first xs ms p e = rw e
+
+mark-later : (xs ms : List ℕ) (p : ℕ) → (p ≡ 0 → ⊥)
+    → markFault xs ms p ≡ (ltb 1 (getD ms p 0) || eqb (getD ms p 0) 1 && eqb (getD xs (p - 1) 0) (getD xs p 0))
+mark-later xs ms zero h = absurd (h refl)
+mark-later xs ms (suc p) h = let e : suc p - 1 ≡ p = omega arith in rw e
+
+pub mark-down : (xs ms : List ℕ) (p : ℕ) → (p ≡ 0 → ⊥) → getD ms p 0 ≡ 1 → eqb (getD xs (p - 1) 0) (getD xs p 0) ≡ markFault xs ms p
+mark-down xs ms p h e = rw (mark-later xs ms p h, e)
+
+pub mark-other : (xs ms : List ℕ) (p : ℕ) → (p ≡ 0 → ⊥) → (getD ms p 0 ≡ 1 → ⊥) → ltb 1 (getD ms p 0) ≡ markFault xs ms p
+mark-other xs ms p h e = rw (mark-later xs ms p h, ne-eqb (getD ms p 0) 1 e, or-false)
+
+pub start-marks : {size : ℕ} (xs ms : List ℕ) → Shorter (length xs) (length ms) size → Scanning 6 (markFault xs ms) size (marksJudged xs ms) 0
+start-marks {size} xs ms s =
+    start (shorter xs ms) (marks-scan xs ms ∙ scan-from 6 0 (shorter xs ms) _ (markFault xs ms) (λ q l. let e : 0 + q ≡ q = omega arith in rw e))
+    (omega (arith, shorter-is s (shorter-size xs ms)))
+
+pub ruleset scanning = (turn, found, none, start-rising, start-marks, mark-first, mark-down, mark-other, shorter-first, shorter-second, opens-fall, needs)

@@ -1,0 +1,3 @@
+pub mod Faults
+pub mod Seen
+pub mod Entries

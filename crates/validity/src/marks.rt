@@ -1,0 +1,47 @@
+// The check on marks, 6: one scan for the first place with any of its three faults.
+use refusals::answers::Verdict;
+use refusals::refusal::Refusal;
+ghost use Prim.Native.Nat.{_<_};
+ghost use mathlib.Core.Path.{_≡_};
+ghost use lib.ListN.{length};
+ghost use Rattle.hypoplactic.specs.Judgements.{marksJudged};
+ghost use Rattle.validity.specs.Faults.{Shorter};
+ghost use Rattle.hypoplactic.proofs.Theory.FirstPlaces.{markFault};
+ghost use Rattle.refusals.specs.Said.{saidVerdict};
+
+// The smaller of two lengths: how many places both lists have.
+pub fn shorter(first: usize, second: usize) -> usize
+    ensures { λ r. ⌜ Shorter first second r ⌝ }
+{
+    if first < second { first } else { second }
+}
+
+// Whether the mark at a place is not 0 or 1, not 0 at the first place, or down between equals.
+fn mark_wrong(letters: &[u8], marks: &[u8], place: usize) -> bool
+    requires { ⌜ (place < length (now letters)) × (place < length (now marks)) ⌝ }
+    ensures { λ r. ⌜ r ≡ markFault (now (letters .entry)) (now (marks .entry)) place ⌝ }
+{
+    let mark = marks[place];
+    if place == 0 {
+        return 0 < mark;
+    }
+    if mark == 1 {
+        return letters[place - 1] == letters[place];
+    }
+    1 < mark
+}
+
+// 6: the first mark is 0, each other one 0 or 1, and none goes down between equals.
+pub fn check_marks(letters: &[u8], marks: &[u8]) -> Verdict
+    ensures { λ r. ⌜ saidVerdict r ≡ marksJudged (now (letters .entry)) (now (marks .entry)) ⌝ }
+{
+    let size = shorter(letters.len(), marks.len());
+    let mut i = 0;
+    while i < size {
+        if mark_wrong(letters, marks, i) {
+            return Verdict::Refused(Refusal::Mark(i));
+        }
+        i += 1;
+    }
+    Verdict::Passed
+}

@@ -1,0 +1,66 @@
+// The checks of a tableau and of a pair, in rising number, each over the whole input. Every check is total and linear, so all of them are made and the first
+// refusal counts.
+use crate::marks::check_marks;
+use crate::recording::check_entries;
+use crate::recording::check_recording;
+use crate::rising::check_rising;
+use refusals::answers::Verdict;
+use refusals::chains::check_limits;
+use refusals::chains::or_else;
+use refusals::letters::check_letters;
+use refusals::numbers::check_marks_alike;
+use refusals::numbers::check_parts_alike;
+ghost use mathlib.Core.Path.{_≡_};
+ghost use mathlib.Core.List.{[], _∷_};
+ghost use Rattle.hypoplactic.specs.Replies.{first, passed};
+ghost use Rattle.hypoplactic.specs.Judgements.{entriesJudged, lettersJudged, marksJudged, pairJudgements, recordingJudged, risingJudged, tableauJudgements};
+ghost use Rattle.refusals.specs.Said.{saidVerdict};
+
+// 4, 5 and 6: the cells of a tableau, of a pair, or the used cells of one.
+pub fn check_cells(rank: usize, letters: &[u8], marks: &[u8]) -> Verdict
+    ensures { λ r. ⌜
+        saidVerdict r
+        ≡ first
+        (lettersJudged rank (now (letters .entry)) ∷ risingJudged (now (letters .entry)) ∷ marksJudged (now (letters .entry)) (now (marks .entry)) ∷ [])
+        passed
+        ⌝ }
+{
+    let inside = check_letters(rank, letters);
+    let rising = check_rising(letters);
+    or_else(inside, or_else(rising, check_marks(letters, marks)))
+}
+
+// 7 and 8: a recording ribbon beside marks.
+pub fn check_ribbon(limit: usize, entries: &[u16], marks: &[u8]) -> Verdict
+    ensures { λ r. ⌜
+        saidVerdict r
+        ≡ first (entriesJudged limit (now (entries .entry)) ∷ recordingJudged (now (entries .entry)) (now (marks .entry)) ∷ []) passed
+        ⌝ }
+{
+    or_else(
+        check_entries(limit, entries),
+        check_recording(entries, marks),
+    )
+}
+
+// 1 to 6 of a tableau.
+pub fn check_tableau(rank: usize, letters: &[u8], marks: &[u8]) -> Verdict
+    ensures { λ r. ⌜ saidVerdict r ≡ first (tableauJudgements rank (now (letters .entry)) (now (marks .entry))) passed ⌝ }
+{
+    let cells = check_cells(rank, letters, marks);
+    let alike = check_marks_alike(letters.len(), marks.len());
+    or_else(check_limits(rank, letters.len()), or_else(alike, cells))
+}
+
+// 1 to 8 of a pair.
+pub fn check_pair(rank: usize, letters: &[u8], marks: &[u8], entries: &[u16]) -> Verdict
+    ensures { λ r. ⌜ saidVerdict r ≡ first (pairJudgements rank (now (letters .entry)) (now (marks .entry)) (now (entries .entry))) passed ⌝ }
+{
+    let cells = check_cells(rank, letters, marks);
+    let alike = check_parts_alike(letters.len(), marks.len(), entries.len());
+    let ribbon = check_ribbon(letters.len(), entries, marks);
+    or_else(
+        check_limits(rank, letters.len()),
+        or_else(alike, or_else(cells, ribbon)),
+    )
+}
