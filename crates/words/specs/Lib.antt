@@ -1,3 +1,7 @@
 pub mod Bits
 pub mod Tables
 pub mod Junctions
+pub mod Places
+pub mod Counting
+pub mod Targets
+pub mod Moves

@@ -1,0 +1,8 @@
+-- `words::moves::as_target` meets its contract. Assumes nothing.
+use Rattle.words.specs.Targets.{targeting}
+use Rattle.words.proofs.moves.as_target.Statement.{statement}
+use Rattle.words.proofs.moves.as_target.Tie as tie
+
+pub as-target-spec : {M : Type 1} → statement M
+as-target-spec = tie.close
+    (tie.spec (λ c. search targeting) (λ c. search targeting) (λ c. search targeting) (λ c. search targeting))

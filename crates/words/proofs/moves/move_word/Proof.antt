@@ -1,0 +1,10 @@
+-- `words::moves::move_word` meets its contract. Assumes nothing.
+use Rattle.words.specs.Moves.{moving}
+use Rattle.words.proofs.moves.move_word.Statement.{statement}
+use Rattle.words.proofs.moves.move_word.Tie as tie
+
+pub move-word-spec : {M : Type 1} → statement M
+move-word-spec =
+    tie.close
+    (tie.spec (λ c κs. search moving) (λ c. search moving) (λ c. search moving) (λ c κs. search moving)
+    (λ c. search moving) (λ c. search moving) (λ c. search moving) (λ c. search moving) (λ c. search moving))
