@@ -1,0 +1,18 @@
+-- `comparisons::classes::same_counts` meets its contract: the numbers left decide. Assumes nothing.
+use Prim.Native.Nat.{_-_}
+use Rattle.comparisons.specs.Classes.{matching, Matching}
+use Rattle.comparisons.proofs.classes.same_counts.Statement.{statement}
+use Rattle.comparisons.proofs.classes.same_counts.Tie as tie
+
+abbrev Inv-loop : tie.InvT-loop
+Inv-loop top first second i₀ i = Matching first second top i
+
+abbrev μ-loop : tie.MeasureT-loop
+μ-loop top first second i₀ i = top - i
+
+pub same-counts-spec : {M : Type 1} → statement M
+same-counts-spec =
+    tie.close
+    (tie.spec Inv-loop μ-loop (λ c. search matching) (λ c. search matching) (λ c. search matching)
+    (λ c. search matching) (λ c. search matching) (λ c. search matching) (λ c. search matching)
+    (λ c. search matching) (λ c. search matching) (λ c. search matching))
