@@ -27,6 +27,7 @@ use Rattle.hypoplactic.specs.Weights.{sumTo, atMost, Comparison, comparison, co
 use Rattle.hypoplactic.specs.Replies.{Said, gives, passed, orElse, first}
 use Rattle.hypoplactic.specs.WordOperations.{comparisonNumber, wordsJudgements, weightsSays}
 use Rattle.hypoplactic.proofs.Theory.Limits.{accepted-within, count-outside}
+use Rattle.words.specs.Counts.{accepted-counts, countGiven}
 use Rattle.words.specs.Tables.{Table}
 use Rattle.refusals.specs.Passed.{first-else, judging}
 
@@ -167,11 +168,11 @@ pub larger-room : {n m r : ℕ} (u v : List ℕ) → Accepted n u → Accepted m
 larger-room u v h g l = l .least 64 (h .rank-high) (g .rank-high)
 
 -- The answer from the tables of both words.
-pub weighed : {s : Said} {n m r : ℕ} (u v : List ℕ) {cs ds : List ℕ} → Accepted n u → Accepted m v → Larger n m r → Counts u cs → Counts v ds
-    → s ≡ gives (comparisonNumber (compareTables r cs ds) ∷ []) → s ≡ gives (comparisonNumber (compareWeights u v) ∷ [])
+pub weighed : {s : Said} {n m r : ℕ} (u v : List ℕ) {cs ds : List ℕ} → Accepted n u → Accepted m v → Larger n m r → Table (countGiven n u) cs
+    → Table (countGiven m v) ds → s ≡ gives (comparisonNumber (compareTables r cs ds) ∷ []) → s ≡ gives (comparisonNumber (compareWeights u v) ∷ [])
 weighed {r = r} u v h g l f e d =
     d ∙ ap (λ (c : Comparison). gives (comparisonNumber c ∷ []))
-    (compare-tables u v r (h .letters) (g .letters) (l .first) (l .second) (larger-room u v h g l) f e)
+    (compare-tables u v r (h .letters) (g .letters) (l .first) (l .second) (larger-room u v h g l) (accepted-counts h f) (accepted-counts g e))
 
 -- The reply from the verdict on both words and the comparison.
 pub opens-weights : {r : Said} (n : ℕ) (u : List ℕ) (m : ℕ) (v : List ℕ)

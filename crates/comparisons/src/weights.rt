@@ -2,7 +2,7 @@
 use refusals::answers::Verdict;
 use refusals::answers::Weights;
 use refusals::words::check_words;
-use words::tables::counts;
+use words::tables::letter_counts;
 ghost use mathlib.Core.Path.{_≡_};
 ghost use mathlib.Core.List.{[], _∷_};
 ghost use mathlib.Core.Bool.{_&&_};
@@ -75,8 +75,8 @@ fn weigh(first_rank: usize, first: &[u8], second_rank: usize, second: &[u8]) -> 
     ensures { λ r. ⌜ saidWeights r ≡ gives (comparisonNumber (compareWeights (now (first .entry)) (now (second .entry))) ∷ []) ⌝ }
 {
     let top = larger(first_rank, second_rank);
-    let first_counts = counts(first);
-    let second_counts = counts(second);
+    let first_counts = letter_counts(first_rank, first);
+    let second_counts = letter_counts(second_rank, second);
     compare_counts(top, &first_counts, &second_counts)
 }
 

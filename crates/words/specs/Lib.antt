@@ -1,5 +1,6 @@
 pub mod Bits
 pub mod Tables
+pub mod Counts
 pub mod Junctions
 pub mod Places
 pub mod Counting

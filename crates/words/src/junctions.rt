@@ -20,7 +20,7 @@ fn bit(next: u16, last: u16) -> u64
 }
 
 // The junction set, from the largest letter down. The next larger letter that occurs has its first place in `next`; 65535 is above every place.
-pub fn junction_bits(rank: usize, word: &[u8]) -> u64
+fn junction_bits(rank: usize, word: &[u8]) -> u64
     requires { ⌜ Accepted rank (now word) ⌝ }
     ensures { λ r. ⌜ r ≡ junctionSet (now (word .entry)) ⌝ }
 {

@@ -1,5 +1,5 @@
-// Operations on one word: junction set and rows, moves and repeat counts. Every public operation takes whatever it is given and answers a result or the
-// exact refusal. Functions with a `requires` serve the operations here and in the crates above.
+// Operations on one word: junction set and rows, moves and repeat counts, letter counts. Every public function takes whatever it is given; an operation
+// answers a result or the exact refusal.
 pub mod junctions;
 pub mod moves;
 pub mod places;
