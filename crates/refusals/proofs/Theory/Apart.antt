@@ -1,6 +1,7 @@
 -- What an answer says fixes the answer: no two cases of an enum say the same in document 01's numbers. So a promise that fixes what is said fixes the reply.
 -- Each answer is found again from what it says.
 --     refusal-apart                                                     refusals by number and place
+--     fault-apart                                                       the faults that a scan for one refusal finds
 --     verdict-apart, move-apart, repeat-apart, junctions-apart, class-apart, weights-apart     the answers
 -- Assumes nothing.
 use Prim.Native.Nat.{ℕ, _-_}
@@ -12,6 +13,8 @@ use Rattle.refusals.specs.declared.refusal.Refusal.{Refusal}
 use Rattle.refusals.specs.declared.refusal.Refusal.the-variants.{Rank, Length, Parts, Letter, Falling, Mark, Entry, Step, Index, Inversion, NoLetter, Full, Room, Line}
 use Rattle.refusals.specs.declared.answers.Verdict.{Verdict}
 use Rattle.refusals.specs.declared.answers.Verdict.the-variants as verdict
+use Rattle.refusals.specs.declared.answers.Fault.{Fault}
+use Rattle.refusals.specs.declared.answers.Fault.the-variants as fault
 use Rattle.refusals.specs.declared.answers.Move.{Move}
 use Rattle.refusals.specs.declared.answers.Move.the-variants as move
 use Rattle.refusals.specs.declared.answers.Repeat.{Repeat}
@@ -22,7 +25,7 @@ use Rattle.refusals.specs.declared.answers.Class.{Class}
 use Rattle.refusals.specs.declared.answers.Class.the-variants as class
 use Rattle.refusals.specs.declared.answers.Weights.{Weights}
 use Rattle.refusals.specs.declared.answers.Weights.the-variants as weights
-use Rattle.refusals.specs.Said.{number, place, saidRefusal, saidVerdict, saidMove, saidRepeat, saidJunctions, saidClass, saidWeights}
+use Rattle.refusals.specs.Said.{number, place, saidRefusal, saidFault, saidVerdict, saidMove, saidRepeat, saidJunctions, saidClass, saidWeights}
 
 -- What can be found again is told apart.
 apart : {A : Type 0} (said : A → Said) (back : Said → A) → ((a : A) → back (said a) ≡ a) → (a b : A) → said a ≡ said b → a ≡ b
@@ -63,6 +66,19 @@ answer value pass (refused k p) = pass (row k p)
 pub refusal-apart : (r s : Refusal) → saidRefusal r ≡ saidRefusal s → r ≡ s
 unfolding answer
 refusal-apart = apart saidRefusal (answer (λ vs. Rank) (λ r. r)) row-of
+
+-- A fault from what it says.
+faultOf : Said → Fault
+faultOf (gives vs) = fault.Nowhere
+faultOf (refused k p) = fault.At p
+
+fault-again : (k : ℕ) (f : Fault) → faultOf (saidFault k f) ≡ f
+unfolding faultOf
+fault-again k (fault.At p) = refl
+fault-again k fault.Nowhere = refl
+
+pub fault-apart : (k : ℕ) (f g : Fault) → saidFault k f ≡ saidFault k g → f ≡ g
+fault-apart k = apart (saidFault k) faultOf (fault-again k)
 
 -- ---- answers: each is found again from its values or from the refusal that it passes on
 
