@@ -5,3 +5,4 @@ pub mod Letters
 pub mod Chains
 pub mod Seconds
 pub mod Passed
+pub mod Running

@@ -3,7 +3,7 @@
 --     number, place      of a refusal, as document 01's table fixes them
 --     saidRefusal        a refusal
 --     saidFault k        the first fault that a scan for refusal k finds
---     saidVerdict, saidMove, saidRepeat, saidJunctions, saidClass, saidWeights      the answers
+--     saidVerdict, saidMove, saidRepeat, saidJunctions, saidClass, saidWeights, saidWritten, saidInserted      the answers
 -- That each of them tells all cases apart is proofs/Theory/Apart. Assumes nothing.
 use Prim.Native.Nat.{ℕ}
 use mathlib.Core.List.{[], _∷_}
@@ -24,6 +24,10 @@ use Rattle.refusals.specs.declared.answers.Class.{Class}
 use Rattle.refusals.specs.declared.answers.Class.the-variants as class
 use Rattle.refusals.specs.declared.answers.Weights.{Weights}
 use Rattle.refusals.specs.declared.answers.Weights.the-variants as weights
+use Rattle.refusals.specs.declared.answers.Written.{Written}
+use Rattle.refusals.specs.declared.answers.Written.the-variants as written
+use Rattle.refusals.specs.declared.answers.Inserted.{Inserted}
+use Rattle.refusals.specs.declared.answers.Inserted.the-variants as inserted
 
 abbrev pub number : Refusal → ℕ
 number Rank = 1
@@ -95,3 +99,13 @@ saidWeights weights.Lower = gives (1 ∷ [])
 saidWeights weights.Higher = gives (2 ∷ [])
 saidWeights weights.Neither = gives (3 ∷ [])
 saidWeights (weights.Refused r) = saidRefusal r
+
+-- The elements written.
+abbrev pub saidWritten : Written → Said
+saidWritten (written.Elements n) = gives (n ∷ [])
+saidWritten (written.Refused r) = saidRefusal r
+
+-- The new used count.
+abbrev pub saidInserted : Inserted → Said
+saidInserted (inserted.Used n) = gives (n ∷ [])
+saidInserted (inserted.Refused r) = saidRefusal r

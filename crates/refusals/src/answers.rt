@@ -47,3 +47,15 @@ pub enum Weights {
     Neither,
     Refused(Refusal),
 }
+
+// What an operation answers that writes its result into lent memory: how many elements it wrote into each output.
+pub enum Written {
+    Elements(usize),
+    Refused(Refusal),
+}
+
+// What insertion answers: the new used count.
+pub enum Inserted {
+    Used(usize),
+    Refused(Refusal),
+}

@@ -2,7 +2,7 @@
 -- Each answer is found again from what it says.
 --     refusal-apart                                                     refusals by number and place
 --     fault-apart                                                       the faults that a scan for one refusal finds
---     verdict-apart, move-apart, repeat-apart, junctions-apart, class-apart, weights-apart     the answers
+--     verdict-apart, move-apart, repeat-apart, junctions-apart, class-apart, weights-apart, written-apart, inserted-apart     the answers
 -- Assumes nothing.
 use Prim.Native.Nat.{ℕ, _-_}
 use mathlib.Core.Path.{_≡_, refl, sym, ap, _∙_}
@@ -25,7 +25,11 @@ use Rattle.refusals.specs.declared.answers.Class.{Class}
 use Rattle.refusals.specs.declared.answers.Class.the-variants as class
 use Rattle.refusals.specs.declared.answers.Weights.{Weights}
 use Rattle.refusals.specs.declared.answers.Weights.the-variants as weights
-use Rattle.refusals.specs.Said.{number, place, saidRefusal, saidFault, saidVerdict, saidMove, saidRepeat, saidJunctions, saidClass, saidWeights}
+use Rattle.refusals.specs.declared.answers.Written.{Written}
+use Rattle.refusals.specs.declared.answers.Written.the-variants as written
+use Rattle.refusals.specs.declared.answers.Inserted.{Inserted}
+use Rattle.refusals.specs.declared.answers.Inserted.the-variants as inserted
+use Rattle.refusals.specs.Said.{number, place, saidRefusal, saidFault, saidVerdict, saidMove, saidRepeat, saidJunctions, saidClass, saidWeights, saidWritten, saidInserted}
 
 -- What can be found again is told apart.
 apart : {A : Type 0} (said : A → Said) (back : Said → A) → ((a : A) → back (said a) ≡ a) → (a b : A) → said a ≡ said b → a ≡ b
@@ -133,3 +137,19 @@ weights-again (weights.Refused r) = ap weights.Refused (row-of r)
 
 pub weights-apart : (a b : Weights) → saidWeights a ≡ saidWeights b → a ≡ b
 weights-apart = apart saidWeights (answer (λ vs. getD (weights.Equal ∷ weights.Lower ∷ weights.Higher ∷ weights.Neither ∷ []) (getD vs 0 0) weights.Equal) weights.Refused) weights-again
+
+written-again : (a : Written) → answer (λ vs. written.Elements (getD vs 0 0)) written.Refused (saidWritten a) ≡ a
+unfolding answer
+written-again (written.Elements n) = refl
+written-again (written.Refused r) = ap written.Refused (row-of r)
+
+pub written-apart : (a b : Written) → saidWritten a ≡ saidWritten b → a ≡ b
+written-apart = apart saidWritten (answer (λ vs. written.Elements (getD vs 0 0)) written.Refused) written-again
+
+inserted-again : (a : Inserted) → answer (λ vs. inserted.Used (getD vs 0 0)) inserted.Refused (saidInserted a) ≡ a
+unfolding answer
+inserted-again (inserted.Used n) = refl
+inserted-again (inserted.Refused r) = ap inserted.Refused (row-of r)
+
+pub inserted-apart : (a b : Inserted) → saidInserted a ≡ saidInserted b → a ≡ b
+inserted-apart = apart saidInserted (answer (λ vs. inserted.Used (getD vs 0 0)) inserted.Refused) inserted-again
