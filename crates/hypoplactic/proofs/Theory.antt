@@ -53,6 +53,7 @@ pub mod MoveResults
 pub mod LineResults
 pub mod JoinedReplies
 pub mod Closure
+pub mod Together
 -- ---- cases
 pub mod Examples
 pub mod Starred

@@ -1,6 +1,8 @@
 -- The content of a word, how often each letter stands in it, decides its length and its limits.
 --     Inside n a            a is one of 1 to n
 --     within-counts         each letter is inside exactly when only letters inside occur
+--     within-at             each letter of a word within n is one of 1 to n
+--     sum-le                the counts of some letters add up to no more than the length
 --     sum-within            each letter is inside exactly when the counts of the letters inside add up to the length
 --     accepted-content      a word with the content of an accepted word is accepted
 --     accepted-snoc         so is an accepted word of fewer than 1,024 letters with one letter more
@@ -13,7 +15,7 @@ use mathlib.Core.Bool.{Bool, true, false}
 use mathlib.Core.List.{List, [], _∷_, _++_}
 use mathlib.Core.Logic.{_↔_, _⊎_, inl, inr, dite}
 use lib.Dec.{eqb}
-use lib.ListN.{length, length-append}
+use lib.ListN.{length, getD, length-append}
 use borrow.Author.Tests.{eqb-true, eqb-false, ne-eqb}
 use Rattle.hypoplactic.specs.Words.{Accepted, Within, count, tick}
 use Rattle.hypoplactic.specs.Weights.{sumTo}
@@ -45,6 +47,12 @@ within-count n (x ∷ w) f =
 pub within-counts : (n : ℕ) (w : List ℕ) → Within n w ↔ ((a : ℕ) → 1 ≤ count a w → Inside n a)
 within-counts n w = (inside-count n w, within-count n w)
 
+-- The letter at a place is one of 1 to n.
+pub within-at : (n : ℕ) (w : List ℕ) (i : ℕ) → Within n w → i < length w → Inside n (getD w i 0)
+within-at n [] i h l = let z : ⊥ = omega arith in absurd z
+within-at n (x ∷ w) zero h l = (h .0, h .1)
+within-at n (x ∷ w) (suc i) h l = within-at n w i (h .2) (omega arith)
+
 sum-nil : (k : ℕ) → sumTo k [] ≡ 0
 sum-nil zero = refl
 sum-nil (suc k) = rw (sum-nil k)
@@ -63,7 +71,8 @@ sum-in (suc k) x w h = go (sum-in k x w) (eqb x (suc k)) refl
     go rest false e = rw (rest (omega (arith, eqb-false x (suc k) e))) (omega arith)
 
 -- The counts of the letters inside add up to at most the length,
-sum-le : (k : ℕ) (w : List ℕ) → sumTo k w ≤ length w
+-- The letters up to k stand in the word at most as often as it has letters.
+pub sum-le : (k : ℕ) (w : List ℕ) → sumTo k w ≤ length w
 sum-le k [] = rw sum-nil (omega arith)
 sum-le k (x ∷ w) = go (sum-le k w) (inside-or-out k x)
   where

@@ -1,0 +1,129 @@
+-- The operations fit together, said of the very definitions that their contracts cite: what one writes another takes, with buffers long enough.
+--     word-and-back         the way back gives the word whose tableau and recording ribbon were taken
+--     pair-and-back         the ribbons of the word of a pair within the limits are that pair
+--     reading-and-back      the tableau of the column reading of a tableau within the limits is that tableau
+--     letter-by-letter      insertion into the pair of a word makes the pair of the word with the letter at its end
+--     move-together         a move on a word and on its tableau have one reply, and the tableau of the one is the other; marks and recording stay
+-- Assumes nothing.
+use Prim.Native.Nat.{ℕ, suc, _+_, _-_, _≤_, _<_}
+use native.Mathlib.Omega.{arith}
+use mathlib.Core.Path.{_≡_, refl, sym, ap, _∙_}
+use mathlib.Core.Bool.{Bool, true, false, cond}
+use mathlib.Core.List.{List, [], _∷_, _++_}
+use mathlib.Core.Option.{Option, none, some, Option·map}
+use lib.ListN.{length, take, drop}
+use lib.Seq.{drop-append-add, drop-drop}
+use Rattle.hypoplactic.specs.Words.{Accepted}
+use Rattle.hypoplactic.specs.Ribbons.{PairAt, TableauAt}
+use Rattle.hypoplactic.specs.Insertion.{Pair, lettersOf, marksOf, pairOf, recordingOf, wordOf}
+use Rattle.hypoplactic.specs.Reading.{columnReading}
+use Rattle.hypoplactic.specs.Moves.{Move, indexOf, inverted, moveTableau, moveWord, movedWord}
+use Rattle.hypoplactic.specs.Replies.{Said, gives, written}
+use Rattle.hypoplactic.specs.WordOperations.{moveWordRun, orSame}
+use Rattle.hypoplactic.specs.TableauOperations.{insertRun, moveTableauRun, recordingRun, tableauRun, usedCells, wordRun, writtenPair}
+use Rattle.hypoplactic.proofs.Theory.Closure.{pair-word-accepted, reading-accepted, word-pair-at, word-tableau-at}
+use Rattle.hypoplactic.proofs.Theory.Correspondence.{pair-of-word, word-of-pair}
+use Rattle.hypoplactic.proofs.Theory.Layers.{within-snoc}
+use Rattle.hypoplactic.proofs.Theory.Memory.{written-length, written-needed}
+use Rattle.hypoplactic.proofs.Theory.MoveRecording.{move-recording}
+use Rattle.hypoplactic.proofs.Theory.MoveResults.{move-tableau-result, move-word-result, moveReply, undefinedBy}
+use Rattle.hypoplactic.proofs.Theory.MoveTableau.{inversion-below, tableau-answer}
+use Rattle.hypoplactic.proofs.Theory.Pairs.{length-letters, length-marks, length-recording, length-snoc, pair-snoc}
+use Rattle.hypoplactic.proofs.Theory.ReadBack.{read-back}
+use Rattle.hypoplactic.proofs.Theory.Results.{insert-result, recording-result, tableau-result, word-result}
+
+-- ---- there and back
+
+-- The way back from the ribbons of a word.
+pub word-and-back : (n : ℕ) (w out : List ℕ) → Accepted n w → length w ≤ length out
+    → wordRun n (lettersOf w) (marksOf w) (recordingOf w) out ≡ (gives (length w ∷ []), written w out)
+word-and-back n w out a l =
+    word-result n (lettersOf w) (marksOf w) (recordingOf w) out (word-pair-at a) (rw (length-letters w) l) ∙ rw (word-of-pair w, length-letters w)
+
+-- The ribbons of the word of a pair.
+pub pair-and-back : (n : ℕ) (xs ms rs letters marks entries : List ℕ) → PairAt n xs ms rs
+    → length xs ≤ length letters → length xs ≤ length marks → length xs ≤ length entries
+    → (tableauRun n (wordOf xs rs) letters marks ≡ (gives (length xs ∷ []), (written xs letters, written ms marks)))
+    × (recordingRun n (wordOf xs rs) entries ≡ (gives (length xs ∷ []), written rs entries))
+pair-and-back n xs ms rs letters marks entries h p q r =
+    let (is-letters, is-marks, is-recording) = pair-of-word (h .pair) in
+    let a : Accepted n (wordOf xs rs) = pair-word-accepted h in
+    let size : length (wordOf xs rs) ≡ length xs = sym (length-letters (wordOf xs rs)) ∙ ap length is-letters in (
+      tableau-result n (wordOf xs rs) a letters marks (omega arith) (omega arith) ∙ rw (size, is-letters, is-marks),
+      recording-result n (wordOf xs rs) a entries (omega arith) ∙ rw (size, is-recording),
+    )
+
+-- The tableau of a column reading.
+pub reading-and-back : (n : ℕ) (xs ms letters marks : List ℕ) → TableauAt n xs ms → length xs ≤ length letters → length xs ≤ length marks
+    → tableauRun n (columnReading xs ms) letters marks ≡ (gives (length xs ∷ []), (written xs letters, written ms marks))
+reading-and-back n xs ms letters marks h p q =
+    let (is-letters, is-marks) = read-back xs ms (h .tableau) in
+    let size : length (columnReading xs ms) ≡ length xs = sym (length-letters (columnReading xs ms)) ∙ ap length is-letters in
+    tableau-result n (columnReading xs ms) (reading-accepted h) letters marks (omega arith) (omega arith) ∙ rw (size, is-letters, is-marks)
+
+-- ---- letter by letter
+
+-- A list written over a shorter one.
+written-over : (us vs old : List ℕ) → length us ≤ length vs → written vs (written us old) ≡ written vs old
+written-over us vs old l =
+    let more : length us + (length vs - length us) ≡ length vs = omega arith in
+    ap (λ (rest : List ℕ). vs ++ rest)
+    (rw more at (drop-append-add us (drop (length us) old) (length vs - length us) ∙ drop-drop (length vs - length us) (length us) old))
+
+-- One letter more after a word whose pair stands in the first cells of three lists.
+module _ (n a : ℕ) (w : List ℕ) (old : Pair) (h : Accepted n (w ++ (a ∷ []))) (as-letters : length w < length (old .letters))
+    (as-marks : length w < length (old .marks)) (as-recording : length w < length (old .recording)) where
+  -- Their used cells are the pair,
+  used : (vs old : List ℕ) → length vs ≡ length w → take (length w) (written vs old) ≡ vs
+  used vs old e = rw (← e) (written-needed vs old)
+
+  all-used : usedCells (length w) (writtenPair (pairOf w) old) ≡ pairOf w
+  all-used = rw (used (lettersOf w) (old .letters) (length-letters w), used (marksOf w) (old .marks) (length-marks w), used (recordingOf w) (old .recording) (length-recording w))
+
+  -- and over it the pair with the letter is written.
+  over : (us vs old : List ℕ) → length us ≡ length w → length vs ≡ suc (length w) → written vs (written us old) ≡ written vs old
+  over us vs old e f = written-over us vs old (omega arith)
+
+  kept : (vs old : List ℕ) → length vs ≡ length w → length w < length old → length w < length (written vs old)
+  kept vs old e l = rw (written-length vs old (omega arith)) l
+
+  pub letter-by-letter : insertRun n (length w) a (writtenPair (pairOf w) old) ≡ (gives (suc (length w) ∷ []), writtenPair (pairOf (w ++ (a ∷ []))) old)
+  letter-by-letter =
+      let v : List ℕ = w ++ (a ∷ []) in
+      let size : length v ≡ suc (length w) = length-snoc w a in
+      let (within, low, high) = within-snoc n a w (h .letters) in
+      let front : Accepted n w = record { rank-low = h .rank-low; rank-high = h .rank-high; short = omega (arith, h .short); letters = within } in
+      let pair : PairAt n (lettersOf w) (marksOf w) (recordingOf w) = word-pair-at front in
+      insert-result n (length w) a (writtenPair (pairOf w) old)
+      (rw (used (lettersOf w) (old .letters) (length-letters w), used (marksOf w) (old .marks) (length-marks w), used (recordingOf w) (old .recording) (length-recording w)) pair)
+      (omega (arith, h .short)) (low, high)
+      (kept (lettersOf w) (old .letters) (length-letters w) as-letters) (kept (marksOf w) (old .marks) (length-marks w) as-marks)
+      (kept (recordingOf w) (old .recording) (length-recording w) as-recording)
+      ∙ rw (
+        all-used,
+        ← pair-snoc w a,
+        over (lettersOf w) (lettersOf v) (old .letters) (length-letters w) (length-letters v ∙ size),
+        over (marksOf w) (marksOf v) (old .marks) (length-marks w) (length-marks v ∙ size),
+        over (recordingOf w) (recordingOf v) (old .recording) (length-recording w) (length-recording v ∙ size),
+      )
+
+-- ---- moves
+
+-- A move on an accepted word and the same move on its tableau: one reply, and the tableau of the word afterwards has the letters afterwards; its marks,
+-- and the recording ribbon, stay.
+pub move-together : (n : ℕ) (m : Move) (w : List ℕ) → Accepted n w
+    → (moveTableauRun n m (lettersOf w) (marksOf w) ≡ ((moveWordRun n m w) .0, lettersOf ((moveWordRun n m w) .1)))
+    × (marksOf ((moveWordRun n m w) .1) ≡ marksOf w) × (recordingOf ((moveWordRun n m w) .1) ≡ recordingOf w)
+unfolding moveWord moveTableau
+move-together n m w a =
+    let both = go (undefinedBy n m (inverted (m .index) w)) (indexOf n (m .index)) (movedWord m w) (λ v e. move-recording m w v e) in
+    rw (move-word-result n m w a)
+    (move-tableau-result n m (lettersOf w) (marksOf w) (word-tableau-at a) ∙ rw (tableau-answer m w, inversion-below (m .index) w) (both .0), both .1, both .2)
+  where
+    go : (k : ℕ) (t : Bool) (o : Option (List ℕ)) → ((v : List ℕ) → o ≡ some v → (recordingOf v ≡ recordingOf w) × (marksOf v ≡ marksOf w))
+        → (_≡_ {A = Said × List ℕ} (moveReply k (cond t (Option·map lettersOf o) none), orSame (cond t (Option·map lettersOf o) none) (lettersOf w))
+        (moveReply k (cond t o none), lettersOf (orSame (cond t o none) w)))
+        × (marksOf (orSame (cond t o none) w) ≡ marksOf w) × (recordingOf (orSame (cond t o none) w) ≡ recordingOf w)
+    go k true none f = (refl, refl, refl)
+    go k true (some v) f = (refl, f v refl .1, f v refl .0)
+    go k false o f = (refl, refl, refl)
