@@ -17,17 +17,12 @@ use lib.Dec.{eqb}
 use lib.ListN.{getD}
 use borrow.Author.Tests.{eq-eqb, ne-eqb, not-false, not-true}
 use Rattle.hypoplactic.specs.Words.{Accepted, Within, count, tick}
-use Rattle.hypoplactic.specs.Junctions.{junctionSet, rowsOf, sameClass, sameCounts}
+use Rattle.hypoplactic.specs.Junctions.{sameClass, sameCounts}
 use Rattle.hypoplactic.specs.Replies.{Said, gives, passed, orElse, first}
-use Rattle.hypoplactic.specs.WordOperations.{junctionSays, sameClassSays, wordsJudgements}
-use Rattle.hypoplactic.proofs.Theory.Results.{junction-result}
+use Rattle.hypoplactic.specs.WordOperations.{sameClassSays, wordsJudgements}
 use Rattle.hypoplactic.proofs.Theory.SameClass.{class-rank}
-use Rattle.refusals.specs.declared.refusal.Refusal.{Refusal}
-use Rattle.refusals.specs.declared.answers.Junctions.{Junctions}
-use Rattle.refusals.specs.declared.answers.Junctions.the-variants.{Found, Refused}
-use Rattle.refusals.specs.Said.{saidJunctions}
 use Rattle.refusals.specs.Passed.{first-else, judging}
-use Rattle.words.specs.Counts.{accepted-counts, countGiven}
+use Rattle.words.specs.Given.{accepted-counts, accepted-set, countGiven, junctionGiven}
 use Rattle.words.specs.Tables.{Table}
 use Rattle.comparisons.specs.Weights.{Counts, absent-above}
 
@@ -91,23 +86,6 @@ same-tables {n} u v h g l f e =
     table-same u v f e n 0 (omega arith)
     ∙ sym (same-beyond n 64 1 u v l (λ a m. absent-above a u h (omega arith) ∙ sym (absent-above a v g (omega arith))))
 
--- ---- the junction set by the operation
-
--- An accepted word has its junction set told,
-module _ (r : Junctions) (n : ℕ) (w : List ℕ) (h : Accepted n w) (e : saidJunctions r ≡ junctionSays n w) where
-  told : saidJunctions r ≡ gives (junctionSet w ∷ rowsOf w ∷ [])
-  told = e ∙ junction-result n w h
-
-  pub set-told : {set rows : ℕ} → r ≡ Found set rows → set ≡ junctionSet w
-  set-told q = let is : saidJunctions (Found _ _) ≡ gives (junctionSet w ∷ rowsOf w ∷ []) = ap saidJunctions (sym q) ∙ told in cc
-
-  -- and is not refused.
-  pub set-not-refused : {q : Refusal} → r ≡ Refused q → 0 ≡ junctionSet w
-  set-not-refused {q} p =
-      let is : saidJunctions (Refused q) ≡ gives (junctionSet w ∷ rowsOf w ∷ []) = ap saidJunctions (sym p) ∙ told in
-      let z : _≡_ {A = ℕ} 0 1 = cc in
-      let f : ⊥ = omega arith in absurd f
-
 -- ---- two accepted words of one rank
 
 module _ {n m : ℕ} (u v : List ℕ) (h : Accepted n u) (g : Accepted m v) (r : n ≡ m) where
@@ -123,15 +101,15 @@ module _ {n m : ℕ} (u v : List ℕ) (h : Accepted n u) (g : Accepted m v) (r :
 
   -- words of equal counts and equal junction sets are.
   pub one-class : {b : Bool} {cs ds : List ℕ} {j k : ℕ} → Table (countGiven n u) cs → Table (countGiven m v) ds → b ≡ sameFrom n 0 cs ds → b ≡ true
-      → j ≡ junctionSet u → k ≡ junctionSet v → j ≡ k → gives (1 ∷ []) ≡ gives (tick (sameClass n u m v) 0 ∷ [])
+      → j ≡ junctionGiven n u → k ≡ junctionGiven m v → j ≡ k → gives (1 ∷ []) ≡ gives (tick (sameClass n u m v) 0 ∷ [])
   unfolding sameClass
-  one-class {j = j} {k = k} f e p q s t d = rw (← counted f e, ← p, q, ← s, ← t, eq-eqb n m r, eq-eqb j k d)
+  one-class {j = j} {k = k} f e p q s t d = rw (← counted f e, ← p, q, ← accepted-set h s, ← accepted-set g t, eq-eqb n m r, eq-eqb j k d)
 
 -- Words whose junction sets differ are not of one class.
-pub other-set : (n m : ℕ) {j k : ℕ} (u v : List ℕ) → j ≡ junctionSet u → k ≡ junctionSet v → (j ≡ k → ⊥)
+pub other-set : {n m j k : ℕ} (u v : List ℕ) → Accepted n u → Accepted m v → j ≡ junctionGiven n u → k ≡ junctionGiven m v → (j ≡ k → ⊥)
     → gives (0 ∷ []) ≡ gives (tick (sameClass n u m v) 0 ∷ [])
 unfolding sameClass
-other-set n m {j} {k} u v e f d = rw (← e, ← f, ne-eqb j k d, and-false)
+other-set {j = j} {k = k} u v h g e f d = rw (← accepted-set h e, ← accepted-set g f, ne-eqb j k d, and-false)
 
 -- ---- two words
 
@@ -155,8 +133,6 @@ pub ruleset matching = (
   one-class,
   other-rank,
   opens-class,
-  set-told,
-  set-not-refused,
   not-true,
   not-false,
   judging,

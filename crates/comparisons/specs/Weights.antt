@@ -27,7 +27,7 @@ use Rattle.hypoplactic.specs.Weights.{sumTo, atMost, Comparison, comparison, co
 use Rattle.hypoplactic.specs.Replies.{Said, gives, passed, orElse, first}
 use Rattle.hypoplactic.specs.WordOperations.{comparisonNumber, wordsJudgements, weightsSays}
 use Rattle.hypoplactic.proofs.Theory.Limits.{accepted-within, count-outside}
-use Rattle.words.specs.Counts.{accepted-counts, countGiven}
+use Rattle.words.specs.Given.{accepted-counts, countGiven}
 use Rattle.words.specs.Tables.{Table}
 use Rattle.refusals.specs.Passed.{first-else, judging}
 

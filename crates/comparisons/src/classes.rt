@@ -1,14 +1,13 @@
 // The same-class test: equal rank, equal count of each letter, equal junction set.
 use refusals::answers::Class;
-use refusals::answers::Junctions;
 use refusals::answers::Verdict;
 use refusals::words::check_words;
-use words::junctions::junctions;
+use words::junctions::junction_set;
 use words::tables::letter_counts;
 ghost use mathlib.Core.List.{[], _∷_};
 ghost use mathlib.Core.Path.{_≡_};
 ghost use Prim.Native.Nat.{_≤_};
-ghost use Rattle.hypoplactic.specs.Junctions.{junctionSet, sameClass};
+ghost use Rattle.hypoplactic.specs.Junctions.{sameClass};
 ghost use Rattle.hypoplactic.specs.Replies.{gives};
 ghost use Rattle.hypoplactic.specs.WordOperations.{sameClassSays};
 ghost use Rattle.hypoplactic.specs.Words.{Accepted, tick};
@@ -32,17 +31,6 @@ fn same_counts(top: usize, first: &[u16; 64], second: &[u16; 64]) -> bool
     true
 }
 
-// The junction set of an accepted word, which is never refused.
-fn set_of(rank: usize, word: &[u8]) -> u64
-    requires { ⌜ Accepted rank (now word) ⌝ }
-    ensures { λ r. ⌜ r ≡ junctionSet (now (word .entry)) ⌝ }
-{
-    match junctions(rank, word) {
-        Junctions::Found(set, _) => set,
-        Junctions::Refused(_) => 0,
-    }
-}
-
 // The test of two accepted words of one rank.
 fn match_words(first_rank: usize, first: &[u8], second_rank: usize, second: &[u8]) -> Class
     requires { ⌜ Accepted «first_rank» (now first) × Accepted «second_rank» (now second) × («first_rank» ≡ «second_rank») ⌝ }
@@ -53,8 +41,8 @@ fn match_words(first_rank: usize, first: &[u8], second_rank: usize, second: &[u8
     if !same_counts(first_rank, &first_counts, &second_counts) {
         return Class::Different;
     }
-    let first_set = set_of(first_rank, first);
-    let second_set = set_of(second_rank, second);
+    let first_set = junction_set(first_rank, first);
+    let second_set = junction_set(second_rank, second);
     if first_set == second_set {
         Class::Same
     } else {

@@ -1,8 +1,9 @@
 pub mod Bits
 pub mod Tables
-pub mod Counts
+pub mod Given
 pub mod Junctions
 pub mod Places
 pub mod Counting
 pub mod Targets
+pub mod Changes
 pub mod Moves

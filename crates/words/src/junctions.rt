@@ -10,6 +10,7 @@ ghost use Rattle.hypoplactic.specs.Words.{Accepted, tick};
 ghost use Rattle.hypoplactic.specs.Junctions.{junctionSet, rowsOf};
 ghost use Rattle.hypoplactic.specs.WordOperations.{junctionSays};
 ghost use Rattle.refusals.specs.Said.{saidJunctions};
+ghost use Rattle.words.specs.Given.{junctionGiven};
 ghost use Rattle.words.specs.Junctions.{bitAt};
 
 // The bit of a letter: the next larger letter that occurs has its first place left of the letter's last.
@@ -36,6 +37,16 @@ fn junction_bits(rank: usize, word: &[u8]) -> u64
         next = or_place(first[a], next);
     }
     set
+}
+
+// The junction set of a word; 0 where the word is refused by 1, 2 or 4.
+pub fn junction_set(rank: usize, word: &[u8]) -> u64
+    ensures { λ r. ⌜ r ≡ junctionGiven rank (now (word .entry)) ⌝ }
+{
+    if let Verdict::Refused(_) = check_word(rank, word) {
+        return 0;
+    }
+    junction_bits(rank, word)
 }
 
 // Whether the bit of a letter is set.

@@ -1,10 +1,10 @@
--- `words::moves::has_inversion` meets its contract. Assumes nothing.
-use Rattle.words.specs.Targets.{targeting}
+-- `words::moves::has_inversion` meets its contract, by the laws of specs/Moves. Assumes nothing.
+use Rattle.words.specs.Moves.{inverting}
 use Rattle.words.proofs.moves.has_inversion.Statement.{statement}
 use Rattle.words.proofs.moves.has_inversion.Tie as tie
 
 pub has-inversion-spec : {M : Type 1} → statement M
 has-inversion-spec =
     tie.close
-    (tie.spec (λ c. search targeting) (λ c κs. search targeting) (λ c κs. search targeting)
-    (λ c κs. search targeting) (λ c. search targeting))
+    (tie.spec (λ c. search inverting) (λ c κs. search inverting) (λ c κs. search inverting)
+    (λ c κs. search inverting) (λ c. search inverting))

@@ -1,4 +1,4 @@
--- `words::moves::repeat_word` meets its contract. Assumes nothing.
+-- `words::moves::repeat_word` meets its contract, by the laws of specs/Moves. Assumes nothing.
 use Rattle.words.specs.Moves.{repeating}
 use Rattle.words.proofs.moves.repeat_word.Statement.{statement}
 use Rattle.words.proofs.moves.repeat_word.Tie as tie
@@ -6,5 +6,5 @@ use Rattle.words.proofs.moves.repeat_word.Tie as tie
 pub repeat-word-spec : {M : Type 1} → statement M
 repeat-word-spec =
     tie.close
-    (tie.spec (λ c κs. search repeating) (λ c. search repeating) (λ c. search repeating) (λ c κs. search repeating)
-    (λ c. search repeating) (λ c. search repeating) (λ c. search repeating))
+    (tie.spec (λ c κs. search repeating) (λ c. search repeating) (λ c. search repeating) (λ c. search repeating)
+    (λ c. search repeating) (λ c κs. search repeating) (λ c κs. search repeating) (λ c. search repeating))

@@ -1,7 +1,7 @@
--- `words::moves::letter_taken` meets its contract. Assumes nothing.
+-- `words::changes::letter_taken` meets its contract. Assumes nothing.
 use Rattle.words.specs.Targets.{targeting}
-use Rattle.words.proofs.moves.letter_taken.Statement.{statement}
-use Rattle.words.proofs.moves.letter_taken.Tie as tie
+use Rattle.words.proofs.changes.letter_taken.Statement.{statement}
+use Rattle.words.proofs.changes.letter_taken.Tie as tie
 
 pub letter-taken-spec : {M : Type 1} → statement M
 letter-taken-spec = tie.close

@@ -1,7 +1,7 @@
--- `words::moves::letter_given` meets its contract. Assumes nothing.
+-- `words::changes::letter_given` meets its contract. Assumes nothing.
 use Rattle.words.specs.Targets.{targeting}
-use Rattle.words.proofs.moves.letter_given.Statement.{statement}
-use Rattle.words.proofs.moves.letter_given.Tie as tie
+use Rattle.words.proofs.changes.letter_given.Statement.{statement}
+use Rattle.words.proofs.changes.letter_given.Tie as tie
 
 pub letter-given-spec : {M : Type 1} → statement M
 letter-given-spec = tie.close

@@ -1,7 +1,7 @@
--- `words::moves::as_target` meets its contract. Assumes nothing.
+-- `words::changes::as_target` meets its contract. Assumes nothing.
 use Rattle.words.specs.Targets.{targeting}
-use Rattle.words.proofs.moves.as_target.Statement.{statement}
-use Rattle.words.proofs.moves.as_target.Tie as tie
+use Rattle.words.proofs.changes.as_target.Statement.{statement}
+use Rattle.words.proofs.changes.as_target.Tie as tie
 
 pub as-target-spec : {M : Type 1} → statement M
 as-target-spec = tie.close

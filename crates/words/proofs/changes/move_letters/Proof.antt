@@ -1,0 +1,11 @@
+-- `words::changes::move_letters` meets its contract, by the laws of specs/Changes. Assumes nothing.
+use Rattle.words.specs.Changes.{changing}
+use Rattle.words.proofs.changes.move_letters.Statement.{statement}
+use Rattle.words.proofs.changes.move_letters.Tie as tie
+
+pub move-letters-spec : {M : Type 1} → statement M
+move-letters-spec =
+    tie.close
+    (tie.spec (λ c κs. search changing) (λ c. search changing) (λ c. search changing) (λ c. search changing)
+    (λ c. search changing) (λ c κs. search changing) (λ c κs. search changing) (λ c. search changing)
+    (λ c. search changing))
