@@ -3,7 +3,7 @@
 --     stepFault          8: the entry at a place breaks the step into its cell
 --     Meeting            the invariant of the scan for 7
 --     meeting, stepping  the rulesets of the two checks
--- The table of entries met is in Seen. Assumes nothing.
+-- The table of entries met is in Seen, the pass before the scan for 8 in Clear. Assumes nothing.
 use Prim.Native.Nat.{ℕ, zero, suc, _+_, _-_, _<_, _≤_}
 use mathlib.Core.Path.{_≡_, refl, _∙_}
 use mathlib.Core.Bool.{Bool, true, false, _||_}
@@ -19,6 +19,7 @@ use Rattle.hypoplactic.specs.Judgements.{outside, entriesJudged, stepBroken, re
 use Rattle.hypoplactic.specs.Replies.{gives, refused}
 use Rattle.hypoplactic.proofs.Theory.FirstPlaces.{entries-scan, recording-scan, shorter}
 use Rattle.refusals.specs.Scanning.{Scanning, scanFrom, scan-from, start, turn, found, none}
+use Rattle.validity.specs.Clear.{clearing}
 use Rattle.validity.specs.Seen.{InTable, Judged, Met, Reaches, Seen}
 use Rattle.validity.specs.Faults.{Shorter, shorter-is, shorter-size}
 
@@ -101,4 +102,4 @@ start-steps (r ∷ rs) (m ∷ ms) s =
     (λ q l. let e : 1 + q - 1 ≡ q = omega arith in let f : 1 + q ≡ suc q = omega arith in rw (e, f)))
     (omega (arith, shorter-is s (shorter-size (r ∷ rs) (m ∷ ms))))
 
-pub ruleset stepping = (turn, found, none, start-steps, step-right, step-down, needs)
+pub ruleset stepping = (turn, found, none, start-steps, step-right, step-down, clearing, needs)

@@ -2,22 +2,23 @@
 --     fallFault, markFault (hypoplactic, FirstPlaces)      5, 6
 --     Shorter a b r                                        r is the smaller of two lengths: how many places two lists have in common
 --     start-rising, start-marks                            where the two scans begin
---     scanning                                             the ruleset of the scans
+--     scanning                                             the ruleset of the scans, and of the passes before them (Clear)
 -- Assumes nothing.
 use Prim.Native.Nat.{ℕ, zero, suc, _+_, _-_, _<_, _≤_}
-use mathlib.Core.Path.{_≡_, refl, _∙_}
-use mathlib.Core.Bool.{Bool, _&&_, _||_, or-false}
+use mathlib.Core.Path.{_≡_, refl, ap, sym, _∙_}
+use mathlib.Core.Bool.{Bool, true, _&&_, _||_, and-false, or-false}
 use mathlib.Core.Logic.{_⊎_, inl, inr}
 use mathlib.Core.List.{List, [], _∷_}
 use native.Mathlib.Omega.{arith}
 use lib.Dec.{eqb, ltb}
 use lib.ListN.{length, getD}
 use borrow.Author.Needs.{needs}
-use borrow.Author.Tests.{ne-eqb}
+use borrow.Author.Tests.{eq-eqb, lt-ltb, ne-eqb}
 use Rattle.hypoplactic.specs.Judgements.{risingJudged, marksJudged}
 use Rattle.hypoplactic.proofs.Theory.FirstPlaces.{rising-scan, marks-scan, markFault, shorter}
 use Rattle.hypoplactic.proofs.Theory.Pairs.{le-or-lt}
 use Rattle.refusals.specs.Scanning.{Scanning, scanFrom, scan-from, start, turn, found, none}
+use Rattle.validity.specs.Clear.{clearing}
 
 -- ---- letters
 
@@ -73,7 +74,7 @@ shorter-is {a} {b} {r} {q} s t = go (le-or-lt r q) (le-or-lt q r)
     go (inr f) g = absurd (omega (arith, t .whole q (omega (arith, s .first)) (omega (arith, s .second))))
     go (inl f) (inr g) = absurd (omega (arith, s .whole r (omega (arith, t .first)) (omega (arith, t .second))))
 
--- The three faults of a mark: at the first place, of a mark 1, of any other.
+-- The faults of a mark: at the first place, between equals, between different letters.
 pub mark-first : (xs ms : List ℕ) (p : ℕ) → p ≡ 0 → ltb 0 (getD ms p 0) ≡ markFault xs ms p
 mark-first xs ms p e = rw e
 
@@ -82,15 +83,22 @@ mark-later : (xs ms : List ℕ) (p : ℕ) → (p ≡ 0 → ⊥)
 mark-later xs ms zero h = absurd (h refl)
 mark-later xs ms (suc p) h = let e : suc p - 1 ≡ p = omega arith in rw e
 
-pub mark-down : (xs ms : List ℕ) (p : ℕ) → (p ≡ 0 → ⊥) → getD ms p 0 ≡ 1 → eqb (getD xs (p - 1) 0) (getD xs p 0) ≡ markFault xs ms p
-mark-down xs ms p h e = rw (mark-later xs ms p h, e)
+-- A mark above 0 is above 1, or it is 1.
+above-none : (m : ℕ) → ltb 0 m ≡ (ltb 1 m || eqb m 1 && true)
+above-none zero = refl
+above-none (suc zero) = refl
+above-none (suc (suc m)) =
+    lt-ltb 0 (suc (suc m)) (omega arith) ∙ ap (λ (b : Bool). b || eqb (suc (suc m)) 1 && true) (sym (lt-ltb 1 (suc (suc m)) (omega arith)))
 
-pub mark-other : (xs ms : List ℕ) (p : ℕ) → (p ≡ 0 → ⊥) → (getD ms p 0 ≡ 1 → ⊥) → ltb 1 (getD ms p 0) ≡ markFault xs ms p
-mark-other xs ms p h e = rw (mark-later xs ms p h, ne-eqb (getD ms p 0) 1 e, or-false)
+pub mark-level : (xs ms : List ℕ) (p : ℕ) → (p ≡ 0 → ⊥) → getD xs (p - 1) 0 ≡ getD xs p 0 → ltb 0 (getD ms p 0) ≡ markFault xs ms p
+mark-level xs ms p h e = rw (mark-later xs ms p h, eq-eqb (getD xs (p - 1) 0) (getD xs p 0) e) (above-none (getD ms p 0))
+
+pub mark-apart : (xs ms : List ℕ) (p : ℕ) → (p ≡ 0 → ⊥) → (getD xs (p - 1) 0 ≡ getD xs p 0 → ⊥) → ltb 1 (getD ms p 0) ≡ markFault xs ms p
+mark-apart xs ms p h e = rw (mark-later xs ms p h, ne-eqb (getD xs (p - 1) 0) (getD xs p 0) e, and-false, or-false)
 
 pub start-marks : {size : ℕ} (xs ms : List ℕ) → Shorter (length xs) (length ms) size → Scanning 6 (markFault xs ms) size (marksJudged xs ms) 0
 start-marks {size} xs ms s =
     start (shorter xs ms) (marks-scan xs ms ∙ scan-from 6 0 (shorter xs ms) _ (markFault xs ms) (λ q l. let e : 0 + q ≡ q = omega arith in rw e))
     (omega (arith, shorter-is s (shorter-size xs ms)))
 
-pub ruleset scanning = (turn, found, none, start-rising, start-marks, mark-first, mark-down, mark-other, shorter-first, shorter-second, opens-fall, needs)
+pub ruleset scanning = (turn, found, none, start-rising, start-marks, mark-first, mark-level, mark-apart, shorter-first, shorter-second, opens-fall, clearing, needs)

@@ -1,3 +1,4 @@
+pub mod Clear
 pub mod Faults
 pub mod Seen
 pub mod Entries

@@ -1,4 +1,4 @@
--- `validity::marks::check_marks` meets its contract, by the laws of specs/Faults and Scanning. Assumes nothing.
+-- `validity::marks::check_marks` meets its contract, by the laws of specs/Faults, Clear and Scanning. Assumes nothing.
 use Prim.Native.Nat.{_-_}
 use Rattle.validity.specs.Faults.{scanning}
 use Rattle.refusals.specs.Scanning.{Scanning}
@@ -16,6 +16,6 @@ abbrev μ-loop : tie.MeasureT-loop
 pub check-marks-spec : {M : Type 1} → statement M
 check-marks-spec =
     tie.close
-    (tie.spec Inv-loop μ-loop (λ c κs. search scanning) (λ c. search scanning) (λ c κs. search scanning)
-    (λ c. search scanning) (λ c. search scanning) (λ c. search scanning) (λ c. search scanning)
-    (λ c. search scanning))
+    (tie.spec Inv-loop μ-loop (λ c κs. search scanning) (λ c κs. search scanning) (λ c. search scanning)
+    (λ c. search scanning) (λ c κs. search scanning) (λ c. search scanning) (λ c. search scanning)
+    (λ c. search scanning) (λ c. search scanning) (λ c. search scanning))

@@ -1,4 +1,4 @@
--- `validity::recording::check_recording` meets its contract, by the laws of specs/Entries and Scanning. Assumes nothing.
+-- `validity::recording::check_recording` meets its contract, by the laws of specs/Entries, Clear and Scanning. Assumes nothing.
 use Prim.Native.Nat.{_-_, _≤_}
 use Rattle.validity.specs.Entries.{stepFault, stepping}
 use Rattle.refusals.specs.Scanning.{Scanning}
@@ -15,6 +15,6 @@ abbrev μ-loop : tie.MeasureT-loop
 pub check-recording-spec : {M : Type 1} → statement M
 check-recording-spec =
     tie.close
-    (tie.spec Inv-loop μ-loop (λ c κs. search stepping) (λ c. search stepping) (λ c κs. search stepping)
-    (λ c. search stepping) (λ c. search stepping) (λ c. search stepping) (λ c. search stepping)
-    (λ c. search stepping))
+    (tie.spec Inv-loop μ-loop (λ c κs. search stepping) (λ c κs. search stepping) (λ c. search stepping)
+    (λ c. search stepping) (λ c κs. search stepping) (λ c. search stepping) (λ c. search stepping)
+    (λ c. search stepping) (λ c. search stepping) (λ c. search stepping))

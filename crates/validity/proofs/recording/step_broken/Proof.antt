@@ -7,6 +7,4 @@ pub step-broken-spec : {M : Type 1} → statement M
 step-broken-spec =
     tie.close
     (tie.spec (λ c. search stepping) (λ c. search stepping) (λ c. search stepping) (λ c. search stepping)
-    (λ c. search stepping) (λ c. search stepping) (λ c. search stepping) (λ c. search stepping)
-    (λ c. search stepping) (λ c. search stepping) (λ c. search stepping) (λ c. search stepping)
-    (λ c. search stepping))
+    (λ c. search stepping) (λ c. search stepping) (λ c. search stepping) (λ c. search stepping))

@@ -1,4 +1,4 @@
--- `validity::rising::check_rising` meets its contract, by the laws of specs/Faults and Scanning. Assumes nothing.
+-- `validity::rising::check_rising` meets its contract, by the laws of specs/Faults, Clear and Scanning. Assumes nothing.
 use Prim.Native.Nat.{_-_, _≤_}
 use lib.ListN.{length}
 use Rattle.validity.specs.Faults.{scanning, fallFault}
@@ -16,5 +16,6 @@ abbrev μ-loop : tie.MeasureT-loop
 pub check-rising-spec : {M : Type 1} → statement M
 check-rising-spec =
     tie.close
-    (tie.spec Inv-loop μ-loop (λ c. search scanning) (λ c κs. search scanning) (λ c. search scanning)
-    (λ c. search scanning) (λ c. search scanning) (λ c. search scanning) (λ c. search scanning))
+    (tie.spec Inv-loop μ-loop (λ c κs. search scanning) (λ c. search scanning) (λ c. search scanning)
+    (λ c κs. search scanning) (λ c. search scanning) (λ c. search scanning) (λ c. search scanning)
+    (λ c. search scanning) (λ c. search scanning))
