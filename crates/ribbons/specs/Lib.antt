@@ -1,0 +1,5 @@
+pub mod Runs
+pub mod Layers
+pub mod Tableau
+pub mod RecordingCells
+pub mod Recording
