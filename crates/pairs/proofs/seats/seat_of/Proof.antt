@@ -1,0 +1,17 @@
+-- `pairs::seats::seat_of` meets its contract, by the laws of specs/Seats. Assumes nothing.
+use Rattle.pairs.specs.Seats.{seating, Seating}
+use Rattle.pairs.proofs.seats.seat_of.Statement.{statement}
+use Rattle.pairs.proofs.seats.seat_of.Tie as tie
+
+abbrev Inv-loop : tie.InvT-loop
+Inv-loop letter letters i₀ i = Seating letter letters i
+
+abbrev μ-loop : tie.MeasureT-loop
+μ-loop letter letters i₀ i = i
+
+pub seat-of-spec : {M : Type 1} → statement M
+seat-of-spec =
+    tie.close
+    (tie.spec Inv-loop μ-loop (λ c. search seating) (λ c. search seating) (λ c. search seating)
+    (λ c κs. search seating) (λ c. search seating) (λ c. search seating) (λ c. search seating) (λ c. search seating)
+    (λ c. search seating))
