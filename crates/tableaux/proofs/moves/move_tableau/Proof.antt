@@ -1,0 +1,10 @@
+-- `tableaux::moves::move_tableau` meets its contract, by the laws of specs/Moves. Assumes nothing.
+use Rattle.tableaux.specs.Moves.{moving}
+use Rattle.tableaux.proofs.moves.move_tableau.Statement.{statement}
+use Rattle.tableaux.proofs.moves.move_tableau.Tie as tie
+
+pub move-tableau-spec : {M : Type 1} → statement M
+move-tableau-spec =
+    tie.close
+    (tie.spec (λ c κs. search moving) (λ c. search moving) (λ c. search moving) (λ c. search moving)
+    (λ c. search moving) (λ c κs. search moving) (λ c κs. search moving) (λ c. search moving) (λ c. search moving))
