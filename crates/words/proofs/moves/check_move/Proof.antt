@@ -1,6 +1,5 @@
 -- `words::moves::check_move` meets its contract, by the laws of refusals' specs/Running. Assumes nothing.
 use Rattle.refusals.specs.Running.{following}
-use borrow.Author.Needs.{needs}
 use Rattle.words.proofs.moves.check_move.Statement.{statement}
 use Rattle.words.proofs.moves.check_move.Tie as tie
 
