@@ -51,6 +51,9 @@ pub mod Judged
 pub mod Results
 pub mod MoveResults
 pub mod LineResults
+pub mod WrittenClasses
+pub mod LineReadings
+pub mod Outputs
 pub mod JoinedReplies
 pub mod Closure
 pub mod Together

@@ -1,15 +1,22 @@
 -- What document 01 demands of classes (demand 3), as one statement about two words: a record whose fields are its sentences. The theorem that it
 -- holds, for any rank and any two words accepted at it, stands in proofs/Theory/Classes.antt.
 --     Faithful line move u v    lines and moves tell of u and v what the rewriting rules tell
--- Read at `tableauLine n` and `moveWord n` it is the demand at rank n. Assumes nothing.
+--     FaithfullyWritten n u v   the same of what the operations reply and leave in lent memory
+-- Read at `tableauLine n` and `moveWord n` the first is the demand at rank n. The second speaks of the very definitions that the contracts of the tableau
+-- line, of the moves on words and of the recording ribbon cite. Assumes nothing.
 use mathlib.Core.Path.{_≡_}
-use mathlib.Core.List.{List}
+use mathlib.Core.List.{List, [], _∷_}
 use mathlib.Core.Logic.{_↔_}
 use mathlib.Core.Option.{Option, some}
-use Prim.Native.Nat.{ℕ}
+use Prim.Native.Nat.{ℕ, _≤_}
+use lib.ListN.{length, take}
 use Rattle.hypoplactic.specs.Insertion.{recordingOf}
 use Rattle.hypoplactic.specs.Moves.{Move, Defined}
 use Rattle.hypoplactic.specs.Rewriting.{Joined}
+use Rattle.hypoplactic.specs.Replies.{Said, gives, refused}
+use Rattle.hypoplactic.specs.WordOperations.{moveWordRun}
+use Rattle.hypoplactic.specs.TableauOperations.{recordingRun}
+use Rattle.hypoplactic.specs.LineOperations.{tableauLine, tableauLineRun}
 
 pub record Faithful {A : Type 0} (line : List ℕ → A) (move : Move → List ℕ → Option (List ℕ)) (u v : List ℕ) : Type 0 where
   -- 1. Their lines are equal exactly when a chain joins them.
@@ -20,3 +27,29 @@ pub record Faithful {A : Type 0} (line : List ℕ → A) (move : Move → List �
   pub results : Joined u v → (m : Move) (u′ v′ : List ℕ) → move m u ≡ some u′ → move m v ≡ some v′ → line u′ ≡ line v′
   -- 3. Where a move is defined, the result's recording ribbon is the word's own.
   pub recordings : (m : Move) (u′ : List ℕ) → move m u ≡ some u′ → recordingOf u′ ≡ recordingOf u
+
+-- What an operation has written: as many elements from the front of lent memory as its reply tells, none where it refuses.
+abbrev pub elements : Said → List ℕ → List ℕ
+elements (gives []) memory = []
+elements (gives (k ∷ vs)) memory = take k memory
+elements (refused k p) memory = []
+
+-- The bytes of a word's tableau line as they stand in lent memory.
+abbrev pub lineBytes : ℕ → List ℕ → List ℕ → List ℕ
+lineBytes n w out = elements ((tableauLineRun n w out) .0) ((tableauLineRun n w out) .1)
+
+-- The lent word after a move.
+abbrev pub moveLeft : ℕ → Move → List ℕ → List ℕ
+moveLeft n m w = (moveWordRun n m w) .1
+
+pub record FaithfullyWritten (n : ℕ) (u v : List ℕ) : Type 0 where
+  -- 1. With buffers long enough, the bytes written are equal exactly when a chain joins the words.
+  pub shared : (out out′ : List ℕ) → length (tableauLine n u) ≤ length out → length (tableauLine n v) ≤ length out′
+      → (lineBytes n u out ≡ lineBytes n v out′) ↔ Joined u v
+  -- 2. If a chain joins them, each move has one reply to both,
+  pub together : Joined u v → (m : Move) → (moveWordRun n m u) .0 ≡ (moveWordRun n m v) .0
+  -- and the bytes written for the words that it leaves are equal.
+  pub results : Joined u v → (m : Move) (out out′ : List ℕ) → length (tableauLine n (moveLeft n m u)) ≤ length out
+      → length (tableauLine n (moveLeft n m v)) ≤ length out′ → lineBytes n (moveLeft n m u) out ≡ lineBytes n (moveLeft n m v) out′
+  -- 3. A move keeps what the recording ribbon's operation replies and writes, whatever memory it is lent.
+  pub recordings : (m : Move) (entries : List ℕ) → recordingRun n (moveLeft n m u) entries ≡ recordingRun n u entries

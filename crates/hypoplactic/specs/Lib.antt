@@ -12,5 +12,6 @@ pub mod Judgements
 pub mod WordOperations
 pub mod TableauOperations
 pub mod LineOperations
+pub mod LineReadings
 pub mod Classes
 pub mod Starred

@@ -1,10 +1,13 @@
 -- The tableau line of a word, what the writers of lines reply, and what the program prints (document 01, "Lines", "The program").
 --     tableauLine n w                 document 01's tableau line: the whole T line of the word's tableau, line feed included
---     wLineRun, tableauLineRun, jLineRun   1 2 4 13       give the bytes written
+--     roomRun                         13: bytes as they are; gives how many are written, as all writers do
+--     wLineRun, tableauLineRun, jLineRun   1 2 4 13
 --     tLineRun                        1 to 6, 13
 --     nLineRun                        2 7 13
+--     eLineRun                        13: the E line of a number and a place
+--     fourLines n w                   the four lines that are printed for an accepted word
 --     program n w                     the whole output for the values of a W line
--- The lines themselves are those of the crate grammar. What readers say, and refusal 14, come with the readers. Assumes nothing.
+-- The lines themselves are those of the crate grammar. What readers say, refusal 14 and the whole output for a text are in LineReadings. Assumes nothing.
 use Prim.Native.Nat.{ℕ}
 use mathlib.Core.List.{List, [], _∷_, _++_}
 use lib.ListN.{length}
@@ -23,6 +26,10 @@ tableauLine n w = tLine n (lettersOf w) (marksOf w)
 abbrev pub lineRun : List Said → List ℕ → List ℕ → Said × List ℕ
 lineRun checks bytes out = ranTo (first (checks ++ (roomJudged (length bytes) (length out) ∷ [])) (gives (length bytes ∷ []))) (written bytes out) out
 
+-- Bytes of which nothing is to be judged but the room for them.
+unfoldable pub roomRun : List ℕ → List ℕ → Said × List ℕ
+roomRun bytes out = lineRun [] bytes out
+
 unfoldable pub wLineRun : ℕ → List ℕ → List ℕ → Said × List ℕ
 wLineRun n w out = lineRun (wordJudgements n w) (wLine n w) out
 
@@ -39,13 +46,19 @@ tableauLineRun n w out = lineRun (wordJudgements n w) (tableauLine n w) out
 unfoldable pub jLineRun : ℕ → List ℕ → List ℕ → Said × List ℕ
 jLineRun n w out = lineRun (wordJudgements n w) (jLine (junctionSet w) (rowsOf w)) out
 
+-- The E line of a refusal.
+unfoldable pub eLineRun : ℕ → ℕ → List ℕ → Said × List ℕ
+eLineRun k p out = lineRun [] (eLine k p) out
+
 -- A refusal prints only its E line.
 abbrev pub printed : Said → List ℕ → List ℕ
 printed (gives vs) lines = lines
 printed (refused k p) lines = eLine k p
 
--- The T line, the N line, the W line of the column reading, and the J line.
+-- The T line, the N line, the W line of the column reading, and the J line of a word.
+abbrev pub fourLines : ℕ → List ℕ → List ℕ
+fourLines n w =
+    tableauLine n w ++ (nLine (recordingOf w) ++ (wLine n (columnReading (lettersOf w) (marksOf w)) ++ jLine (junctionSet w) (rowsOf w)))
+
 unfoldable pub program : ℕ → List ℕ → List ℕ
-program n w =
-    printed (first (wordJudgements n w) passed)
-    (tableauLine n w ++ (nLine (recordingOf w) ++ (wLine n (columnReading (lettersOf w) (marksOf w)) ++ jLine (junctionSet w) (rowsOf w))))
+program n w = printed (first (wordJudgements n w) passed) (fourLines n w)

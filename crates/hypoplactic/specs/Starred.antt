@@ -14,7 +14,8 @@ use Rattle.hypoplactic.specs.Replies.{Said, gives, refused, passed, firs
 use Rattle.hypoplactic.specs.Judgements.{fullJudged, wordJudgements}
 use Rattle.hypoplactic.specs.WordOperations.{junctionSays, moveWordRun, repeatWordSays, sameClassSays, weightsSays}
 use Rattle.hypoplactic.specs.TableauOperations.{tableauSays, recordingRun, insertSays, wordSays, moveTableauRun, repeatTableauSays, viewerSays, lookSays}
-use Rattle.hypoplactic.specs.LineOperations.{program, tableauLine}
+use Rattle.hypoplactic.specs.LineOperations.{tableauLine}
+use Rattle.hypoplactic.specs.LineReadings.{output, readNRun, readTRun}
 
 -- The bytes of a text.
 abbrev pub text : String → List ℕ
@@ -60,7 +61,7 @@ w12446553275 = 1 ∷ 2 ∷ 4 ∷ 4 ∷ 6 ∷ 5 ∷ 5 ∷ 3 ∷ 2 ∷ 7 ∷ 5 ∷
 unfoldable pub starredCases : List Case
 starredCases =
     -- 4323 at rank 4: the four lines
-    case (program 4 w4323) (text "T,4,4,2,d,3,r,3,d,4\nN,4,3,2,4,1\nW,4,4,3,2,4,3\nJ,6,3\n")
+    case (output (text "W,4,4,4,3,2,3\n")) (text "T,4,4,2,d,3,r,3,d,4\nN,4,3,2,4,1\nW,4,4,3,2,4,3\nJ,6,3\n")
     -- 12446553275: letters, down steps into 3, the first 4 and 6 only, recording, and back
     ∷ case (lettersOf w12446553275) (1 ∷ 2 ∷ 2 ∷ 3 ∷ 4 ∷ 4 ∷ 5 ∷ 5 ∷ 5 ∷ 6 ∷ 7 ∷ [])
     ∷ case (marksOf w12446553275) (0 ∷ 0 ∷ 0 ∷ 1 ∷ 1 ∷ 0 ∷ 0 ∷ 0 ∷ 0 ∷ 1 ∷ 0 ∷ [])
@@ -69,7 +70,7 @@ starredCases =
     (wordOf (1 ∷ 2 ∷ 2 ∷ 3 ∷ 4 ∷ 4 ∷ 5 ∷ 5 ∷ 5 ∷ 6 ∷ 7 ∷ []) (1 ∷ 2 ∷ 9 ∷ 8 ∷ 3 ∷ 4 ∷ 6 ∷ 7 ∷ 11 ∷ 5 ∷ 10 ∷ []))
     w12446553275
     -- the empty word at rank 4
-    ∷ case (program 4 []) (text "T,4,0\nN,0\nW,4,0\nJ,0,0\n")
+    ∷ case (output (text "W,4,0\n")) (text "T,4,0\nN,0\nW,4,0\nJ,0,0\n")
     -- 433 at rank 4
     ∷ case (tableauLine 4 w433) (text "T,4,3,3,r,3,d,4\n")
     ∷ case (recordingOf w433) (2 ∷ 3 ∷ 1 ∷ [])
@@ -110,7 +111,7 @@ workedCases =
     ∷ case (numbers (sameClassSays 4 (1 ∷ 3 ∷ 2 ∷ 4 ∷ []) 4 (3 ∷ 1 ∷ 4 ∷ 2 ∷ []))) (0 ∷ 1 ∷ [])
     ∷ []
 
--- The checked words that are not starred, as far as no text is read, and one case or more for each refusal number, at first, middle and last places.
+-- The checked words that are not starred, and one case or more for each refusal number, at first, middle and last places.
 unfoldable pub refusalCases : List Case
 refusalCases =
     -- 1: rank 1 and 64 pass, 0 and 65 do not
@@ -128,7 +129,7 @@ refusalCases =
     ∷ case (numbers (junctionSays 4 (3 ∷ 5 ∷ 0 ∷ []))) (4 ∷ 1 ∷ [])
     ∷ case (numbers (sameClassSays 4 (1 ∷ 2 ∷ []) 3 (3 ∷ 4 ∷ []))) (4 ∷ 3 ∷ [])
     ∷ case (numbers (insertSays 4 2 5 (pair (2 ∷ 1 ∷ 0 ∷ []) (0 ∷ 0 ∷ 0 ∷ []) (1 ∷ 2 ∷ 0 ∷ [])))) (4 ∷ 2 ∷ [])
-    ∷ case (program 4 (5 ∷ [])) (text "E,4,0\n")
+    ∷ case (output (text "W,4,1,5\n")) (text "E,4,0\n")
     -- 5, 6: the later cell; a first mark that is not 0, a mark that is none, down between equals
     ∷ case (numbers (viewerSays 4 (1 ∷ 3 ∷ 2 ∷ []) (1 ∷ 0 ∷ 0 ∷ []))) (5 ∷ 2 ∷ [])
     ∷ case (numbers (viewerSays 4 (1 ∷ 1 ∷ []) (1 ∷ 1 ∷ []))) (6 ∷ 0 ∷ [])
@@ -156,4 +157,11 @@ refusalCases =
     ∷ case (numbers (tableauSays 4 w433 3 2)) (13 ∷ 3 ∷ [])
     ∷ case (outcome (recordingRun 4 w433 (9 ∷ 9 ∷ 9 ∷ 9 ∷ 9 ∷ []))) (0 ∷ 3 ∷ 2 ∷ 3 ∷ 1 ∷ 9 ∷ 9 ∷ [])
     ∷ case (outcome (recordingRun 4 w433 (9 ∷ 9 ∷ []))) (13 ∷ 3 ∷ 9 ∷ 9 ∷ [])
+    -- 14: too few letters, and each reader's own first wrong byte
+    ∷ case (output (text "W,4,2,3\n")) (text "E,14,7\n")
+    ∷ case (output (text "W,99,2,3\n")) (text "E,14,8\n")
+    ∷ case (numbers ((readTRun (text "T,4,1,3,r") (9 ∷ []) (9 ∷ [])) .0)) (14 ∷ 7 ∷ [])
+    ∷ case (numbers ((readTRun (text "T,4,2,3,d,3\n") (9 ∷ 9 ∷ []) (9 ∷ 9 ∷ [])) .0)) (6 ∷ 1 ∷ [])
+    ∷ case (outcome (readNRun (text "N,2,2,2\n") (9 ∷ 9 ∷ []))) (7 ∷ 1 ∷ 9 ∷ 9 ∷ [])
+    ∷ case (outcome (readNRun (text "N,2,2,1\n") (9 ∷ 9 ∷ 9 ∷ []))) (0 ∷ 2 ∷ 2 ∷ 1 ∷ 9 ∷ [])
     ∷ []

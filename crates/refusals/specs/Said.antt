@@ -3,7 +3,8 @@
 --     number, place      of a refusal, as document 01's table fixes them
 --     saidRefusal        a refusal
 --     saidFault k        the first fault that a scan for refusal k finds
---     saidVerdict, saidMove, saidRepeat, saidJunctions, saidClass, saidWeights, saidWritten, saidInserted      the answers
+--     saidVerdict, saidMove, saidRepeat, saidJunctions, saidClass, saidWeights, saidWritten, saidInserted, saidWordLine, saidTableauLine, saidRecordingLine
+--                        the answers
 -- That each of them tells all cases apart is proofs/Theory/Apart. Assumes nothing.
 use Prim.Native.Nat.{ℕ}
 use mathlib.Core.List.{[], _∷_}
@@ -28,6 +29,12 @@ use Rattle.refusals.specs.declared.answers.Written.{Written}
 use Rattle.refusals.specs.declared.answers.Written.the-variants as written
 use Rattle.refusals.specs.declared.answers.Inserted.{Inserted}
 use Rattle.refusals.specs.declared.answers.Inserted.the-variants as inserted
+use Rattle.refusals.specs.declared.answers.WordLine.{WordLine}
+use Rattle.refusals.specs.declared.answers.WordLine.the-variants as wordLine
+use Rattle.refusals.specs.declared.answers.TableauLine.{TableauLine}
+use Rattle.refusals.specs.declared.answers.TableauLine.the-variants as tableauLine
+use Rattle.refusals.specs.declared.answers.RecordingLine.{RecordingLine}
+use Rattle.refusals.specs.declared.answers.RecordingLine.the-variants as recordingLine
 
 abbrev pub number : Refusal → ℕ
 number Rank = 1
@@ -109,3 +116,18 @@ saidWritten (written.Refused r) = saidRefusal r
 abbrev pub saidInserted : Inserted → Said
 saidInserted (inserted.Used n) = gives (n ∷ [])
 saidInserted (inserted.Refused r) = saidRefusal r
+
+-- Rank and number of letters.
+abbrev pub saidWordLine : WordLine → Said
+saidWordLine (wordLine.Word n l) = gives (n ∷ l ∷ [])
+saidWordLine (wordLine.Refused r) = saidRefusal r
+
+-- Rank and number of cells.
+abbrev pub saidTableauLine : TableauLine → Said
+saidTableauLine (tableauLine.Tableau n l) = gives (n ∷ l ∷ [])
+saidTableauLine (tableauLine.Refused r) = saidRefusal r
+
+-- The number of entries.
+abbrev pub saidRecordingLine : RecordingLine → Said
+saidRecordingLine (recordingLine.Recording l) = gives (l ∷ [])
+saidRecordingLine (recordingLine.Refused r) = saidRefusal r

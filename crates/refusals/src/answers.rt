@@ -59,3 +59,21 @@ pub enum Inserted {
     Used(usize),
     Refused(Refusal),
 }
+
+// What the reader of a W line answers: rank and number of letters.
+pub enum WordLine {
+    Word(usize, usize),
+    Refused(Refusal),
+}
+
+// What the reader of a T line answers: rank and number of cells.
+pub enum TableauLine {
+    Tableau(usize, usize),
+    Refused(Refusal),
+}
+
+// What the reader of an N line answers: the number of entries.
+pub enum RecordingLine {
+    Recording(usize),
+    Refused(Refusal),
+}

@@ -98,7 +98,7 @@ stepped x (y ∷ ys) (zero ∷ ms) h = (zero-le, stepped y ys ms (h .1))
 stepped x (y ∷ ys) (suc zero ∷ ms) h = (le-refl 1, stepped y ys ms (h .1))
 stepped x (y ∷ ys) (suc (suc m) ∷ ms) h = absurd (h .0)
 
-marked : (xs ms : List ℕ) → Tableau xs ms → Marked xs ms
+pub marked : (xs ms : List ℕ) → Tableau xs ms → Marked xs ms
 marked [] [] h = tt
 marked (x ∷ xs) (m ∷ ms) h = (h .0, stepped x xs ms (h .1))
 

@@ -1,21 +1,24 @@
 -- Writers of lines: an input that keeps the limits, with room for the bytes, gets its line (theorem i), and the program prints the four lines. Assumes nothing.
 use Prim.Native.Nat.{ℕ, _≤_}
 use mathlib.Core.Path.{_≡_}
-use mathlib.Core.List.{List, [], _∷_, _++_}
+use mathlib.Core.List.{List, [], _∷_}
 use lib.ListN.{length}
-use Rattle.grammar.specs.Lines.{wLine, tLine, nLine, jLine}
+use Rattle.grammar.specs.Lines.{wLine, tLine, nLine, jLine, eLine}
 use Rattle.hypoplactic.specs.Words.{Accepted, Within}
 use Rattle.hypoplactic.specs.Ribbons.{TableauAt}
-use Rattle.hypoplactic.specs.Insertion.{lettersOf, marksOf, recordingOf}
-use Rattle.hypoplactic.specs.Reading.{columnReading}
 use Rattle.hypoplactic.specs.Junctions.{junctionSet, rowsOf}
 use Rattle.hypoplactic.specs.Replies.{Said, gives, passed, written}
 use Rattle.hypoplactic.specs.Judgements.{lengthJudged, entriesJudged, roomJudged, wordJudgements, tableauJudgements}
-use Rattle.hypoplactic.specs.LineOperations.{tableauLine, lineRun, wLineRun, tLineRun, nLineRun, tableauLineRun, jLineRun, program}
-use Rattle.hypoplactic.proofs.Theory.Passing.{Passing, ran-answer, first-answer}
+use Rattle.hypoplactic.specs.LineOperations.{tableauLine, lineRun, roomRun, wLineRun, tLineRun, nLineRun, tableauLineRun, jLineRun, eLineRun, fourLines, program}
+use Rattle.hypoplactic.proofs.Theory.Passing.{Passing, ran-answer, first-answer, first-past}
 use Rattle.hypoplactic.proofs.Theory.Once.{Simple}
 use Rattle.hypoplactic.proofs.Theory.Judgements.{length-judged, entries-judged, room-judged}
 use Rattle.hypoplactic.proofs.Theory.Judged.{word-passing, tableau-passing}
+
+-- A writer whose checks refuse nothing judges only room.
+pub past-checks : (js : List Said) (bytes out : List ℕ) → Passing js → roomRun bytes out ≡ lineRun js bytes out
+unfolding roomRun
+past-checks js bytes out p = rw (first-past js (roomJudged (length bytes) (length out) ∷ []) (gives (length bytes ∷ [])) p)
 
 -- Any writer whose checks refuse nothing, with room for its bytes.
 line-result : (checks : List Said) (bytes out : List ℕ) → Passing checks → length bytes ≤ length out → lineRun checks bytes out ≡ (gives (length bytes ∷ []), written bytes out)
@@ -38,8 +41,7 @@ module _ (n : ℕ) (w : List ℕ) (a : Accepted n w) where
   j-line-result out r = line-result (wordJudgements n w) (jLine (junctionSet w) (rowsOf w)) out (word-passing n w .1 a) r
 
   -- The program prints four lines for an accepted word.
-  pub program-result : program n w
-      ≡ tableauLine n w ++ (nLine (recordingOf w) ++ (wLine n (columnReading (lettersOf w) (marksOf w)) ++ jLine (junctionSet w) (rowsOf w)))
+  pub program-result : program n w ≡ fourLines n w
   unfolding program
   program-result = rw (first-answer (wordJudgements n w) passed (word-passing n w .1 a))
 
@@ -55,3 +57,7 @@ unfolding nLineRun
 n-line-result rs out l i s r =
     line-result (lengthJudged (length rs) ∷ entriesJudged (length rs) rs ∷ []) (nLine rs) out
     (length-judged (length rs) .1 l, (entries-judged (length rs) rs .1 (i, s), tt)) r
+
+pub e-line-result : (k p : ℕ) (out : List ℕ) → length (eLine k p) ≤ length out → eLineRun k p out ≡ (gives (length (eLine k p) ∷ []), written (eLine k p) out)
+unfolding eLineRun
+e-line-result k p out r = line-result [] (eLine k p) out tt r

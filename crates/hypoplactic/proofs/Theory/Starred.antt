@@ -6,6 +6,7 @@ use mathlib.Core.List.{map}
 use lib.Count.{ones, onesIn}
 use Rattle.grammar.specs.Numbers.{decimal}
 use Rattle.grammar.specs.Lines.{wLine, tLine, nLine, jLine, eLine}
+use Rattle.grammar.specs.Reading.{readW, readT, readN}
 use Rattle.hypoplactic.specs.Insertion.{insert, pairOf, wordOf}
 use Rattle.hypoplactic.specs.Reading.{columnReading}
 use Rattle.hypoplactic.specs.Moves.{repeatWord, repeatTableau}
@@ -15,11 +16,12 @@ use Rattle.hypoplactic.specs.Judgements.{rankJudged, lengthJudged, lette
 use Rattle.hypoplactic.specs.WordOperations.{junctionSays, moveWordSays, moveWordRun, repeatWordSays, sameClassSays, weightsSays}
 use Rattle.hypoplactic.specs.TableauOperations.{tableauSays, recordingSays, recordingRun, insertSays, wordSays, moveTableauSays, moveTableauRun, repeatTableauSays, viewerSays, lookSays}
 use Rattle.hypoplactic.specs.LineOperations.{tableauLine, program}
+use Rattle.hypoplactic.specs.LineReadings.{output, readNRun, readTRun}
 use Rattle.hypoplactic.specs.Starred.{Case, starredCases, workedCases, refusalCases}
 
 -- Every starred case: the meaning is what the document says.
 pub starred : map (λ (c : Case). c .meaning) starredCases ≡ map (λ (c : Case). c .document) starredCases
-unfolding starredCases program tableauLine tLine nLine wLine jLine eLine decimal pairOf insert wordOf columnReading junctionSet number rowsOf ones onesIn sameClass compareWeights rankJudged lengthJudged lettersJudged indexJudged inversionJudged letterJudged moveWordSays moveWordRun sameClassSays weightsSays
+unfolding starredCases output readW program tableauLine tLine nLine wLine jLine eLine decimal pairOf insert wordOf columnReading junctionSet number rowsOf ones onesIn sameClass compareWeights rankJudged lengthJudged lettersJudged indexJudged inversionJudged letterJudged moveWordSays moveWordRun sameClassSays weightsSays
 starred = refl
 
 -- Every worked example of the paper.
@@ -29,5 +31,5 @@ worked = refl
 
 -- The other checked words, and every refusal number.
 pub refusals : map (λ (c : Case). c .meaning) refusalCases ≡ map (λ (c : Case). c .document) refusalCases
-unfolding refusalCases program tableauLine tLine nLine wLine jLine eLine decimal pairOf insert columnReading junctionSet number rowsOf ones onesIn sameClass repeatTableau rankJudged lengthJudged alikeJudged usedJudged lettersJudged risingJudged marksJudged entriesJudged recordingJudged indexJudged inversionJudged letterJudged fullJudged roomJudged junctionSays moveWordSays moveWordRun sameClassSays tableauSays recordingSays recordingRun insertSays wordSays moveTableauSays moveTableauRun repeatTableauSays viewerSays
+unfolding refusalCases output readTRun readNRun readW readT readN program tableauLine tLine nLine wLine jLine eLine decimal pairOf insert columnReading junctionSet number rowsOf ones onesIn sameClass repeatTableau rankJudged lengthJudged alikeJudged usedJudged lettersJudged risingJudged marksJudged entriesJudged recordingJudged indexJudged inversionJudged letterJudged fullJudged roomJudged junctionSays moveWordSays moveWordRun sameClassSays tableauSays recordingSays recordingRun insertSays wordSays moveTableauSays moveTableauRun repeatTableauSays viewerSays
 refusals = refl

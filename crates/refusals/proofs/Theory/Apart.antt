@@ -2,7 +2,8 @@
 -- Each answer is found again from what it says.
 --     refusal-apart                                                     refusals by number and place
 --     fault-apart                                                       the faults that a scan for one refusal finds
---     verdict-apart, move-apart, repeat-apart, junctions-apart, class-apart, weights-apart, written-apart, inserted-apart     the answers
+--     verdict-apart, move-apart, repeat-apart, junctions-apart, class-apart, weights-apart, written-apart, inserted-apart,
+--     word-line-apart, tableau-line-apart, recording-line-apart         the answers
 -- Assumes nothing.
 use Prim.Native.Nat.{ℕ, _-_}
 use mathlib.Core.Path.{_≡_, refl, sym, ap, _∙_}
@@ -29,7 +30,13 @@ use Rattle.refusals.specs.declared.answers.Written.{Written}
 use Rattle.refusals.specs.declared.answers.Written.the-variants as written
 use Rattle.refusals.specs.declared.answers.Inserted.{Inserted}
 use Rattle.refusals.specs.declared.answers.Inserted.the-variants as inserted
-use Rattle.refusals.specs.Said.{number, place, saidRefusal, saidFault, saidVerdict, saidMove, saidRepeat, saidJunctions, saidClass, saidWeights, saidWritten, saidInserted}
+use Rattle.refusals.specs.declared.answers.WordLine.{WordLine}
+use Rattle.refusals.specs.declared.answers.WordLine.the-variants as wordLine
+use Rattle.refusals.specs.declared.answers.TableauLine.{TableauLine}
+use Rattle.refusals.specs.declared.answers.TableauLine.the-variants as tableauLine
+use Rattle.refusals.specs.declared.answers.RecordingLine.{RecordingLine}
+use Rattle.refusals.specs.declared.answers.RecordingLine.the-variants as recordingLine
+use Rattle.refusals.specs.Said.{number, place, saidRefusal, saidFault, saidVerdict, saidMove, saidRepeat, saidJunctions, saidClass, saidWeights, saidWritten, saidInserted, saidWordLine, saidTableauLine, saidRecordingLine}
 
 -- What can be found again is told apart.
 apart : {A : Type 0} (said : A → Said) (back : Said → A) → ((a : A) → back (said a) ≡ a) → (a b : A) → said a ≡ said b → a ≡ b
@@ -153,3 +160,27 @@ inserted-again (inserted.Refused r) = ap inserted.Refused (row-of r)
 
 pub inserted-apart : (a b : Inserted) → saidInserted a ≡ saidInserted b → a ≡ b
 inserted-apart = apart saidInserted (answer (λ vs. inserted.Used (getD vs 0 0)) inserted.Refused) inserted-again
+
+word-line-again : (a : WordLine) → answer (λ vs. wordLine.Word (getD vs 0 0) (getD vs 1 0)) wordLine.Refused (saidWordLine a) ≡ a
+unfolding answer
+word-line-again (wordLine.Word n l) = refl
+word-line-again (wordLine.Refused r) = ap wordLine.Refused (row-of r)
+
+pub word-line-apart : (a b : WordLine) → saidWordLine a ≡ saidWordLine b → a ≡ b
+word-line-apart = apart saidWordLine (answer (λ vs. wordLine.Word (getD vs 0 0) (getD vs 1 0)) wordLine.Refused) word-line-again
+
+tableau-line-again : (a : TableauLine) → answer (λ vs. tableauLine.Tableau (getD vs 0 0) (getD vs 1 0)) tableauLine.Refused (saidTableauLine a) ≡ a
+unfolding answer
+tableau-line-again (tableauLine.Tableau n l) = refl
+tableau-line-again (tableauLine.Refused r) = ap tableauLine.Refused (row-of r)
+
+pub tableau-line-apart : (a b : TableauLine) → saidTableauLine a ≡ saidTableauLine b → a ≡ b
+tableau-line-apart = apart saidTableauLine (answer (λ vs. tableauLine.Tableau (getD vs 0 0) (getD vs 1 0)) tableauLine.Refused) tableau-line-again
+
+recording-line-again : (a : RecordingLine) → answer (λ vs. recordingLine.Recording (getD vs 0 0)) recordingLine.Refused (saidRecordingLine a) ≡ a
+unfolding answer
+recording-line-again (recordingLine.Recording l) = refl
+recording-line-again (recordingLine.Refused r) = ap recordingLine.Refused (row-of r)
+
+pub recording-line-apart : (a b : RecordingLine) → saidRecordingLine a ≡ saidRecordingLine b → a ≡ b
+recording-line-apart = apart saidRecordingLine (answer (λ vs. recordingLine.Recording (getD vs 0 0)) recordingLine.Refused) recording-line-again

@@ -1,0 +1,88 @@
+-- What the program prints, of every text: the four lines of the accepted word that it holds, or one E line whose place is at most 4,096.
+--     Outputs      the two kinds of output
+--     outputs      every text has one of them
+-- Assumes nothing.
+use Prim.Native.Nat.{ℕ, suc, _+_, _≤_}
+use mathlib.Core.Path.{_≡_, refl, _∙_}
+use mathlib.Core.Bool.{Bool, true, false}
+use mathlib.Core.List.{List, [], _∷_}
+use native.Mathlib.Omega.{arith}
+use lib.Dec.{ltb}
+use lib.ListN.{length}
+use borrow.Author.Tests.{ltb-false}
+use Rattle.grammar.specs.Lines.{eLine, wLine}
+use Rattle.grammar.specs.Reading.{Read, got, broken, readW}
+use Rattle.grammar.proofs.Theory.Sound.{w-sound}
+use Rattle.hypoplactic.specs.Words.{Accepted}
+use Rattle.hypoplactic.specs.Replies.{Said, gives, refused, passed, first, refuseIf}
+use Rattle.hypoplactic.specs.Judgements.{lengthJudged, lettersFrom, lettersJudged, outside, rankJudged, wordJudgements}
+use Rattle.hypoplactic.specs.LineOperations.{fourLines, program}
+use Rattle.hypoplactic.specs.LineReadings.{breakPlace, output, printedFor}
+use Rattle.hypoplactic.proofs.Theory.Judged.{word-passing}
+use Rattle.hypoplactic.proofs.Theory.LineResults.{program-result}
+use Rattle.hypoplactic.proofs.Theory.Passing.{Passing}
+
+pub data Outputs (text : List ℕ) : Type 0 where
+  lines : (n : ℕ) (w : List ℕ) → Accepted n w → text ≡ wLine n w → output text ≡ fourLines n w → Outputs text
+  refusal : (k p : ℕ) → k ≤ 14 → p ≤ 4096 → output text ≡ eLine k p → Outputs text
+
+-- ---- the places of 1, 2 and 4
+
+-- A refusal has a number up to 4, and a place up to that number.
+abbrev UpTo : ℕ → Said → Type 0
+UpTo m (gives vs) = Unit {0}
+UpTo m (refused k p) = (k ≤ 4) × (p ≤ m)
+
+letters-up-to : (n i m : ℕ) (xs : List ℕ) → i + length xs ≤ m → UpTo m (lettersFrom n i xs)
+letters-up-to n i m [] l = tt
+letters-up-to n i m (x ∷ xs) l = go (outside n x) (letters-up-to n (suc i) m xs (omega arith))
+  where
+    go : (b : Bool) → UpTo m (lettersFrom n (suc i) xs) → UpTo m (refuseIf b 4 i (lettersFrom n (suc i) xs))
+    go true h = (omega arith, omega arith)
+    go false h = h
+
+-- The letters are judged only of a word of at most 1,024.
+word-up-to : (n : ℕ) (w : List ℕ) → UpTo 1024 (first (wordJudgements n w) passed)
+unfolding rankJudged lengthJudged lettersJudged
+word-up-to n w = go (outside 64 n) (ltb 1024 (length w)) refl
+  where
+    last : (s : Said) → UpTo 1024 s → UpTo 1024 (first (s ∷ []) passed)
+    last (gives vs) h = tt
+    last (refused k p) h = h
+
+    go : (b c : Bool) → ltb 1024 (length w) ≡ c
+        → UpTo 1024 (first (refuseIf b 1 0 passed ∷ refuseIf c 2 0 passed ∷ lettersFrom n 0 w ∷ []) passed)
+    go true c e = (omega arith, omega arith)
+    go false true e = (omega arith, omega arith)
+    go false false e = last (lettersFrom n 0 w) (letters-up-to n 0 1024 w (omega (arith, ltb-false 1024 (length w) e)))
+
+-- ---- every text
+
+-- Checks that give values refuse nothing.
+gives-passing : (js : List Said) (vs : List ℕ) → first js passed ≡ gives vs → Passing js
+gives-passing [] vs e = tt
+gives-passing (gives us ∷ js) vs e = (tt, gives-passing js vs e)
+gives-passing (refused k p ∷ js) vs e = let z : _≡_ {A = ℕ} 0 1 = cc in let no : ⊥ = omega arith in absurd no
+
+module _ (text : List ℕ) where
+  -- The values of a line.
+  values : (n : ℕ) (w : List ℕ) → text ≡ wLine n w → output text ≡ program n w → Outputs text
+  unfolding program
+  values n w t e = go (first (wordJudgements n w) passed) refl (word-up-to n w)
+    where
+      go : (s : Said) → first (wordJudgements n w) passed ≡ s → UpTo 1024 s → Outputs text
+      go (gives vs) f h = let a : Accepted n w = word-passing n w .0 (gives-passing (wordJudgements n w) vs f) in lines n w a t (e ∙ program-result n w a)
+      go (refused k p) f h = let high : p ≤ 1024 = h .1 in let low : k ≤ 4 = h .0 in refusal k p (omega arith) (omega arith) (e ∙ rw f refl)
+
+  -- At most 4,096 bytes.
+  short : length text ≤ 4096 → (r : Read (ℕ × List ℕ)) → readW text ≡ r → output text ≡ printedFor text r → Outputs text
+  short l (got v rest) f e = values (v .0) (v .1) (w-sound text (v .0) (v .1) rest f .0) e
+  short l (broken rest) f e = refusal 14 (breakPlace text rest) (omega arith) (omega arith) e
+
+  pub outputs : Outputs text
+  unfolding output
+  outputs = go (ltb 4096 (length text)) refl
+    where
+      go : (b : Bool) → ltb 4096 (length text) ≡ b → Outputs text
+      go true f = refusal 14 4096 (omega arith) (omega arith) (rw f refl)
+      go false f = short (ltb-false 4096 (length text) f) (readW text) refl (rw f refl)

@@ -1,0 +1,67 @@
+-- What the readers of lines reply, and what the program prints for a text (document 01, "Lines", "The program").
+--     readWRun     14 1 2 4 13        gives rank and number of letters
+--     readTRun     14, 1 to 6, 13     gives rank and number of cells
+--     readNRun     14 2 7 13          gives the number of entries
+--     output text  the program's whole output for its whole input
+--     answerRun    the output into lent memory, 13 where it is too short
+-- The grammar, which knows no places, is that of the crate grammar. Assumes nothing.
+use Prim.Native.Nat.{ℕ, _-_}
+use mathlib.Core.List.{List, [], _∷_, _++_}
+use mathlib.Core.Bool.{cond}
+use lib.Dec.{ltb}
+use lib.ListN.{length}
+use Rattle.grammar.specs.Lines.{eLine}
+use Rattle.grammar.specs.Reading.{Read, got, broken, readW, readT, readN}
+use Rattle.hypoplactic.specs.Replies.{Said, gives, refused, first, ranTo, written}
+use Rattle.hypoplactic.specs.Judgements.{lengthJudged, entriesJudged, roomJudged, wordJudgements, tableauJudgements}
+use Rattle.hypoplactic.specs.LineOperations.{lineRun, program}
+
+-- The place of the byte from which on a text is left: its length less what is left.
+abbrev pub breakPlace : List ℕ → List ℕ → ℕ
+breakPlace text rest = length text - length rest
+
+-- A reader: what is replied to the values of a line, or 14, which leaves lent memory as it was.
+abbrev pub readRun : {A B : Type 0} → List ℕ → (A → Said × B) → B → Read A → Said × B
+readRun text run old (got a rest) = run a
+readRun text run old (broken rest) = (refused 14 (breakPlace text rest), old)
+
+-- The values of a W line: the checks of a word, then room for it.
+abbrev pub wordRead : List ℕ → ℕ → List ℕ → Said × List ℕ
+wordRead out n ws =
+    ranTo (first (wordJudgements n ws ++ (roomJudged (length ws) (length out) ∷ [])) (gives (n ∷ length ws ∷ []))) (written ws out) out
+
+unfoldable pub readWRun : List ℕ → List ℕ → Said × List ℕ
+readWRun text out = readRun text (λ v. wordRead out (v .0) (v .1)) out (readW text)
+
+-- The values of a T line: the checks of a tableau, then room for its letters and its marks.
+abbrev pub tableauRead : List ℕ → List ℕ → ℕ → List ℕ → List ℕ → Said × (List ℕ × List ℕ)
+tableauRead letters marks n xs ms =
+    ranTo
+    (first (tableauJudgements n xs ms ++ (roomJudged (length xs) (length letters) ∷ roomJudged (length xs) (length marks) ∷ []))
+    (gives (n ∷ length xs ∷ [])))
+    (written xs letters, written ms marks) (letters, marks)
+
+unfoldable pub readTRun : List ℕ → List ℕ → List ℕ → Said × (List ℕ × List ℕ)
+readTRun text letters marks = readRun text (λ v. tableauRead letters marks (v .0) (v .1) (v .2)) (letters, marks) (readT text)
+
+-- The values of an N line, judged alone: 2 and 7, then room for the entries.
+abbrev pub recordingRead : List ℕ → List ℕ → Said × List ℕ
+recordingRead out rs =
+    ranTo (first (lengthJudged (length rs) ∷ entriesJudged (length rs) rs ∷ roomJudged (length rs) (length out) ∷ []) (gives (length rs ∷ [])))
+    (written rs out) out
+
+unfoldable pub readNRun : List ℕ → List ℕ → Said × List ℕ
+readNRun text out = readRun text (recordingRead out) out (readN text)
+
+-- What is printed for a text that was read as a W line.
+abbrev pub printedFor : List ℕ → Read (ℕ × List ℕ) → List ℕ
+printedFor text (got v rest) = program (v .0) (v .1)
+printedFor text (broken rest) = eLine 14 (breakPlace text rest)
+
+-- The program's whole output for its whole input: more than 4,096 bytes are refused at the first byte too many, whatever they are.
+unfoldable pub output : List ℕ → List ℕ
+output text = cond (ltb 4096 (length text)) (eLine 14 4096) (printedFor text (readW text))
+
+-- The output into lent memory. Nothing but room is judged: a refusal of the text is itself printed.
+unfoldable pub answerRun : List ℕ → List ℕ → Said × List ℕ
+answerRun text out = lineRun [] (output text) out
