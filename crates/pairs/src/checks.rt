@@ -12,7 +12,7 @@ use refusals::numbers::refuse_if;
 use refusals::refusal::Refusal;
 use validity::marks::check_marks;
 use validity::rising::check_rising;
-use validity::tableaux::check_ribbon;
+use validity::tableau::check_ribbon;
 ghost use Prim.Native.Nat.{_+_, _≤_};
 ghost use mathlib.Core.Path.{_≡_};
 ghost use mathlib.Core.List.{[], _∷_, _++_};

@@ -4,7 +4,7 @@ use refusals::answers::Verdict;
 use refusals::answers::Written;
 use refusals::chains::or_else;
 use refusals::numbers::check_room;
-use validity::tableaux::check_pair;
+use validity::tableau::check_pair;
 ghost use mathlib.Core.Path.{_≡_};
 ghost use mathlib.Core.List.{[], _∷_};
 ghost use Prim.Native.Nat.{_<_};

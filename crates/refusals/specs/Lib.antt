@@ -6,3 +6,4 @@ pub mod Chains
 pub mod Seconds
 pub mod Passed
 pub mod Running
+pub mod Copies

@@ -2,8 +2,9 @@
 // the written meaning (crate hypoplactic); what an answer means in document 01's numbers is said in specs/Said.antt.
 pub mod answers;
 pub mod chains;
+pub mod copies;
 pub mod letters;
 pub mod numbers;
 pub mod refusal;
 pub mod seconds;
-pub mod words;
+pub mod word;

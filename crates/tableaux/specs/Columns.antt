@@ -3,20 +3,18 @@
 --     Descending ms start i             the loop down a column: no right step after its start so far
 --     Ended ms start end                the column that starts at one place ends at the other
 --     Skipped ms from i                 the cells from one place to before the other are columns of one cell
---     Copying xs old now i              the loop over letters: the first i are copied
 --     Reversing xs old now left i       the loop up a column: the letters from place left on are written, in the first i places
 --     column-read                       what is to be read from a column's start on is the column from bottom to top, and then the rest
---     descending, skipping, copying, reversing     the rulesets of a column's end, of the columns of one cell, of the copy and of a column
+--     descending, skipping, reversing     the rulesets of a column's end, of the columns of one cell and of a column
 -- Assumes nothing.
 use Prim.Native.Nat.{ℕ, zero, suc, _+_, _-_, _<_, _≤_}
 use mathlib.Core.Path.{_≡_, refl, sym, _∙_}
 use mathlib.Core.List.{List, [], _∷_, _++_, append-nil, reverse, reverseAux, reverse-cons}
 use native.Mathlib.Nat.{add-zero}
-use native.Mathlib.Numerals.{add-one}
 use native.Mathlib.Omega.{arith}
 use lib.Bits.{bitOr, and-le-l, and-le-r, or-add-and}
 use lib.ListN.{length, getD, take, drop, set, length-drop, length-reverse, length-set, drop-of-length-le}
-use lib.Seq.{length-take-le, take-all, take-suc, drop-cons, drop-drop, getD-drop}
+use lib.Seq.{drop-cons, drop-drop, getD-drop}
 use borrow.Author.Count.{below-more}
 use borrow.Author.Needs.{needs}
 use borrow.Rule.Slice.PartMut.{midOf}
@@ -96,35 +94,6 @@ module _ {ms : List ℕ} {from i : ℕ} (s : Skipped ms from i) where
   end-skipping h = record { ahead = omega arith; within = omega arith; right = λ k l g b. s .right k (omega arith) g b }
 
 pub ruleset skipping = (start-skipping, turn-skipping, turn-four, end-skipping, needs)
-
--- ---- the letters copied
-
--- The first i letters stand in the first i places.
-pub record Copying (xs old now : List ℕ) (i : ℕ) : Type 0 where
-  pub within : i ≤ length xs
-  pub room : length xs ≤ length old
-  pub size : length now ≡ length old
-  pub is : now ≡ written (take i xs) old
-
--- None.
-pub start-copying : (xs old : List ℕ) → length xs ≤ length old → Copying xs old old 0
-start-copying xs old h = record { within = omega arith; room = h; size = refl; is = refl }
-
-module _ {xs old now : List ℕ} {i : ℕ} (c : Copying xs old now i) where
-  -- One letter more,
-  pub turn-copying : i < length xs → Copying xs old (set now i (getD xs i 0)) (i + 1)
-  turn-copying l = record {
-    within = omega arith;
-    room = c .room;
-    size = length-set now i (getD xs i 0) ∙ c .size;
-    is = rw (c .is, add-one i, take-suc xs i 0 l) (written-element (take i xs) old i (getD xs i 0) (length-take-le i xs (omega arith)) (omega arith));
-  }
-
-  -- and all of them.
-  pub end-copying : length xs ≤ i → now ≡ written xs old
-  end-copying h = c .is ∙ rw (take-all i xs h)
-
-pub ruleset copying = (start-copying, turn-copying, end-copying, needs)
 
 -- ---- a column written
 

@@ -18,6 +18,7 @@ use Rattle.hypoplactic.specs.Replies.{gives, written}
 use Rattle.hypoplactic.specs.Judgements.{roomJudged, tableauJudgements}
 use Rattle.hypoplactic.specs.TableauOperations.{readingRun, readingSays}
 use Rattle.hypoplactic.proofs.Theory.Judgements.{alike-judged, room-judged}
+use Rattle.refusals.specs.Copies.{copied, copied-all}
 use Rattle.refusals.specs.Running.{checksThen, then-passing, run-refused, run-passed, written-part}
 use Rattle.refusals.specs.Said.{saidRefusal, saidVerdict}
 use Rattle.refusals.specs.declared.refusal.Refusal.{Refusal}
@@ -94,10 +95,11 @@ module _ {xs ms copy now : List ℕ} {at : ℕ} (r : Reading xs ms copy now at) 
   skipped-reading {next} s = let there : at + (next - at) ≡ next = omega arith in rw there at (cells (next - at) (rw there s))
 
 -- No column is written but those of one cell that come first.
-pub start-reading : (xs ms old : List ℕ) {copy : List ℕ} {at : ℕ} → length ms ≡ length xs → length xs ≤ length old → copy ≡ written xs old
+pub start-reading : (xs ms old : List ℕ) {copy : List ℕ} {at : ℕ} → length ms ≡ length xs → length xs ≤ length old → copy ≡ copied xs old
     → Skipped ms 0 at → Reading xs ms copy copy at
 unfolding columnReading
-start-reading xs ms old {copy} e h w s =
+start-reading xs ms old {copy} e h f s =
+    let w : copy ≡ written xs old = copied-all xs old copy f h in
     let size : length copy ≡ length xs + (length old - length xs) = rw (w, length-append xs (drop (length xs) old), length-drop (length xs) old) in
     skipped-reading
     (record {
@@ -119,9 +121,10 @@ pub turn-reading : {xs ms copy now ys : List ℕ} {at end next : ℕ} → Readin
 turn-reading r c s e = skipped-reading (column-written r c e) s
 
 -- All columns are written.
-pub end-reading : {xs ms copy now : List ℕ} {at : ℕ} (old : List ℕ) → Reading xs ms copy now at → copy ≡ written xs old → length xs ≤ at
+pub end-reading : {xs ms copy now : List ℕ} {at : ℕ} (old : List ℕ) → Reading xs ms copy now at → copy ≡ copied xs old → length xs ≤ length old → length xs ≤ at
     → now ≡ written (columnReading xs ms) old
-end-reading {xs} {ms} {copy} {now} {at} old r w h =
+end-reading {xs} {ms} {copy} {now} {at} old r f l h =
+    let w : copy ≡ written xs old = copied-all xs old copy f l in
     let whole : columnReading xs ms ≡ r .sofar = r .whole ∙ rw (drop-of-length-le xs h, append-nil (r .sofar)) in
     let size : length (r .sofar) ≡ length xs = omega arith in
     r .is ∙ rw (whole, size, w, drop-append-seam xs (drop (length xs) old))

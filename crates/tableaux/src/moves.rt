@@ -4,7 +4,7 @@ use refusals::answers::Move;
 use refusals::answers::Repeat;
 use refusals::answers::Verdict;
 use validity::marks::shorter;
-use validity::tableaux::check_tableau;
+use validity::tableau::check_tableau;
 use words::changes::Side;
 use words::changes::move_letters;
 use words::changes::repeat_letters;

@@ -3,8 +3,9 @@
 use refusals::answers::Verdict;
 use refusals::answers::Written;
 use refusals::chains::or_else;
+use refusals::copies::copy_bytes;
 use refusals::numbers::check_room;
-use validity::tableaux::check_tableau;
+use validity::tableau::check_tableau;
 ghost use Prim.Native.Nat.{_<_, _≤_};
 ghost use mathlib.Core.List.{[], _∷_, reverse};
 ghost use mathlib.Core.Path.{_≡_};
@@ -47,18 +48,6 @@ fn write_column(letters: &[u8], column: &mut [u8])
     }
 }
 
-// All letters, at the beginning of a word that has room for them.
-fn copy_letters(letters: &[u8], word: &mut [u8])
-    requires { ⌜ length (now letters) ≤ length (now word) ⌝ }
-    ensures { λ r. ⌜ now (word .exit) ≡ written (now (letters .entry)) (now (word .entry)) ⌝ }
-{
-    let mut place = 0;
-    while place < letters.len() {
-        word[place] = letters[place];
-        place += 1;
-    }
-}
-
 // Columns of one cell from a column's start on, four at a time, as far as no step down is among four marks.
 fn skip_fours(marks: &[u8], from: usize) -> usize
     requires { ⌜ from ≤ length (now marks) ⌝ }
@@ -96,7 +85,7 @@ fn write_reading(letters: &[u8], marks: &[u8], word: &mut [u8])
     requires { ⌜ (length (now marks) ≡ length (now letters)) × (length (now letters) ≤ length (now word)) ⌝ }
     ensures { λ r. ⌜ now (word .exit) ≡ written (columnReading (now (letters .entry)) (now (marks .entry))) (now (word .entry)) ⌝ }
 {
-    copy_letters(letters, word);
+    copy_bytes(letters, word);
     let mut at = next_column(marks, 0);
     while at < letters.len() {
         let end = column_end(marks, at);

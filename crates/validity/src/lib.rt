@@ -3,4 +3,4 @@
 pub mod marks;
 pub mod recording;
 pub mod rising;
-pub mod tableaux;
+pub mod tableau;

@@ -3,7 +3,7 @@ use crate::tables::or_place;
 use crate::tables::places_of;
 use refusals::answers::Junctions;
 use refusals::answers::Verdict;
-use refusals::words::check_word;
+use refusals::word::check_word;
 ghost use mathlib.Core.Path.{_≡_};
 ghost use lib.Dec.{ltb};
 ghost use Rattle.hypoplactic.specs.Words.{Accepted, tick};

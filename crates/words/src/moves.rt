@@ -11,7 +11,7 @@ use refusals::answers::Repeat;
 use refusals::answers::Verdict;
 use refusals::chains::or_else;
 use refusals::numbers::check_index;
-use refusals::words::check_word;
+use refusals::word::check_word;
 ghost use mathlib.Core.Path.{_≡_};
 ghost use mathlib.Core.List.{[], _∷_};
 ghost use Prim.Native.Nat.{_<_};

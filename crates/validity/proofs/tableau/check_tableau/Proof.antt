@@ -1,8 +1,8 @@
--- `validity::tableaux::check_tableau` meets its contract, by the laws of specs/Chains. Assumes nothing.
+-- `validity::tableau::check_tableau` meets its contract, by the laws of specs/Chains. Assumes nothing.
 use Rattle.refusals.specs.Chains.{chaining}
 use borrow.Author.Needs.{needs}
-use Rattle.validity.proofs.tableaux.check_tableau.Statement.{statement}
-use Rattle.validity.proofs.tableaux.check_tableau.Tie as tie
+use Rattle.validity.proofs.tableau.check_tableau.Statement.{statement}
+use Rattle.validity.proofs.tableau.check_tableau.Tie as tie
 
 pub check-tableau-spec : {M : Type 1} → statement M
 check-tableau-spec =

@@ -1,8 +1,8 @@
--- `validity::tableaux::check_cells` meets its contract, by the laws of specs/Chains. Assumes nothing.
+-- `validity::tableau::check_cells` meets its contract, by the laws of specs/Chains. Assumes nothing.
 use Rattle.refusals.specs.Chains.{chaining}
 use borrow.Author.Needs.{needs}
-use Rattle.validity.proofs.tableaux.check_cells.Statement.{statement}
-use Rattle.validity.proofs.tableaux.check_cells.Tie as tie
+use Rattle.validity.proofs.tableau.check_cells.Statement.{statement}
+use Rattle.validity.proofs.tableau.check_cells.Tie as tie
 
 pub check-cells-spec : {M : Type 1} → statement M
 check-cells-spec =

@@ -1,8 +1,8 @@
 -- `refusals::check_word` meets its contract, by the laws of specs/Chains. Assumes nothing.
 use Rattle.refusals.specs.Chains.{chaining}
 use borrow.Author.Needs.{needs}
-use Rattle.refusals.proofs.words.check_word.Statement.{statement}
-use Rattle.refusals.proofs.words.check_word.Tie as tie
+use Rattle.refusals.proofs.word.check_word.Statement.{statement}
+use Rattle.refusals.proofs.word.check_word.Tie as tie
 
 pub check-word-spec : {M : Type 1} → statement M
 check-word-spec =

@@ -1,8 +1,8 @@
 -- `refusals::check_words` meets its contract, by the laws of specs/Chains. Assumes nothing.
 use Rattle.refusals.specs.Chains.{chaining}
 use borrow.Author.Needs.{needs}
-use Rattle.refusals.proofs.words.check_words.Statement.{statement}
-use Rattle.refusals.proofs.words.check_words.Tie as tie
+use Rattle.refusals.proofs.word.check_words.Statement.{statement}
+use Rattle.refusals.proofs.word.check_words.Tie as tie
 
 pub check-words-spec : {M : Type 1} → statement M
 check-words-spec =

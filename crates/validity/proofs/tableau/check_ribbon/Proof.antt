@@ -1,8 +1,8 @@
--- `validity::tableaux::check_ribbon` meets its contract, by the laws of specs/Chains. Assumes nothing.
+-- `validity::tableau::check_ribbon` meets its contract, by the laws of specs/Chains. Assumes nothing.
 use Rattle.refusals.specs.Chains.{chaining}
 use borrow.Author.Needs.{needs}
-use Rattle.validity.proofs.tableaux.check_ribbon.Statement.{statement}
-use Rattle.validity.proofs.tableaux.check_ribbon.Tie as tie
+use Rattle.validity.proofs.tableau.check_ribbon.Statement.{statement}
+use Rattle.validity.proofs.tableau.check_ribbon.Tie as tie
 
 pub check-ribbon-spec : {M : Type 1} → statement M
 check-ribbon-spec =

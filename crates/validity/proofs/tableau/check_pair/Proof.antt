@@ -1,8 +1,8 @@
--- `validity::tableaux::check_pair` meets its contract, by the laws of specs/Chains. Assumes nothing.
+-- `validity::tableau::check_pair` meets its contract, by the laws of specs/Chains. Assumes nothing.
 use Rattle.refusals.specs.Chains.{chaining}
 use borrow.Author.Needs.{needs}
-use Rattle.validity.proofs.tableaux.check_pair.Statement.{statement}
-use Rattle.validity.proofs.tableaux.check_pair.Tie as tie
+use Rattle.validity.proofs.tableau.check_pair.Statement.{statement}
+use Rattle.validity.proofs.tableau.check_pair.Tie as tie
 
 pub check-pair-spec : {M : Type 1} → statement M
 check-pair-spec =
