@@ -1,0 +1,14 @@
+-- `readers::word::read_word_line` meets its contract, by the laws of specs/Readers. Assumes nothing.
+use Rattle.readers.specs.Readers.{reading-words}
+use Rattle.readers.proofs.word.read_word_line.Statement.{statement}
+use Rattle.readers.proofs.word.read_word_line.Tie as tie
+
+pub read-word-line-spec : {M : Type 1} → statement M
+read-word-line-spec =
+    tie.close
+    (tie.spec (λ c κs. search reading-words) (λ c κs. search reading-words) (λ c. search reading-words)
+    (λ c. search reading-words) (λ c κs. search reading-words) (λ c. search reading-words) (λ c. search reading-words)
+    (λ c κs. search reading-words) (λ c. search reading-words) (λ c. search reading-words) (λ c. search reading-words)
+    (λ c. search reading-words) (λ c. search reading-words) (λ c. search reading-words) (λ c κs. search reading-words)
+    (λ c. search reading-words) (λ c. search reading-words) (λ c. search reading-words) (λ c κs. search reading-words)
+    (λ c. search reading-words) (λ c. search reading-words) (λ c. search reading-words))

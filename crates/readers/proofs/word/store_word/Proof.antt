@@ -1,0 +1,11 @@
+-- `readers::word::store_word` meets its contract, by the laws of specs/Stores. Assumes nothing.
+use Rattle.readers.specs.Stores.{storing-words}
+use Rattle.readers.proofs.word.store_word.Statement.{statement}
+use Rattle.readers.proofs.word.store_word.Tie as tie
+
+pub store-word-spec : {M : Type 1} → statement M
+store-word-spec =
+    tie.close
+    (tie.spec (λ c κs. search storing-words) (λ c. search storing-words) (λ c. search storing-words)
+    (λ c. search storing-words) (λ c κs. search storing-words) (λ c. search storing-words)
+    (λ c. search storing-words))

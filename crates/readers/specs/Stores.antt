@@ -1,0 +1,69 @@
+-- Values of a line into lent memory: the reply, and memory, from the verdict of the checks on.
+--     word-refused, word-passed                                  a word
+--     Copied                                                     letters and marks are copied
+--     tableau-refused, tableau-passed                            a tableau
+--     recording-refused, recording-passed                        a recording ribbon
+--     storing-words, storing-tableaux, storing-recordings        their rulesets
+-- Assumes nothing.
+use Prim.Native.Nat.{ℕ}
+use mathlib.Core.Path.{_≡_}
+use mathlib.Core.List.{List, [], _∷_}
+use native.Mathlib.Omega.{arith}
+use lib.ListN.{length}
+use borrow.Author.Needs.{needs}
+use Rattle.hypoplactic.specs.Judgements.{entriesJudged, lengthJudged, roomJudged, tableauJudgements, wordJudgements}
+use Rattle.hypoplactic.specs.LineReadings.{recordingRead, tableauRead, wordRead}
+use Rattle.hypoplactic.specs.Replies.{gives}
+use Rattle.hypoplactic.proofs.Theory.Judgements.{alike-judged, room-judged}
+use Rattle.refusals.specs.Copies.{copied, copied-all}
+use Rattle.refusals.specs.Running.{checksThen, run-passed, run-refused, then-passing}
+use Rattle.refusals.specs.Said.{saidRefusal, saidVerdict}
+use Rattle.refusals.specs.declared.refusal.Refusal.{Refusal}
+use Rattle.refusals.specs.declared.answers.Verdict.{Verdict}
+use Rattle.refusals.specs.declared.answers.Verdict.the-variants.{Passed, Refused}
+
+-- The verdict of 1, 2, 4 and 13.
+module _ {v : Verdict} (n : ℕ) (ws old : List ℕ) (e : saidVerdict v ≡ checksThen (wordJudgements n ws) (roomJudged (length ws) (length old) ∷ [])) where
+  pub word-refused : (r : Refusal) → v ≡ Refused r → (saidRefusal r, old) ≡ wordRead old n ws
+  word-refused r q = run-refused _ _ e _ _ old r q
+
+  pub word-passed : (now : List ℕ) → v ≡ Passed → now ≡ copied ws old → (gives (n ∷ length ws ∷ []), now) ≡ wordRead old n ws
+  word-passed now q h =
+      let (checks, (room, t)) = then-passing _ _ e q in run-passed _ _ e _ _ old now q (copied-all ws old now h (room-judged _ _ .0 room))
+
+pub ruleset storing-words = (word-refused, word-passed, needs)
+
+-- Letters and marks are copied into memory that held others.
+pub record Copied (xs ms letters marks xs′ ms′ : List ℕ) : Type 0 where
+  pub letters-are : xs′ ≡ copied xs letters
+  pub marks-are : ms′ ≡ copied ms marks
+
+-- The verdict of 1 to 6 and 13.
+module _ {v : Verdict} (n : ℕ) (xs ms letters marks : List ℕ)
+    (e : saidVerdict v
+    ≡ checksThen (tableauJudgements n xs ms) (roomJudged (length xs) (length letters) ∷ roomJudged (length xs) (length marks) ∷ [])) where
+  pub tableau-refused : (r : Refusal) → v ≡ Refused r → (saidRefusal r, (letters, marks)) ≡ tableauRead letters marks n xs ms
+  tableau-refused r q = run-refused _ _ e _ _ (letters, marks) r q
+
+  -- There are as many marks as letters.
+  pub tableau-passed : {xs′ ms′ : List ℕ} → v ≡ Passed → Copied xs ms letters marks xs′ ms′
+      → (gives (n ∷ length xs ∷ []), (xs′, ms′)) ≡ tableauRead letters marks n xs ms
+  tableau-passed {xs′} {ms′} q h =
+      let (checks, (first, (second, t))) = then-passing _ _ e q in
+      let alike : length ms ≡ length xs = alike-judged _ _ .0 (checks .1 .1 .0) .0 in
+      run-passed _ _ e _ _ (letters, marks) (xs′, ms′) q
+      (rw (copied-all xs letters xs′ (h .letters-are) (room-judged _ _ .0 first), copied-all ms marks ms′ (h .marks-are) (omega (arith, room-judged _ _ .0 second))))
+
+pub ruleset storing-tableaux = (tableau-refused, tableau-passed, needs)
+
+-- The verdict of 2, 7 and 13.
+module _ {v : Verdict} (rs old : List ℕ)
+    (e : saidVerdict v ≡ checksThen (lengthJudged (length rs) ∷ entriesJudged (length rs) rs ∷ []) (roomJudged (length rs) (length old) ∷ [])) where
+  pub recording-refused : (r : Refusal) → v ≡ Refused r → (saidRefusal r, old) ≡ recordingRead old rs
+  recording-refused r q = run-refused _ _ e _ _ old r q
+
+  pub recording-passed : (now : List ℕ) → v ≡ Passed → now ≡ copied rs old → (gives (length rs ∷ []), now) ≡ recordingRead old rs
+  recording-passed now q h =
+      let (checks, (room, t)) = then-passing _ _ e q in run-passed _ _ e _ _ old now q (copied-all rs old now h (room-judged _ _ .0 room))
+
+pub ruleset storing-recordings = (recording-refused, recording-passed, needs)

@@ -1,0 +1,8 @@
+// The readers of W, T and N lines: the values of a line into lent memory, or the exact refusal. Every public function takes whatever it is given.
+mod cells;
+mod letters;
+mod numbers;
+pub mod recording;
+mod scans;
+pub mod tableau;
+pub mod word;

@@ -1,0 +1,61 @@
+// The reader of W lines: the word of a line into lent letters.
+use crate::letters::narrow_letters;
+use crate::scans::Line;
+use crate::scans::no_letters;
+use crate::scans::no_marks;
+use crate::scans::scan_line;
+use refusals::answers::Verdict;
+use refusals::answers::WordLine;
+use refusals::chains::check_limits;
+use refusals::chains::or_else;
+use refusals::copies::copy_bytes;
+use refusals::numbers::check_room;
+use refusals::refusal::Refusal;
+use refusals::word::check_word;
+ghost use mathlib.Core.List.{[], _∷_};
+ghost use mathlib.Core.Path.{_≡_};
+ghost use lib.ListN.{length};
+ghost use Rattle.hypoplactic.specs.Judgements.{roomJudged, wordJudgements};
+ghost use Rattle.hypoplactic.specs.LineReadings.{readWRun, wordRead};
+ghost use Rattle.refusals.specs.Running.{checksThen};
+ghost use Rattle.refusals.specs.Said.{saidVerdict, saidWordLine};
+
+// 1, 2 and 4 of a word that was read, and 13 of lent letters.
+fn check_word_read(rank: usize, word: &[u8], room: usize) -> Verdict
+    ensures { λ r. ⌜
+        saidVerdict r
+        ≡ checksThen (wordJudgements rank (now (word .entry))) (roomJudged (length (now (word .entry))) room ∷ [])
+        ⌝ }
+{
+    or_else(check_word(rank, word), check_room(word.len(), room))
+}
+
+// A word that was read, into lent letters.
+fn store_word(rank: usize, word: &[u8], letters: &mut [u8]) -> WordLine
+    ensures { λ r. ⌜ (saidWordLine r, now (letters .exit)) ≡ wordRead (now (letters .entry)) rank (now (word .entry)) ⌝ }
+{
+    if let Verdict::Refused(refusal) = check_word_read(rank, word, letters.len()) {
+        return WordLine::Refused(refusal);
+    }
+    copy_bytes(word, letters);
+    WordLine::Word(rank, word.len())
+}
+
+// The word of a W line into lent letters, or the refusal of 14, 1, 2, 4 or 13, which leaves them as they were.
+pub fn read_word_line(text: &[u8], letters: &mut [u8]) -> WordLine
+    ensures { λ r. ⌜ (saidWordLine r, now (letters .exit)) ≡ readWRun (now (text .entry)) (now (letters .entry)) ⌝ }
+{
+    let mut values = no_letters();
+    let mut marks = no_marks();
+    let line = scan_line(text, b'W', true, false, &mut values, &mut marks);
+    match line {
+        Line::Broken(place) => WordLine::Refused(Refusal::Line(place)),
+        Line::Read(rank, count, _) => {
+            if let Verdict::Refused(refusal) = check_limits(rank, count) {
+                return WordLine::Refused(refusal);
+            }
+            let bytes = narrow_letters(&values[0..count]);
+            store_word(rank, &bytes[0..count], letters)
+        }
+    }
+}
