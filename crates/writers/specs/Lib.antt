@@ -1,0 +1,8 @@
+pub mod Laying
+pub mod Digits
+pub mod Fields
+pub mod Items
+pub mod Cells
+pub mod Lines
+pub mod Runs
+pub mod Lengths

@@ -1,0 +1,139 @@
+// The items of a line, one after the other: letters, recording entries, cells. How many bytes they take, and their bytes.
+use crate::fields::field_size;
+use crate::fields::write_field;
+use refusals::letters::wide;
+ghost use Prim.Native.Nat.{_+_, _<_, _≤_};
+ghost use mathlib.Core.Path.{_≡_};
+ghost use lib.ListN.{length};
+ghost use Rattle.grammar.specs.Lines.{cell, cells, field, firstCell, items, step};
+ghost use Rattle.writers.specs.Fields.{Counted};
+ghost use Rattle.writers.specs.Cells.{cellAt};
+ghost use Rattle.writers.specs.Items.{listed};
+ghost use Rattle.writers.specs.Laying.{Laid};
+
+// How many bytes it takes to say how many letters there are, and the letters.
+pub(crate) fn list_size(letters: &[u8]) -> usize
+    requires { ⌜ length (now letters) ≤ 1024 ⌝ }
+    ensures { λ r. ⌜ Counted 21525 (listed (length (now (letters .entry))) (items field field (now (letters .entry)))) r ⌝ }
+{
+    let mut size = field_size(letters.len());
+    let mut i = 0;
+    while i < letters.len() {
+        size += field_size(wide(letters[i]));
+        i += 1;
+    }
+    size
+}
+
+// Writes how many letters there are, and the letters, from a place on.
+pub(crate) fn write_list(letters: &[u8], out: &mut [u8], start: usize) -> usize
+    requires { ⌜ start + length (listed (length (now letters)) (items field field (now letters))) ≤ length (now out) ⌝ }
+    ensures { λ r. ⌜
+        Laid (listed (length (now (letters .entry))) (items field field (now (letters .entry)))) (now (out .entry)) start (now (out .exit)) r
+        ⌝ }
+{
+    let mut at = write_field(letters.len(), out, start);
+    let mut i = 0;
+    while i < letters.len() {
+        at = write_field(wide(letters[i]), out, at);
+        i += 1;
+    }
+    at
+}
+
+// An entry as a number that is written.
+fn number(entry: u16) -> usize
+    ensures { λ r. ⌜ r ≡ entry ⌝ }
+{
+    entry as usize
+}
+
+// How many bytes the entries take.
+pub(crate) fn entries_size(entries: &[u16]) -> usize
+    requires { ⌜ length (now entries) ≤ 1024 ⌝ }
+    ensures { λ r. ⌜ Counted 21504 (items field field (now (entries .entry))) r ⌝ }
+{
+    let mut size = 0;
+    let mut i = 0;
+    while i < entries.len() {
+        size += field_size(number(entries[i]));
+        i += 1;
+    }
+    size
+}
+
+// Writes the entries from a place on.
+pub(crate) fn write_entries(entries: &[u16], out: &mut [u8], start: usize) -> usize
+    requires { ⌜ start + length (items field field (now entries)) ≤ length (now out) ⌝ }
+    ensures { λ r. ⌜ Laid (items field field (now (entries .entry))) (now (out .entry)) start (now (out .exit)) r ⌝ }
+{
+    let mut at = start;
+    let mut i = 0;
+    while i < entries.len() {
+        at = write_field(number(entries[i]), out, at);
+        i += 1;
+    }
+    at
+}
+
+// How many bytes it takes to say how many cells a tableau has, and the cells: as for its letters, and two for each step between neighbours.
+pub(crate) fn ribbon_size(letters: &[u8], marks: &[u8]) -> usize
+    requires { ⌜ (length (now letters) ≤ 1024) × (length (now marks) ≡ length (now letters)) ⌝ }
+    ensures { λ r. ⌜
+        Counted 23573 (listed (length (now (letters .entry))) (items firstCell cell (cells (now (letters .entry)) (now (marks .entry))))) r
+        ⌝ }
+{
+    let size = list_size(letters);
+    if letters.len() == 0 {
+        return size;
+    }
+    size + (letters.len() - 1) * 2
+}
+
+// The letter of a step: r to the right, d down.
+fn step_letter(mark: u8) -> u8
+    ensures { λ r. ⌜ r ≡ step mark ⌝ }
+{
+    if mark == 0 { 114 } else { 100 }
+}
+
+// Writes the cell at a place of the ribbon: its letter, after the step into it unless it is the first.
+fn write_cell(letters: &[u8], marks: &[u8], i: usize, out: &mut [u8], at: usize) -> usize
+    requires { ⌜
+        (i < length (now letters)) × (length (now marks) ≡ length (now letters))
+        × (at + length (cellAt (now letters) (now marks) i) ≤ length (now out))
+        ⌝ }
+    ensures { λ r. ⌜ Laid (cellAt (now (letters .entry)) (now (marks .entry)) i) (now (out .entry)) at (now (out .exit)) r ⌝ }
+{
+    let letter = wide(letters[i]);
+    if i == 0 {
+        return write_field(letter, out, at);
+    }
+    out[at] = 44;
+    out[at + 1] = step_letter(marks[i]);
+    write_field(letter, out, at + 2)
+}
+
+// Writes how many cells a tableau has, and the cells, from a place on.
+pub(crate) fn write_ribbon(letters: &[u8], marks: &[u8], out: &mut [u8], start: usize) -> usize
+    requires { ⌜
+        (length (now marks) ≡ length (now letters))
+        × (start + length (listed (length (now letters)) (items firstCell cell (cells (now letters) (now marks)))) ≤ length (now out))
+        ⌝ }
+    ensures { λ r. ⌜
+        Laid
+        (listed (length (now (letters .entry))) (items firstCell cell (cells (now (letters .entry)) (now (marks .entry)))))
+        (now (out .entry))
+        start
+        (now (out .exit))
+        r
+        ⌝ }
+{
+    let mut at = write_field(letters.len(), out, start);
+    let mut i = 0;
+    while i < letters.len() {
+        at = write_cell(letters, marks, i, out, at);
+        i += 1;
+    }
+    at
+}

@@ -1,0 +1,110 @@
+// Whole lines, each of which begins with the letter of its kind and a field. The bytes needed are counted, the room is judged, and only then a byte is
+// written.
+use crate::fields::field_size;
+use crate::fields::write_field;
+use crate::items::entries_size;
+use crate::items::list_size;
+use crate::items::ribbon_size;
+use crate::items::write_entries;
+use crate::items::write_list;
+use crate::items::write_ribbon;
+use refusals::answers::Verdict;
+use refusals::answers::Written;
+use refusals::numbers::check_room;
+ghost use Prim.Native.Nat.{_+_, _≤_};
+ghost use mathlib.Core.List.{_∷_};
+ghost use mathlib.Core.Path.{_≡_};
+ghost use lib.ListN.{length};
+ghost use Rattle.grammar.specs.Lines.{cell, cells, field, firstCell, items};
+ghost use Rattle.hypoplactic.specs.LineOperations.{roomRun};
+ghost use Rattle.refusals.specs.Said.{saidWritten};
+ghost use Rattle.writers.specs.Items.{listed};
+ghost use Rattle.writers.specs.Laying.{Laid};
+ghost use Rattle.writers.specs.Lines.{lineOf, lineSize};
+
+// How many bytes a line takes whose first field is of this number, with so many bytes after it before the line feed.
+fn line_size(first: usize, rest: usize) -> usize
+    requires { ⌜ rest ≤ 65536 ⌝ }
+    ensures { λ r. ⌜ r ≡ lineSize first rest ⌝ }
+{
+    2 + field_size(first) + rest
+}
+
+// Writes the letter of the kind and the first field.
+fn write_head(kind: u8, first: usize, out: &mut [u8]) -> usize
+    requires { ⌜ 1 + length (field first) ≤ length (now out) ⌝ }
+    ensures { λ r. ⌜ Laid (kind ∷ field first) (now (out .entry)) 0 (now (out .exit)) r ⌝ }
+{
+    out[0] = kind;
+    write_field(first, out, 1)
+}
+
+// Writes a line of two numbers.
+pub(crate) fn write_numbers(kind: u8, first: usize, second: usize, out: &mut [u8]) -> Written
+    ensures { λ r. ⌜ (saidWritten r, now (out .exit)) ≡ roomRun (lineOf kind first (field second)) (now (out .entry)) ⌝ }
+{
+    let need = line_size(first, field_size(second));
+    if let Verdict::Refused(refusal) = check_room(need, out.len()) {
+        return Written::Refused(refusal);
+    }
+    let at = write_head(kind, first, out);
+    let end = write_field(second, out, at);
+    out[end] = 10;
+    Written::Elements(need)
+}
+
+// Writes the W line of a rank and letters.
+pub(crate) fn write_word(rank: usize, word: &[u8], out: &mut [u8]) -> Written
+    requires { ⌜ length (now word) ≤ 1024 ⌝ }
+    ensures { λ r. ⌜
+        (saidWritten r, now (out .exit))
+        ≡ roomRun (lineOf 87 rank (listed (length (now (word .entry))) (items field field (now (word .entry))))) (now (out .entry))
+        ⌝ }
+{
+    let need = line_size(rank, list_size(word));
+    if let Verdict::Refused(refusal) = check_room(need, out.len()) {
+        return Written::Refused(refusal);
+    }
+    let at = write_head(87, rank, out);
+    let end = write_list(word, out, at);
+    out[end] = 10;
+    Written::Elements(need)
+}
+
+// Writes the T line of a rank, letters and marks.
+pub(crate) fn write_tableau(rank: usize, letters: &[u8], marks: &[u8], out: &mut [u8]) -> Written
+    requires { ⌜ (length (now letters) ≤ 1024) × (length (now marks) ≡ length (now letters)) ⌝ }
+    ensures { λ r. ⌜
+        (saidWritten r, now (out .exit))
+        ≡ roomRun
+        (lineOf 84 rank (listed (length (now (letters .entry))) (items firstCell cell (cells (now (letters .entry)) (now (marks .entry))))))
+        (now (out .entry))
+        ⌝ }
+{
+    let need = line_size(rank, ribbon_size(letters, marks));
+    if let Verdict::Refused(refusal) = check_room(need, out.len()) {
+        return Written::Refused(refusal);
+    }
+    let at = write_head(84, rank, out);
+    let end = write_ribbon(letters, marks, out, at);
+    out[end] = 10;
+    Written::Elements(need)
+}
+
+// Writes the N line of entries.
+pub(crate) fn write_recording(entries: &[u16], out: &mut [u8]) -> Written
+    requires { ⌜ length (now entries) ≤ 1024 ⌝ }
+    ensures { λ r. ⌜
+        (saidWritten r, now (out .exit))
+        ≡ roomRun (lineOf 78 (length (now (entries .entry))) (items field field (now (entries .entry)))) (now (out .entry))
+        ⌝ }
+{
+    let need = line_size(entries.len(), entries_size(entries));
+    if let Verdict::Refused(refusal) = check_room(need, out.len()) {
+        return Written::Refused(refusal);
+    }
+    let at = write_head(78, entries.len(), out);
+    let end = write_entries(entries, out, at);
+    out[end] = 10;
+    Written::Elements(need)
+}
