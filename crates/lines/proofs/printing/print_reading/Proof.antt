@@ -1,0 +1,11 @@
+-- `lines::printing::print_reading` meets its contract, by the laws of specs/Printing. Assumes nothing.
+use Rattle.lines.specs.Printing.{printing}
+use Rattle.lines.proofs.printing.print_reading.Statement.{statement}
+use Rattle.lines.proofs.printing.print_reading.Tie as tie
+
+pub print-reading-spec : {M : Type 1} → statement M
+print-reading-spec =
+    tie.close
+    (tie.spec (λ c. search printing) (λ c κs. search printing) (λ c. search printing) (λ c. search printing)
+    (λ c. search printing) (λ c κs. search printing) (λ c. search printing) (λ c. search printing)
+    (λ c. search printing) (λ c. search printing) (λ c. search printing) (λ c. search printing))

@@ -1,0 +1,116 @@
+-- The tableau line of a word from what the tableau's operation answers, into letters and marks that have room for every accepted word.
+--     Made                     the tableau stands in the first cells of both
+--     tableau-made             it does where the answer tells cells
+--     Reached, cells-reach     so many cells can be taken of both
+--     made-refused, made-line  the tableau line's reply, from a refusal and from the reply of the T line's writer
+--     lining                   the ruleset of the tableau line
+-- Assumes nothing.
+use Prim.Native.Nat.{ℕ, _-_, _≤_}
+use mathlib.Core.Path.{_≡_, refl, sym, ap, _∙_}
+use mathlib.Core.List.{List, [], _∷_}
+use native.Mathlib.Omega.{arith}
+use lib.ListN.{length, take, getD}
+use borrow.Author.Needs.{needs}
+use Rattle.hypoplactic.specs.Words.{Accepted}
+use Rattle.hypoplactic.specs.Insertion.{lettersOf, marksOf}
+use Rattle.hypoplactic.specs.Replies.{Said, gives, written}
+use Rattle.hypoplactic.specs.Judgements.{roomJudged, tableauJudgements, wordJudgements}
+use Rattle.hypoplactic.specs.TableauOperations.{tableauRun, tableauSays}
+use Rattle.hypoplactic.specs.LineOperations.{tableauLine, tableauLineRun, tLineRun}
+use Rattle.hypoplactic.proofs.Theory.Closure.{word-tableau-at}
+use Rattle.hypoplactic.proofs.Theory.Judged.{tableau-passing, word-passing}
+use Rattle.hypoplactic.proofs.Theory.Judgements.{room-judged}
+use Rattle.hypoplactic.proofs.Theory.LineResults.{past-checks}
+use Rattle.hypoplactic.proofs.Theory.Memory.{written-length, written-needed}
+use Rattle.hypoplactic.proofs.Theory.Pairs.{length-letters, length-marks}
+use Rattle.hypoplactic.proofs.Theory.Passing.{Passing}
+use Rattle.refusals.specs.Said.{saidWritten}
+use Rattle.refusals.specs.declared.refusal.Refusal.{Refusal}
+use Rattle.refusals.specs.declared.answers.Written.{Written}
+use Rattle.refusals.specs.declared.answers.Written.the-variants.{Elements, Refused}
+use Rattle.lines.specs.Outcomes.{Outcome, accepted, stopped, outcome, not-both, same-values}
+
+-- The first m cells of xs and ms are the tableau of an accepted word.
+pub record Made (n : ℕ) (w xs ms : List ℕ) (m : ℕ) : Type 0 where
+  pub word : Accepted n w
+  pub letters : take m xs ≡ lettersOf w
+  pub marks : take m ms ≡ marksOf w
+  pub letters-reach : m ≤ length xs
+  pub marks-reach : m ≤ length ms
+
+-- The rooms of both.
+abbrev rooms : List ℕ → List ℕ → List ℕ → List Said
+rooms w ls ks = roomJudged (length w) (length ls) ∷ roomJudged (length w) (length ks) ∷ []
+
+module _ (n : ℕ) (w ls ks : List ℕ) (long : 1024 ≤ length ls) (long′ : 1024 ≤ length ks) where
+  enough : Accepted n w → Passing (rooms w ls ks)
+  enough a = let short : length w ≤ 1024 = a .short in (room-judged _ _ .1 (omega arith), (room-judged _ _ .1 (omega arith), tt))
+
+  judged : Outcome n w (rooms w ls ks) (length w ∷ [])
+  judged = outcome n w (rooms w ls ks) (length w ∷ []) enough
+
+  module _ (xs ms : List ℕ) (made : Written) (e : (saidWritten made, (xs, ms)) ≡ tableauRun n w ls ks) where
+    said : saidWritten made ≡ tableauSays n w (length ls) (length ks)
+    unfolding tableauRun
+    said = ap (λ (o : Said × (List ℕ × List ℕ)). o .0) e
+
+    -- The answer tells cells.
+    pub tableau-made : (m : ℕ) → made ≡ Elements m → Made n w xs ms m
+    unfolding tableauRun tableauSays
+    tableau-made m q = go judged
+      where
+        go : Outcome n w (rooms w ls ks) (length w ∷ []) → Made n w xs ms m
+        go (stopped j p h) = absurd (not-both (sym (ap saidWritten q) ∙ said ∙ h (rooms w ls ks) (gives (length w ∷ []))))
+        go (accepted a h) =
+            let all : _≡_ {A = Said × (List ℕ × List ℕ)} (saidWritten made, (xs, ms)) (gives (length w ∷ []), (written (lettersOf w) ls, written (marksOf w) ks)) = e ∙ rw h refl in
+            let size : m ≡ length w =
+            ap (λ (vs : List ℕ). getD vs 0 0) (same-values (sym (ap saidWritten q) ∙ ap (λ (o : Said × (List ℕ × List ℕ)). o .0) all)) in
+            let is-letters : xs ≡ written (lettersOf w) ls = ap (λ (o : Said × (List ℕ × List ℕ)). o .1 .0) all in
+            let is-marks : ms ≡ written (marksOf w) ks = ap (λ (o : Said × (List ℕ × List ℕ)). o .1 .1) all in
+            let short : length w ≤ 1024 = a .short in
+            let cells : m ≡ length (lettersOf w) = size ∙ sym (length-letters w) in
+            let steps : m ≡ length (marksOf w) = size ∙ sym (length-marks w) in
+            record {
+              word = a;
+              letters = rw (is-letters, cells) (written-needed (lettersOf w) ls);
+              marks = rw (is-marks, steps) (written-needed (marksOf w) ks);
+              letters-reach = rw (is-letters, written-length (lettersOf w) ls (omega arith)) (omega arith);
+              marks-reach = rw (is-marks, written-length (marksOf w) ks (omega arith)) (omega arith);
+            }
+
+    -- The answer is a refusal, and so is that of the line.
+    pub made-refused : (q : Refusal) (out : List ℕ) → made ≡ Refused q → (saidWritten made, out) ≡ tableauLineRun n w out
+    unfolding tableauSays tableauLineRun
+    made-refused q out h = go judged
+      where
+        go : Outcome n w (rooms w ls ks) (length w ∷ []) → (saidWritten made, out) ≡ tableauLineRun n w out
+        go (accepted a g) = absurd (not-both (sym (sym (ap saidWritten h) ∙ said ∙ g)))
+        go (stopped j p f) =
+            rw (f (roomJudged (length (tableauLine n w)) (length out) ∷ []) (gives (length (tableauLine n w) ∷ [])))
+            (ap (λ (s : Said). (s, out)) (said ∙ f (rooms w ls ks) (gives (length w ∷ []))))
+
+module _ {n : ℕ} {w xs ms : List ℕ} {m : ℕ} (h : Made n w xs ms m) where
+  -- What the writer of T lines replies to them is the reply of the tableau line.
+  pub made-line : (out out′ : List ℕ) (r : Written) → (saidWritten r, out′) ≡ tLineRun n (take m xs) (take m ms) out → (saidWritten r, out′) ≡ tableauLineRun n w out
+  unfolding tLineRun tableauLineRun tableauLine
+  made-line out out′ r e =
+      e ∙ rw (h .letters, h .marks)
+      (sym (past-checks (tableauJudgements n (lettersOf w) (marksOf w)) (tableauLine n w) out (tableau-passing n (lettersOf w) (marksOf w) .1 (word-tableau-at (h .word))))
+      ∙ past-checks (wordJudgements n w) (tableauLine n w) out (word-passing n w .1 (h .word)))
+
+-- So many cells can be taken of lists of these lengths.
+pub record Reached (cells letters marks : ℕ) : Type 0 where
+  pub of-letters : cells ≤ letters
+  pub of-marks : cells ≤ marks
+
+pub cells-reach : (n : ℕ) (w ls ks xs ms : List ℕ) (made : Written) (m : ℕ) → (saidWritten made, (xs, ms)) ≡ tableauRun n w ls ks → made ≡ Elements m
+    → 1024 ≤ length ls → 1024 ≤ length ks → Reached m (length xs) (length ms)
+cells-reach n w ls ks xs ms made m e q long long′ =
+    let h : Made n w xs ms m = tableau-made n w ls ks long long′ xs ms made e m q in record { of-letters = h .letters-reach; of-marks = h .marks-reach }
+
+-- Cells taken from the first on.
+pub cut-line : (n m : ℕ) (xs ms out out′ : List ℕ) (r : Written) → (saidWritten r, out′) ≡ tLineRun n (take (m - 0) xs) (take (m - 0) ms) out
+    → (saidWritten r, out′) ≡ tLineRun n (take m xs) (take m ms) out
+cut-line n m xs ms out out′ r e = let z : m - 0 ≡ m = omega arith in rw z at e
+
+pub ruleset lining = (cut-line, tableau-made, made-refused, cells-reach, made-line, needs)
