@@ -1,0 +1,20 @@
+-- `operations::answer_table` meets its contract, by the laws of specs/Bounds. Assumes nothing.
+use Prim.Native.Nat.{_-_}
+use lib.ListN.{length}
+use Rattle.operations.specs.Bounds.{filling}
+use Rattle.operations.proofs.answer_table.Statement.{statement}
+use Rattle.operations.proofs.answer_table.Tie as tie
+
+abbrev Inv-loop : tie.InvT-loop
+Inv-loop table from₀ t5 t6 from = Unit {0}
+
+abbrev μ-loop : tie.MeasureT-loop
+μ-loop table from₀ t5 t6 from = length table - from
+
+pub answer-table-spec : {M : Type 1} → statement M
+answer-table-spec =
+    tie.close
+    (tie.spec Inv-loop μ-loop (λ c. search filling) (λ c κs. search filling) (λ c. search filling)
+    (λ c. search filling) (λ c. search filling) (λ c. search filling) (λ c κs. search filling) (λ c. search filling)
+    (λ c κs. search filling) (λ c κs. search filling) (λ c. search filling) (λ c κs. search filling)
+    (λ c. search filling) (λ c. search filling) (λ c. search filling) (λ c. search filling))

@@ -1,0 +1,2 @@
+-- What the contracts of the table's program cite. Assumes nothing.
+pub mod Bounds

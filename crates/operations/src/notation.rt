@@ -1,0 +1,96 @@
+// The notation of the table: fields of a line and numbers. Nothing here refuses: what is no digit counts as none. The expected output shows where a table
+// line is not what it should be.
+ghost use Prim.Native.Nat.{_≤_};
+ghost use lib.ListN.{length};
+ghost use Rattle.operations.specs.Bounds.{Between};
+
+// Whether two texts are the same.
+pub(crate) fn same(a: &[u8], b: &[u8]) -> bool {
+    if a.len() != b.len() {
+        return false;
+    }
+    let mut i = 0;
+    while i < a.len() {
+        if a[i] != b[i] {
+            return false;
+        }
+        i += 1;
+    }
+    true
+}
+
+// Where a byte stands first from a place on; the text's length where it does not.
+pub(crate) fn place_of(text: &[u8], from: usize, byte: u8) -> usize
+    requires { ⌜ from ≤ length (now text) ⌝ }
+    ensures { λ r. ⌜ Between from r (length (now (text .entry))) ⌝ }
+{
+    let mut at = from;
+    while at < text.len() {
+        if text[at] == byte {
+            return at;
+        }
+        at += 1;
+    }
+    at
+}
+
+// Whether a byte stands in a text.
+pub(crate) fn has(text: &[u8], byte: u8) -> bool {
+    place_of(text, 0, byte) < text.len()
+}
+
+// Where a field of a line begins: after so many spaces.
+fn field_start(line: &[u8], spaces: usize) -> usize
+    ensures { λ r. ⌜ r ≤ length (now (line .entry)) ⌝ }
+{
+    let mut left = spaces;
+    let mut at = 0;
+    while at < line.len() {
+        if left < 1 {
+            return at;
+        }
+        let byte = line[at];
+        at += 1;
+        if byte == b' ' {
+            left -= 1;
+        }
+    }
+    at
+}
+
+// A field of a line, counted from 0.
+pub(crate) fn field(line: &[u8], place: usize) -> &[u8] {
+    let start = field_start(line, place);
+    let end = place_of(line, start, b' ');
+    &line[start..end]
+}
+
+// The number whose digits begin at a place of a text. Of more than six digits the last count.
+pub(crate) fn number_at(text: &[u8], from: usize) -> usize {
+    let mut value = 0;
+    let mut at = from;
+    while at < text.len() {
+        let byte = text[at];
+        if byte < b'0' {
+            return value;
+        }
+        if b'9' < byte {
+            return value;
+        }
+        value = value % 100000 * 10 + wide(byte - b'0');
+        at += 1;
+    }
+    value
+}
+
+// A byte as a number.
+pub(crate) fn wide(byte: u8) -> usize
+    ensures { λ r. ⌜ r ≤ 255 ⌝ }
+{
+    byte as usize
+}
+
+// A field that is a number.
+pub(crate) fn number(line: &[u8], place: usize) -> usize {
+    number_at(field(line, place), 0)
+}

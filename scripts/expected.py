@@ -1,0 +1,87 @@
+"""Input files and expected output of the program crates cases and operations.
+
+    python3 scripts/expected.py write    makes them: crates/cases/{data/*,args,stdout}, crates/operations/{data/table,args,stdout}
+    python3 scripts/expected.py check    makes them in memory and says whether what stands in the repository is the same (exit status 1 if not)
+
+The output comes from the plain Python beside this file (meaning.py, lines.py), which follows document 01 and its open points and calls no code of the
+kernel. No file of Rattle is made here.
+"""
+import os
+import sys
+
+sys.dont_write_bytecode = True
+
+from lines import program
+from operation_calls import came_of
+from operation_table import operation_table
+from program_inputs import program_inputs
+
+ROOT = os.path.dirname(os.path.dirname(os.path.abspath(__file__)))
+
+
+def files_of_cases():
+    """Every input under its name, the names as arguments, and for each its name and what the program prints."""
+    inputs = program_inputs()
+    files = {"crates/cases/data/" + name: text for name, text in inputs.items()}
+    files["crates/cases/args"] = "".join(name + "\n" for name in inputs).encode()
+    files["crates/cases/stdout"] = b"".join(name.encode() + b"\n" + program(text) for name, text in inputs.items())
+    return files
+
+
+def files_of_operations():
+    """The table, its name as the argument, and each line with what came of it."""
+    table = operation_table()
+    return {
+        "crates/operations/data/table": "".join(call + "\n" for call in table).encode(),
+        "crates/operations/args": b"table\n",
+        "crates/operations/stdout": "".join(came_of(call) for call in table).encode(),
+    }
+
+
+def standing():
+    """The files that stand in the repository where expected ones belong."""
+    names = ["crates/%s/%s" % (crate, name) for crate in ("cases", "operations") for name in ("args", "stdout")]
+    for crate in ("cases", "operations"):
+        folder = "crates/%s/data" % crate
+        if os.path.isdir(os.path.join(ROOT, folder)):
+            names += [folder + "/" + name for name in sorted(os.listdir(os.path.join(ROOT, folder)))]
+    found = {}
+    for name in names:
+        if os.path.exists(os.path.join(ROOT, name)):
+            with open(os.path.join(ROOT, name), "rb") as file:
+                found[name] = file.read()
+    return found
+
+
+def write(expected):
+    """Makes the files, and removes those that are expected no more."""
+    for name in standing().keys() - expected.keys():
+        os.remove(os.path.join(ROOT, name))
+    for name, content in expected.items():
+        os.makedirs(os.path.dirname(os.path.join(ROOT, name)), exist_ok=True)
+        with open(os.path.join(ROOT, name), "wb") as file:
+            file.write(content)
+    print("%d files written" % len(expected))
+
+
+def check(expected):
+    """Says which files differ, are missing or stand there for nothing, and answers whether there are none."""
+    found = standing()
+    wrong = sorted(name for name in expected.keys() | found.keys() if expected.get(name) != found.get(name))
+    for name in wrong:
+        print("not as expected: " + name)
+    print("%d files, %d not as expected" % (len(expected), len(wrong)))
+    return not wrong
+
+
+def main():
+    expected = {**files_of_cases(), **files_of_operations()}
+    if sys.argv[1:] == ["write"]:
+        write(expected)
+    elif sys.argv[1:] == ["check"]:
+        sys.exit(0 if check(expected) else 1)
+    else:
+        sys.exit(__doc__)
+
+
+main()

@@ -1,0 +1,200 @@
+"""Lines as bytes: the readers of W, T and N, the writers, and the program's whole output (document 01, "Lines", "The program").
+
+The place of 14 is the length of the longest beginning of the text that can still become a line of the kind. The scanner goes on byte by byte as
+long as that is so, and raises 14 where it stands when the next byte cannot follow.
+"""
+from meaning import (
+    Refused, check_entries, check_length, check_room, check_tableau, check_word, junction_set, pair_of, put, reading, rows,
+)
+
+
+class Scanner:
+    """A place in a text, and what may stand there."""
+
+    def __init__(self, text):
+        self.text = text
+        self.at = 0
+
+    def next(self):
+        """The byte at the place as a text of one letter, or nothing at the end."""
+        return chr(self.text[self.at]) if self.at < len(self.text) else ""
+
+    def one_of(self, letters):
+        """One byte out of several."""
+        letter = self.next()
+        if letter == "" or letter not in letters:
+            raise Refused(14, self.at)
+        self.at += 1
+        return letter
+
+    def number(self):
+        """One to four digits without a leading zero. What follows is judged by whatever is due next."""
+        digits = self.one_of("0123456789")
+        while digits != "0" and len(digits) < 4 and self.next() != "" and self.next() in "0123456789":
+            digits += self.one_of("0123456789")
+        return int(digits)
+
+    def field(self):
+        """A comma and a number."""
+        self.one_of(",")
+        return self.number()
+
+    def end(self):
+        """The line feed, and nothing after it."""
+        self.one_of("\n")
+        if self.at < len(self.text):
+            raise Refused(14, self.at)
+
+
+def scan_word(text):
+    """Rank and letters of a W line."""
+    scanner = Scanner(text)
+    scanner.one_of("W")
+    rank = scanner.field()
+    letters = [scanner.field() for _ in range(scanner.field())]
+    scanner.end()
+    return rank, letters
+
+
+def scan_tableau(text):
+    """Rank, letters and marks of a T line. No step leads into the first cell."""
+    scanner = Scanner(text)
+    scanner.one_of("T")
+    rank = scanner.field()
+    letters, marks = [], []
+    for place in range(scanner.field()):
+        if place > 0:
+            scanner.one_of(",")
+        marks.append(0 if place == 0 else "rd".index(scanner.one_of("rd")))
+        letters.append(scanner.field())
+    scanner.end()
+    return rank, letters, marks
+
+
+def scan_recording(text):
+    """The entries of an N line."""
+    scanner = Scanner(text)
+    scanner.one_of("N")
+    entries = [scanner.field() for _ in range(scanner.field())]
+    scanner.end()
+    return entries
+
+
+# ---- readers
+
+
+def read_word_line(text, letters):
+    """Gives rank and number of letters."""
+    rank, word = scan_word(text)
+    check_word(rank, word)
+    check_room(len(word), letters)
+    put(word, letters)
+    return [rank, len(word)]
+
+
+def read_tableau_line(text, letters, marks):
+    """Gives rank and number of cells."""
+    rank, new_letters, new_marks = scan_tableau(text)
+    check_tableau(rank, new_letters, new_marks)
+    check_room(len(new_letters), letters, marks)
+    put(new_letters, letters)
+    put(new_marks, marks)
+    return [rank, len(new_letters)]
+
+
+def check_recording(entries):
+    """A recording ribbon alone is judged by 2 and 7 only."""
+    check_length(len(entries))
+    check_entries(entries)
+
+
+def read_recording_line(text, entries):
+    """Gives the number of entries."""
+    new_entries = scan_recording(text)
+    check_recording(new_entries)
+    check_room(len(new_entries), entries)
+    return put(new_entries, entries)
+
+
+# ---- lines
+
+
+def line(kind, values):
+    return ",".join([kind] + [str(value) for value in values]).encode() + b"\n"
+
+
+def word_line(rank, word):
+    return line("W", [rank, len(word)] + word)
+
+
+def tableau_line(rank, letters, marks):
+    cells = []
+    for place, letter in enumerate(letters):
+        if place > 0:
+            cells.append("rd"[marks[place]])
+        cells.append(letter)
+    return line("T", [rank, len(letters)] + cells)
+
+
+def recording_line(entries):
+    return line("N", [len(entries)] + entries)
+
+
+def junction_line(word):
+    return line("J", [junction_set(word), rows(word)])
+
+
+def refusal_line(number, place):
+    return line("E", [number, place])
+
+
+# ---- writers: each gives the number of bytes written
+
+
+def write(written, out):
+    check_room(len(written), out)
+    return put(list(written), out)
+
+
+def write_word_line(rank, word, out):
+    check_word(rank, word)
+    return write(word_line(rank, word), out)
+
+
+def write_tableau_line(rank, letters, marks, out):
+    check_tableau(rank, letters, marks)
+    return write(tableau_line(rank, letters, marks), out)
+
+
+def write_recording_line(entries, out):
+    check_recording(entries)
+    return write(recording_line(entries), out)
+
+
+def write_junction_line(rank, word, out):
+    check_word(rank, word)
+    return write(junction_line(word), out)
+
+
+def tableau_line_of_word(rank, word, out):
+    check_word(rank, word)
+    letters, marks, _ = pair_of(word)
+    return write(tableau_line(rank, letters, marks), out)
+
+
+# ---- the program
+
+
+def program(text):
+    """The whole output for the whole input."""
+    try:
+        if len(text) > 4096:
+            raise Refused(14, 4096)
+        rank, word = scan_word(text)
+        check_word(rank, word)
+    except Refused as refusal:
+        return refusal_line(refusal.number, refusal.place)
+    letters, marks, entries = pair_of(word)
+    return (
+        tableau_line(rank, letters, marks) + recording_line(entries) + word_line(rank, reading(letters, marks)) + junction_line(word)
+    )

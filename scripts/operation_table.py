@@ -1,0 +1,308 @@
+"""The lines of the crate operations' table, by operation: document 01's checked words, one case at least for each refusal number of each operation, outputs
+longer than needed and too short by one, and the order of the checks."""
+from line_table import READERS, WRITERS
+
+WORDS = """
+junctions 4 4,3,2,3
+junctions 7 1,2,4,4,6,5,5,3,2,7,5
+junctions 4 -
+junctions 4 4,3,3
+junctions 6 2,4,3,2,4,5,5,6,5
+junctions 3 3,1
+junctions 4 1,2
+junctions 4 2,1
+junctions 1 1
+junctions 64 64
+junctions 64 64,63,62,61,60,59,58,57,56,55,54,53,52,51,50,49,48,47,46,45,44,43,42,41,40,39,38,37,36,35,34,33,32,31,30,29,28,27,26,25,24,23,22,21,20,19,18,17,16,15,14,13,12,11,10,9,8,7,6,5,4,3,2,1
+junctions 64 1-64
+junctions 64 64,1
+junctions 64 64,63
+junctions 9 1*1024
+junctions 0 -
+junctions 65 1
+junctions 260 4
+junctions 4 1*1025
+junctions 65 1*1025
+junctions 4 5*1025
+junctions 4 0,5
+junctions 4 4,3,5
+junctions 64 1,64,65
+raise_word 3 2 3,1,2,3
+raise_word 3 2 3,1,3,1
+raise_word 3 2 3,1
+raise_word 3 1 3,1,1,3
+raise_word 3 1 1,2,2
+raise_word 4 3 4,1,4
+raise_word 64 63 64,64
+raise_word 4 2 -
+raise_word 4 1 3,4
+raise_word 1 1 1,1
+raise_word 4 0 2,3
+raise_word 4 4 2,3
+raise_word 64 64 64
+raise_word 4 260 2,3
+raise_word 0 1 1
+raise_word 65 1 1
+raise_word 4 1 2*1025
+raise_word 4 9 4,5
+raise_word 4 0 4,3,0
+raise_word 4 1 1*1023,2
+lower_word 3 1 3,1,1,3
+lower_word 3 2 3,1,3,1
+lower_word 3 1 2,1
+lower_word 3 1 2,3,1
+lower_word 3 2 2,1,2,3
+lower_word 4 3 3,4,4
+lower_word 64 63 63
+lower_word 4 3 -
+lower_word 1 1 1
+lower_word 4 4 1
+lower_word 65 1 1
+lower_word 4 1 1*1025
+lower_word 4 1 1,9,1
+lower_word 4 1 1*1024
+raise_count_word 3 2 3,1,2,3
+raise_count_word 3 2 3,1,3,1
+raise_count_word 3 1 1,2,2
+raise_count_word 3 2 -
+raise_count_word 4 3 1*1000,4*24
+raise_count_word 1 1 1
+raise_count_word 4 0 4
+raise_count_word 0 0 0
+raise_count_word 4 9 1*1025
+raise_count_word 4 9 5
+lower_count_word 3 1 3,1,1,3
+lower_count_word 3 2 3,1,3,1
+lower_count_word 3 1 2,1
+lower_count_word 3 1 -
+lower_count_word 64 63 63*1024
+lower_count_word 4 4 4
+lower_count_word 65 4 4
+lower_count_word 4 2 2*1025
+lower_count_word 4 2 2,2,0
+"""
+
+COMPARISONS = """
+same_class 4 4 3,2,4,3 4,3,2,3
+same_class 4 4 2,3,3,4 4,3,2,3
+same_class 4 4 1,3,2,4 3,1,4,2
+same_class 4 5 4,3,2,3 4,3,2,3
+same_class 4 4 4,3,2,3 4,3,2
+same_class 4 4 - -
+same_class 1 64 - -
+same_class 2 2 1,2 2,1
+same_class 0 4 1 1
+same_class 4 65 1 1
+same_class 4 4 1*1025 -
+same_class 4 4 - 1*1025
+same_class 4 65 1*1025 5
+same_class 4 4 5 1*1025
+same_class 4 4 4,3,5 1
+same_class 4 4 4,3,2 1,0
+same_class 4 2 4,3,2 1,3
+same_class 4 4 1,9 9
+compare_weights 6 6 5,4,2,1,6,4,3,2,5,2,2,4 4,3,2,1,4,3,2,1,2,1,1,1
+compare_weights 6 6 4,3,2,1,4,3,2,1,2,1,1,1 5,4,2,1,6,4,3,2,5,2,2,4
+compare_weights 4 4 3,2,4,3 4,3,2,3
+compare_weights 3 3 2,2 1,3
+compare_weights 3 3 1,3,3 2,2,2
+compare_weights 4 4 - 4
+compare_weights 4 4 4 -
+compare_weights 1 64 - -
+compare_weights 4 64 4 64
+compare_weights 64 64 1*1024 1*1023,2
+compare_weights 65 4 1 1
+compare_weights 4 0 1 1
+compare_weights 4 4 1*1025 5
+compare_weights 4 4 1 1*1025
+compare_weights 4 4 0 1
+compare_weights 4 4 1,2 3,4,5
+compare_weights 4 3 1,2 3,4
+"""
+
+RIBBONS = """
+tableau_of_word 4 4,3,2,3 0*4 0*4
+tableau_of_word 4 4,3,2,3 9*6 8*5
+tableau_of_word 7 1,2,4,4,6,5,5,3,2,7,5 0*11 9*11
+tableau_of_word 4 - - -
+tableau_of_word 4 - 7,7 7
+tableau_of_word 4 4,3,3 9*4 9*3
+tableau_of_word 6 2,4,3,2,4,5,5,6,5 0*9 0*9
+tableau_of_word 3 3,1 0,0 0,0
+tableau_of_word 64 64,1,64,33 0*4 0*4
+tableau_of_word 1 1*1024 0*1024 9*1024
+tableau_of_word 4 1*1023,4 0*1024 9*1025
+tableau_of_word 0 1 9 9
+tableau_of_word 65 1 9 9
+tableau_of_word 4 1*1025 9 9
+tableau_of_word 4 4,5,0 9*3 9*3
+tableau_of_word 4 4,3,2,3 9*3 9*4
+tableau_of_word 4 4,3,2,3 9*4 9*3
+tableau_of_word 4 4,3,2,3 9*3 9*2
+tableau_of_word 4 4,3,2,9 - -
+tableau_of_word 4 4 - 9
+recording_of_word 4 4,3,2,3 0*4
+recording_of_word 4 4,3,2,3 1111*6
+recording_of_word 7 1,2,4,4,6,5,5,3,2,7,5 0*11
+recording_of_word 4 4,3,3 0*3
+recording_of_word 4 3,3 0*2
+recording_of_word 6 2,4,3,2,4,5,5,6,5 9*10
+recording_of_word 4 - -
+recording_of_word 4 - 5,5
+recording_of_word 64 64,1,64,33 0*4
+recording_of_word 1 1*1024 0*1025
+recording_of_word 0 - -
+recording_of_word 4 1*1025 -
+recording_of_word 4 1,2,0,5 9*4
+recording_of_word 4 4,3,2,3 9*3
+recording_of_word 4 4,3,2,5 9*3
+"""
+
+PAIRS = """
+insert_letter 4 0 4 0*4 0*4 0*4
+insert_letter 4 1 3 4,0,0,0 0,0,0,0 1,0,0,0
+insert_letter 4 2 2 3,4,0,0 0,1,0,0 2,1,0,0
+insert_letter 4 3 3 2,3,4,0 0,1,1,0 3,2,1,0
+insert_letter 4 3 3 2,3,4,0,9,9 0,1,1,0,9 3,2,1,0,999,999,999
+insert_letter 4 1 3 3,9 0,9 1,9
+insert_letter 4 4 4 2,3,3,4,9 0,1,0,1,9 3,2,4,1,9
+insert_letter 4 4 1 2,3,3,4,9 0,1,0,1,9 3,2,4,1,9
+insert_letter 7 10 5 1,2,2,3,4,4,5,5,6,7,0 0,0,0,1,1,0,0,0,1,0,0 1,2,9,8,3,4,6,7,5,10,0
+insert_letter 64 1 64 64,7 0,7 1,7
+insert_letter 1 1023 1 1*1023,0 0*1024 1-1023,0
+insert_letter 9 1023 1 9*1023,0 0*1023,7 1-1023,0
+insert_letter 0 0 1 9 9 9
+insert_letter 65 0 1 9 9 9
+insert_letter 4 1025 1 - - -
+insert_letter 4 1025 1 9*1100 9*1100 9*1100
+insert_letter 4 3 1 1,1 0,0,0 1,2,3
+insert_letter 4 3 1 1,1,1 0,0 1,2,3
+insert_letter 4 3 1 1,1,1 0,0,0 1,2
+insert_letter 4 3 1 1,1,1 0,0,0,9 1,2,3,9,9
+insert_letter 4 2 1 1,5,9 0,0,9 1,2,9
+insert_letter 4 2 0 1,2,9 0,0,9 1,2,9
+insert_letter 4 2 5 1,2,9 0,0,9 1,2,9
+insert_letter 4 2 257 1,2,9 0,0,9 1,2,9
+insert_letter 4 2 5 2,1,9 0,0,9 1,2,9
+insert_letter 4 2 5 1,2,9 2,0,9 1,1,9
+insert_letter 4 2 5 0,2,9 0,0,9 1,2,9
+insert_letter 4 3 1 1,3,2,9 0,0,0,9 1,2,3,9
+insert_letter 4 3 1 1,2,2,9 0,0,1,9 1,2,3,9
+insert_letter 4 2 1 1,2,9 1,0,9 1,2,9
+insert_letter 4 2 1 1,2,9 0,2,9 1,2,9
+insert_letter 4 2 1 1,2,9 0,0,9 0,2,9
+insert_letter 4 2 1 1,2,9 0,0,9 1,3,9
+insert_letter 4 2 1 1,2,9 0,0,9 2,2,9
+insert_letter 4 2 1 1,2,9 0,1,9 1,2,9
+insert_letter 4 2 1 1,2,9 0,0,9 2,1,9
+insert_letter 4 1024 1 1*1024 0*1024 1-1024
+insert_letter 4 1024 1 1*1100 0*1100 1-1100
+insert_letter 4 1024 5 1*1024 0*1024 1-1024
+insert_letter 4 2 1 1,2 0,0,9 1,2,9
+insert_letter 4 2 1 1,2,9 0,0 1,2,9
+insert_letter 4 2 1 1,2,9 0,0,9 1,2
+insert_letter 4 0 1 - - -
+insert_letter 4 2 1 1,2 0,1 1,2
+word_of_pair 4 2,3,3,4 0,1,0,1 3,2,4,1 0*4
+word_of_pair 4 2,3,3,4 0,1,0,1 3,2,4,1 9*6
+word_of_pair 7 1,2,2,3,4,4,5,5,5,6,7 0,0,0,1,1,0,0,0,0,1,0 1,2,9,8,3,4,6,7,11,5,10 0*11
+word_of_pair 6 2,2,3,4,4,5,5,5,6 0,0,1,1,0,0,0,0,1 1,4,3,2,5,6,7,9,8 0*9
+word_of_pair 4 3,3,4 0,0,1 2,3,1 0*3
+word_of_pair 4 - - - -
+word_of_pair 4 - - - 9,9
+word_of_pair 1 1*1024 0*1024 1-1024 0*1024
+word_of_pair 65 1 0 1 9
+word_of_pair 4 1*1025 0 1 9
+word_of_pair 4 1,1 0 1,2 9,9
+word_of_pair 4 1,1 0,0 1,2,3 9,9
+word_of_pair 4 1 0*1025 1 9
+word_of_pair 4 1,5 0,0 1,2 9,9
+word_of_pair 4 1,3,2 0,0,0 1,2,3 9*3
+word_of_pair 4 1,2,3 1,0,0 1,2,3 9*3
+word_of_pair 4 1,2,3 0,0,2 1,2,3 9*3
+word_of_pair 4 1,2,2 0,0,1 1,2,3 9*3
+word_of_pair 4 1,2,3 0,0,0 0,2,3 9*3
+word_of_pair 4 1,2,3 0,0,0 1,2,4 9*3
+word_of_pair 4 1,2,3 0,0,0 1,2,1 9*3
+word_of_pair 4 1,2,3 0,1,0 1,2,3 9*3
+word_of_pair 4 1,2,3 0,0,0 1,3,2 9*3
+word_of_pair 4 2,3,3,4 0,1,0,1 3,2,4,1 9*3
+word_of_pair 4 2,1 2,2 0,0 -
+word_of_pair 4 1,2 0,1 1,2 9
+"""
+
+TABLEAUX = """
+column_reading 4 2,3,3,4 0,1,0,1 0*4
+column_reading 4 2,3,3,4 0,1,0,1 9*6
+column_reading 7 1,2,2,3,4,4,5,5,5,6,7 0,0,0,1,1,0,0,0,0,1,0 0*11
+column_reading 4 3,3,4 0,0,1 0*3
+column_reading 4 1,2,3,4 0,1,1,1 0*4
+column_reading 4 - - -
+column_reading 4 - - 5
+column_reading 64 1-64 0,1*63 0*64
+column_reading 1 1*1024 0*1024 0*1024
+column_reading 0 - - -
+column_reading 4 1*1025 - -
+column_reading 4 1,2 0 9,9
+column_reading 4 1 0,0 9,9
+column_reading 4 1,0 0,0 9,9
+column_reading 4 2,1 0,0 9,9
+column_reading 4 2,2 0,1 9,9
+column_reading 4 1,2 1,1 9,9
+column_reading 4 1,2 0,3 9,9
+column_reading 4 2,3,3,4 0,1,0,1 9*3
+column_reading 4 2,2 0,1 -
+raise_tableau 3 2 1,3 0,1
+raise_tableau 3 1 1,2 0,0
+raise_tableau 3 1 1,2 0,1
+raise_tableau 4 2 1,3,3,3 0,1,0,0
+raise_tableau 4 3 2,3,3,4 0,1,0,1
+raise_tableau 4 1 2,3,3,4 0,1,0,1
+raise_tableau 4 2 - -
+raise_tableau 4 2 1,2 0,0
+raise_tableau 4 0 1 0
+raise_tableau 1 1 1 0
+raise_tableau 65 1 1 0
+raise_tableau 4 1 1*1025 0
+raise_tableau 4 1 1,2 0
+raise_tableau 4 9 1,5 0,0
+raise_tableau 4 9 2,1 0,0
+raise_tableau 4 9 2,2 0,1
+lower_tableau 3 1 1,1,3,3 0,0,1,0
+lower_tableau 3 2 1,1,3,3 0,0,1,0
+lower_tableau 4 2 1,2,3 0,1,1
+lower_tableau 4 4 1 0
+lower_tableau 64 63 63*1024 0*1024
+lower_tableau 0 1 1 0
+lower_tableau 4 1 - 0
+lower_tableau 4 1 1,1,9 0,0,0
+raise_count_tableau 4 2 1,3,3,3 0,1,0,0
+raise_count_tableau 4 2 2,3,3,4 0,1,0,1
+raise_count_tableau 4 2 - -
+raise_count_tableau 4 4 1 0
+raise_count_tableau 4 4 1 9
+raise_count_tableau 4 1 3,2 0,0
+raise_count_tableau 65 1 - -
+lower_count_tableau 3 1 1,1,3,3 0,0,1,0
+lower_count_tableau 3 2 1,1,3,3 0,0,1,0
+lower_count_tableau 4 3 2,3,3,4 0,1,0,1
+lower_count_tableau 4 0 1 0
+lower_count_tableau 4 1 1*1025 0
+lower_count_tableau 4 1 1 -
+lower_count_tableau 4 1 1,5 0,0
+"""
+
+OTHERS = """
+no_such_operation 1 2 3
+junction 4 -
+"""
+
+
+def table_lines(*parts):
+    """The lines of some parts of the table."""
+    return [line for part in parts for line in part.split("\n") if line]
+
+
+def operation_table():
+    """All lines of the table."""
+    return table_lines(WORDS, COMPARISONS, RIBBONS, PAIRS, TABLEAUX, READERS, WRITERS, OTHERS)
