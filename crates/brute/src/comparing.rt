@@ -1,0 +1,102 @@
+// The words, what is answered of each, and the comparison of two answers: they differ in each part that is not the same.
+//
+// The answers to all questions of one word are seven parts of 1,024 numbers each, in one array: letters, marks and entries of its pair, the word back, the
+// column reading, junction set and rows. Each part has its numbers first, and 0 after them.
+ghost use Prim.Native.Nat.{_<_, _≤_};
+
+// How many parts there are.
+pub(crate) const PARTS: usize = 7;
+
+// A word with its rank, and the state of the generator after it.
+pub struct Word {
+    pub rank: usize,
+    pub length: usize,
+    pub letters: [u8; 1024],
+    pub state: u64,
+}
+
+// Answers with one number everywhere.
+pub(crate) fn filled(number: u64) -> [u64; 7168] {
+    [number; 7168]
+}
+
+// Bytes, each as wide as an entry; after a wrong reply, the first is a number that no byte is.
+pub(crate) fn widened(wrong: usize, bytes: [u8; 1024]) -> [u16; 1024] {
+    let mut out = [0u16; 1024];
+    let mut i = 0;
+    while i < 1024 {
+        out[i] = bytes[i] as u16;
+        i += 1;
+    }
+    if 0 < wrong {
+        out[0] = 65535;
+    }
+    out
+}
+
+// The answers with a list as one part.
+pub(crate) fn put(part: usize, list: [u16; 1024], answers: [u64; 7168]) -> [u64; 7168]
+    requires { ⌜ part < 7 ⌝ }
+{
+    let mut all = answers;
+    let mut i = 0;
+    while i < 1024 {
+        all[1024 * part + i] = list[i] as u64;
+        i += 1;
+    }
+    all
+}
+
+// The answers with a junction set and rows as the last two parts.
+pub(crate) fn put_numbers(set: u64, rows: usize, answers: [u64; 7168]) -> [u64; 7168] {
+    let mut all = answers;
+    all[5120] = set;
+    all[6144] = rows as u64;
+    all
+}
+
+// 1 where a test passes, else 0.
+pub(crate) fn one_if(test: bool) -> usize
+    ensures { λ r. ⌜ r ≤ 1 ⌝ }
+{
+    if test { 1 } else { 0 }
+}
+
+// 1 where two answers differ in some number of a part, else 0.
+fn unequal(part: usize, one: [u64; 7168], other: [u64; 7168]) -> usize
+    requires { ⌜ part < 7 ⌝ }
+    ensures { λ r. ⌜ r ≤ 1 ⌝ }
+{
+    let mut i = 0;
+    while i < 1024 {
+        let at = 1024 * part + i;
+        if one[at] != other[at] {
+            return 1;
+        }
+        i += 1;
+    }
+    0
+}
+
+// In how many parts two answers differ.
+pub(crate) fn differences(one: [u64; 7168], other: [u64; 7168]) -> usize
+    ensures { λ r. ⌜ r ≤ 7 ⌝ }
+{
+    let mut found = 0;
+    let mut part = 0;
+    while part < PARTS {
+        found += unequal(part, one, other);
+        part += 1;
+    }
+    found
+}
+
+// The answers with one part spoilt on purpose: the lowest bit of its first number is turned.
+pub(crate) fn spoilt(part: usize, answers: [u64; 7168]) -> [u64; 7168]
+    requires { ⌜ part < 7 ⌝ }
+{
+    let mut all = answers;
+    let at = 1024 * part;
+    all[at] = all[at] ^ 1;
+    all
+}

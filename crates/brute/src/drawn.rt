@@ -1,0 +1,122 @@
+// Words drawn by a repeatable generator, over all ranks from 1 to 64, all lengths up to 1,024 and in five ways.
+use crate::comparing::Word;
+ghost use Prim.Native.Nat.{_<_, _≤_};
+
+// How many words are drawn.
+pub(crate) const DRAWN: usize = 2752;
+
+// The next state: a multiplication modulo the prime 2147483647. A state is never 0.
+fn next(state: u64) -> u64
+    requires { ⌜ state < 2147483647 ⌝ }
+    ensures { λ r. ⌜ r < 2147483647 ⌝ }
+{
+    state * 48271 % 2147483647
+}
+
+// A number below a bound.
+fn below(bound: usize, state: u64) -> usize
+    requires { ⌜ 0 < bound ⌝ }
+    ensures { λ r. ⌜ r < bound ⌝ }
+{
+    state as usize % bound
+}
+
+// The length of a word: for each rank 0 and 1, then 2,112 short words and 320 of up to 64 letters, then for each rank 1,023, 1,024 and one length from 65 on.
+fn length_of(k: usize, state: u64) -> usize
+    ensures { λ r. ⌜ r ≤ 1024 ⌝ }
+{
+    if k < 128 {
+        return k / 64;
+    }
+    if k < 2240 {
+        return 2 + below(9, state);
+    }
+    if k < 2560 {
+        return below(65, state);
+    }
+    if k % 3 == 0 {
+        return 65 + below(960, state);
+    }
+    1022 + k % 3
+}
+
+// So many letters up, but not above the rank.
+fn rising(before: usize, step: usize, rank: usize) -> usize
+    requires { ⌜ (before ≤ 64) × (step < 3) ⌝ }
+    ensures { λ r. ⌜ r ≤ rank ⌝ }
+{
+    if rank < before + step {
+        rank
+    } else {
+        before + step
+    }
+}
+
+// So many letters down, or another letter where there is none.
+fn falling(before: usize, step: usize, other: usize) -> usize
+    requires { ⌜ (before ≤ 64) × (other ≤ 64) ⌝ }
+    ensures { λ r. ⌜ r ≤ 64 ⌝ }
+{
+    if before <= step { other } else { before - step }
+}
+
+// The first, the middle or the last letter.
+fn one_of_three(rank: usize, third: usize) -> usize
+    requires { ⌜ (0 < rank) × (rank ≤ 64) ⌝ }
+    ensures { λ r. ⌜ r ≤ 64 ⌝ }
+{
+    if third == 0 {
+        return 1;
+    }
+    if third == 1 { (rank + 1) / 2 } else { rank }
+}
+
+// The letter after another, in one of five ways: any letter; one of three letters; never falling; never rising; falling, and from the bottom to the top
+// again.
+fn letter_after(way: usize, rank: usize, before: usize, state: u64) -> usize
+    requires { ⌜ (0 < rank) × (rank ≤ 64) × (before ≤ 64) ⌝ }
+    ensures { λ r. ⌜ r ≤ 64 ⌝ }
+{
+    let third = below(3, state);
+    match way {
+        0 => 1 + below(rank, state),
+        1 => one_of_three(rank, third),
+        2 => rising(before, third, rank),
+        3 => falling(before, third, 1),
+        _ => falling(before, third + 1, rank),
+    }
+}
+
+// The letter before the first.
+fn letter_before(way: usize, rank: usize) -> usize
+    requires { ⌜ (0 < rank) × (rank ≤ 64) ⌝ }
+    ensures { λ r. ⌜ r ≤ 64 ⌝ }
+{
+    if way == 2 { 1 } else { rank }
+}
+
+// A drawn word: its rank and its way by its number, its length and its letters by the generator.
+pub(crate) fn drawn_word(k: usize, state: u64) -> Word
+    requires { ⌜ state < 2147483647 ⌝ }
+    ensures { λ r. ⌜ (r .length ≤ 1024) × (r .state < 2147483647) ⌝ }
+{
+    let rank = k % 64 + 1;
+    let way = k % 5;
+    let length = length_of(k, state);
+    let mut letters = [0u8; 1024];
+    let mut letter = letter_before(way, rank);
+    let mut now = next(state);
+    let mut i = 0;
+    while i < length {
+        letter = letter_after(way, rank, letter, now);
+        letters[i] = letter as u8;
+        now = next(now);
+        i += 1;
+    }
+    Word {
+        rank,
+        length,
+        letters,
+        state: now,
+    }
+}

@@ -1,0 +1,136 @@
+// The kernel's answers to the same questions. Arrays of 1,024 elements are lent whole, and compared whole. Each reply is held to the count that it must
+// tell: a refusal or another count leaves a number that is in no answer.
+use crate::comparing::filled;
+use crate::comparing::one_if;
+use crate::comparing::put;
+use crate::comparing::put_numbers;
+use crate::comparing::widened;
+use pairs::insertion::insert_letter;
+use pairs::way_back::word_of_pair;
+use refusals::answers::Inserted;
+use refusals::answers::Junctions;
+use refusals::answers::Written;
+use refusals::letters::wide as number;
+use ribbons::recording::recording_of_word;
+use ribbons::tableau::tableau_of_word;
+use tableaux::reading::column_reading;
+use words::junctions::junctions;
+ghost use Prim.Native.Nat.{_≤_};
+ghost use mathlib.Core.Path.{_≡_};
+ghost use lib.ListN.{length};
+
+// The first bytes of an array.
+pub(crate) fn first_bytes(bytes: &[u8; 1024], count: usize) -> &[u8]
+    requires { ⌜ count ≤ 1024 ⌝ }
+    ensures { λ r. ⌜ length (now r) ≡ count ⌝ }
+{
+    let all: &[u8] = bytes;
+    &all[0..count]
+}
+
+// 1 for a refusal and for a count of elements that is not the length, else 0.
+fn wrong_written(reply: Written, length: usize) -> usize
+    ensures { λ r. ⌜ r ≤ 1 ⌝ }
+{
+    match reply {
+        Written::Elements(count) => one_if(count != length),
+        Written::Refused(_) => 1,
+    }
+}
+
+// 1 for a refusal and for a used count that is not the one given, else 0.
+fn wrong_used(reply: Inserted, used: usize) -> usize
+    ensures { λ r. ⌜ r ≤ 1 ⌝ }
+{
+    match reply {
+        Inserted::Used(count) => one_if(count != used),
+        Inserted::Refused(_) => 1,
+    }
+}
+
+// The answers with the word back from its pair.
+fn put_back(
+    rank: usize,
+    letters: &[u8],
+    marks: &[u8],
+    entries: &[u16],
+    answers: [u64; 7168],
+) -> [u64; 7168] {
+    let mut word = [0u8; 1024];
+    let reply = word_of_pair(rank, letters, marks, entries, &mut word);
+    put(
+        3,
+        widened(wrong_written(reply, letters.len()), word),
+        answers,
+    )
+}
+
+// The answers with the column reading of a tableau.
+fn put_reading(rank: usize, letters: &[u8], marks: &[u8], answers: [u64; 7168]) -> [u64; 7168] {
+    let mut word = [0u8; 1024];
+    let reply = column_reading(rank, letters, marks, &mut word);
+    put(
+        4,
+        widened(wrong_written(reply, letters.len()), word),
+        answers,
+    )
+}
+
+// The answers with the junction set and the rows of a word; for a refusal, rows that no word has.
+fn put_junctions(rank: usize, word: &[u8], answers: [u64; 7168]) -> [u64; 7168] {
+    match junctions(rank, word) {
+        Junctions::Found(set, rows) => put_numbers(set, rows, answers),
+        Junctions::Refused(_) => put_numbers(0, 1025, answers),
+    }
+}
+
+// All answers for a word, by its pair and the number of wrong replies in making it.
+fn answers_of(
+    rank: usize,
+    word: &[u8],
+    letters: [u8; 1024],
+    marks: [u8; 1024],
+    entries: [u16; 1024],
+    wrong: usize,
+) -> [u64; 7168]
+    requires { ⌜ length (now word) ≤ 1024 ⌝ }
+{
+    let all = put(0, widened(wrong, letters), filled(0));
+    let all = put(1, widened(wrong, marks), all);
+    let all = put_junctions(rank, word, put(2, entries, all));
+    let letters = &letters[0..word.len()];
+    let marks = &marks[0..word.len()];
+    let all = put_reading(rank, letters, marks, all);
+    put_back(rank, letters, marks, &entries[0..word.len()], all)
+}
+
+// All answers for a word, its tableau and its recording ribbon made at once.
+pub(crate) fn answers_at_once(rank: usize, word: &[u8]) -> [u64; 7168]
+    requires { ⌜ length (now word) ≤ 1024 ⌝ }
+{
+    let mut letters = [0u8; 1024];
+    let mut marks = [0u8; 1024];
+    let mut entries = [0u16; 1024];
+    let tableau = tableau_of_word(rank, word, &mut letters, &mut marks);
+    let recording = recording_of_word(rank, word, &mut entries);
+    let wrong = wrong_written(tableau, word.len()) + wrong_written(recording, word.len());
+    answers_of(rank, word, letters, marks, entries, wrong)
+}
+
+// All answers for a word, its letters inserted into a pair one after the other.
+pub(crate) fn answers_by_letters(rank: usize, word: &[u8]) -> [u64; 7168]
+    requires { ⌜ length (now word) ≤ 1024 ⌝ }
+{
+    let mut letters = [0u8; 1024];
+    let mut marks = [0u8; 1024];
+    let mut entries = [0u16; 1024];
+    let mut wrong = 0;
+    let mut used = 0;
+    while used < word.len() {
+        let letter = number(word[used]);
+        let reply = insert_letter(rank, used, letter, &mut letters, &mut marks, &mut entries);
+        used += 1;
+        wrong += wrong_used(reply, used);
+    }
+    answers_of(rank, word, letters, marks, entries, wrong)
+}
