@@ -29,7 +29,8 @@ use Rattle.hypoplactic.specs.WordOperations.{comparisonNumber, wordsJudgements,
 use Rattle.hypoplactic.proofs.Theory.Limits.{accepted-within, count-outside}
 use Rattle.words.specs.Given.{accepted-counts, countGiven}
 use Rattle.words.specs.Tables.{Table}
-use Rattle.refusals.specs.Passed.{first-else, judging}
+use Rattle.hypoplactic.proofs.Theory.Passing.{first-else}
+use Rattle.refusals.specs.Passed.{judging}
 
 -- ---- on tables
 

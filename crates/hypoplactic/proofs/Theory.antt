@@ -49,6 +49,7 @@ pub mod StepJudgements
 pub mod FirstPlaces
 pub mod Judged
 pub mod Results
+pub mod Looks
 pub mod MoveResults
 pub mod LineResults
 pub mod WrittenClasses

@@ -6,7 +6,7 @@
 --     ValidPair xs ms rs  both
 --     TableauAt n xs ms, PairAt n xs ms rs   the same within the limits of rank n
 --     downStep f xs ms    some down step joins two entries that pass the test f
---     rowAt, columnAt     the row and the column of a cell, from 0
+--     stepsTo m ms k      the steps with mark m up to a cell; rowAt, columnAt: the row and the column of a cell, from 0
 -- Assumes nothing.
 use Prim.Native.Nat.{ℕ, zero, suc, _≤_, _<_}
 use mathlib.Core.Path.{_≡_}
@@ -78,10 +78,14 @@ downStep f [] ms = false
 downStep f (x ∷ xs) [] = false
 downStep f (x ∷ xs) (m ∷ ms) = downAfter f x xs ms
 
+-- The steps with mark m on the way to the cell at place k. The first cell's mark is no step.
+abbrev pub stepsTo : ℕ → List ℕ → ℕ → ℕ
+stepsTo m ms k = count m (take k (drop 1 ms))
+
 -- The row of the cell at place k: the down steps up to it.
 abbrev pub rowAt : List ℕ → ℕ → ℕ
-rowAt ms k = count 1 (take (suc k) ms)
+rowAt ms k = stepsTo 1 ms k
 
--- The column of the cell at place k: the right steps up to it, the first cell's mark being no step.
+-- The column of the cell at place k: the right steps up to it.
 abbrev pub columnAt : List ℕ → ℕ → ℕ
-columnAt ms k = count 0 (take k (drop 1 ms))
+columnAt ms k = stepsTo 0 ms k

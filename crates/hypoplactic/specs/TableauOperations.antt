@@ -6,6 +6,7 @@
 --     moveTableauRun                1 to 6, 9 10 11          gives no value; letters change in place, marks do not
 --     repeatTableauSays             1 to 6, 9                gives the repeat count
 --     viewerSays, lookSays          1 to 6                   gives no value; gives letter, row and column, or no value for "no such cell"
+--     throughSays                   those of the making      the same look, from what the making said
 -- A lent list keeps its elements beyond those needed. Assumes nothing.
 use Prim.Native.Nat.{ℕ, suc}
 use mathlib.Core.List.{List, [], _∷_, _++_}
@@ -16,7 +17,7 @@ use Rattle.hypoplactic.specs.Ribbons.{rowAt, columnAt}
 use Rattle.hypoplactic.specs.Insertion.{Pair, insert, lettersOf, marksOf, recordingOf, wordOf}
 use Rattle.hypoplactic.specs.Reading.{columnReading}
 use Rattle.hypoplactic.specs.Moves.{Move, below, movedTableau, repeatTableau}
-use Rattle.hypoplactic.specs.Replies.{Said, gives, passed, first, ranTo, written}
+use Rattle.hypoplactic.specs.Replies.{Said, gives, passed, orElse, first, ranTo, written}
 use Rattle.hypoplactic.specs.Judgements.{rankJudged, lengthJudged, usedJudged, lettersJudged, risingJudged, marksJudged, entriesJudged, recordingJudged, indexJudged, fullJudged, roomJudged, wordJudgements, tableauJudgements, pairJudgements}
 use Rattle.hypoplactic.specs.WordOperations.{moveJudgements, orSame}
 
@@ -90,7 +91,7 @@ moveTableauRun n m xs ms = ranTo (moveTableauSays n m xs ms) (orSame (movedTable
 unfoldable pub repeatTableauSays : ℕ → Move → List ℕ → List ℕ → Said
 repeatTableauSays n m xs ms = first (tableauJudgements n xs ms ++ (indexJudged n (m .index) ∷ [])) (gives (repeatTableau m xs ms ∷ []))
 
--- The making of a viewer, and a look at a cell through it.
+-- The making of a viewer.
 unfoldable pub viewerSays : ℕ → List ℕ → List ℕ → Said
 viewerSays n xs ms = first (tableauJudgements n xs ms) passed
 
@@ -98,5 +99,10 @@ viewerSays n xs ms = first (tableauJudgements n xs ms) passed
 abbrev pub cellAt : List ℕ → List ℕ → ℕ → List ℕ
 cellAt xs ms k = cond (ltb k (length xs)) (getD xs k 0 ∷ rowAt ms k ∷ columnAt ms k ∷ []) []
 
+-- A look through a viewer over xs and ms whose making said so: a refusal of the making stays one, so that "no such cell" is never said for it.
+unfoldable pub throughSays : Said → List ℕ → List ℕ → ℕ → Said
+throughSays made xs ms k = orElse made (gives (cellAt xs ms k))
+
+-- A look at a cell through the viewer of a rank, letters and marks.
 unfoldable pub lookSays : ℕ → List ℕ → List ℕ → ℕ → Said
 lookSays n xs ms k = first (tableauJudgements n xs ms) (gives (cellAt xs ms k))

@@ -1,16 +1,15 @@
 -- What an operation knows of its input once the check of it has passed, and what it says from the check's verdict on.
---     first-else                         a chain of checks before an answer, from what the chain says alone
 --     accepted-word                      a word that its check lets pass is accepted
 --     accepted-first, accepted-second    so are two words
 --     judging                            the ruleset of operations past their check
 -- Assumes nothing.
 use Prim.Native.Nat.{ℕ}
-use mathlib.Core.Path.{_≡_, refl, sym, ap, _∙_}
-use mathlib.Core.List.{List, [], _∷_}
+use mathlib.Core.Path.{_≡_, sym, ap, _∙_}
+use mathlib.Core.List.{List}
 use lib.ListN.{length}
 use borrow.Author.Needs.{needs}
 use Rattle.hypoplactic.specs.Words.{Accepted}
-use Rattle.hypoplactic.specs.Replies.{Said, gives, refused, passed, orElse, first, countOn}
+use Rattle.hypoplactic.specs.Replies.{Said, gives, refused, passed, first, countOn}
 use Rattle.hypoplactic.specs.Judgements.{lettersJudged, wordJudgements}
 use Rattle.hypoplactic.specs.WordOperations.{wordsJudgements}
 use Rattle.hypoplactic.proofs.Theory.Judged.{word-judged, word-passing}
@@ -19,12 +18,6 @@ use Rattle.refusals.specs.Chains.{stops, goes-on}
 use Rattle.refusals.specs.Said.{saidVerdict}
 use Rattle.refusals.specs.declared.answers.Verdict.{Verdict}
 use Rattle.refusals.specs.declared.answers.Verdict.the-variants.{Passed}
-
--- What a chain says before an answer is what it says alone, or else the answer.
-pub first-else : (js : List Said) (a : Said) → orElse (first js passed) a ≡ first js a
-first-else [] a = refl
-first-else (gives vs ∷ js) a = first-else js a
-first-else (refused k p ∷ js) a = refl
 
 -- A word that its check lets pass is accepted.
 pub accepted-word : {v : Verdict} (n : ℕ) (w : List ℕ) → saidVerdict v ≡ first (wordJudgements n w) passed → v ≡ Passed → Accepted n w

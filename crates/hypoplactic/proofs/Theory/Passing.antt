@@ -3,7 +3,9 @@
 --     Passing js           no judgement of the list refuses
 --     first-passed         the chain replies passed exactly when none refuses
 --     first-answer         where none refuses, the reply is the answer
+--     passing-first        where values are the reply, none refuses
 --     first-append         a chain may be cut anywhere
+--     first-else           what a chain says before an answer, from what it says alone
 --     first-past           what a chain says past judgements that refuse nothing; first-both past all of two lists
 --     passes-then          a test and the rest pass exactly when the facts of both hold
 --     passes-test          a single test passes exactly when its fact holds
@@ -34,20 +36,27 @@ first-answer [] a p = refl
 first-answer (gives vs ∷ js) a p = first-answer js a (p .1)
 first-answer (refused k i ∷ js) a p = absurd (p .0)
 
-passing-first : (js : List Said) → Passes (first js passed) → Passing js
-passing-first [] p = tt
-passing-first (gives vs ∷ js) p = (tt, passing-first js p)
-passing-first (refused k i ∷ js) p = absurd p
+-- Where values are the reply, no judgement refuses.
+pub passing-first : (js : List Said) (vs : List ℕ) → Passes (first js (gives vs)) → Passing js
+passing-first [] vs p = tt
+passing-first (gives us ∷ js) vs p = (tt, passing-first js vs p)
+passing-first (refused k i ∷ js) vs p = absurd p
 
 -- The chain replies passed exactly when no judgement refuses.
 pub first-passed : (js : List Said) → (first js passed ≡ passed) ↔ Passing js
-first-passed js = (λ e. passing-first js (subst Passes (sym e) tt), first-answer js passed)
+first-passed js = (λ e. passing-first js [] (subst Passes (sym e) tt), first-answer js passed)
 
 -- A chain may be cut anywhere: what the first part refuses, else what the second says.
 pub first-append : (js ks : List Said) (a : Said) → first (js ++ ks) a ≡ orElse (first js passed) (first ks a)
 first-append [] ks a = refl
 first-append (gives vs ∷ js) ks a = first-append js ks a
 first-append (refused k i ∷ js) ks a = refl
+
+-- What a chain says before an answer is what it says alone, or else the answer.
+pub first-else : (js : List Said) (a : Said) → orElse (first js passed) a ≡ first js a
+first-else [] a = refl
+first-else (gives vs ∷ js) a = first-else js a
+first-else (refused k i ∷ js) a = refl
 
 -- Past judgements that refuse nothing the chain goes on,
 pub first-past : (js ks : List Said) (a : Said) → Passing js → first (js ++ ks) a ≡ first ks a

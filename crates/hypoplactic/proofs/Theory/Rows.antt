@@ -68,10 +68,17 @@ unfolding rowsOf junctionSet
 rows-downs [] h l = let z : ⊥ = omega arith in absurd z
 rows-downs (x ∷ xs) h l = ap suc (ones-downs 64 (x ∷ xs) h)
 
+-- The row of a tableau's last cell is the number of its down steps: the first mark is none.
+last-row : (xs ms : List ℕ) (k : ℕ) → Tableau xs ms → length ms ≡ suc k → count 1 ms ≡ rowAt ms k
+last-row [] [] k h e = let z : ⊥ = omega arith in absurd z
+last-row [] (m ∷ ms) k h e = absurd h
+last-row (x ∷ xs) [] k h e = absurd h
+last-row (x ∷ xs) (m ∷ ms) k h e = let all : length ms ≤ k = omega arith in rw (h .0, take-all k ms all)
+
 -- One more than the row of its tableau's last cell.
 pub rows-last : (w : List ℕ) → Within 64 w → 1 ≤ length w → rowsOf w ≡ suc (rowAt (marksOf w) (length w - 1))
 rows-last w h l =
-    rows-downs w h l ∙ ap (λ (ms : List ℕ). suc (count 1 ms)) (sym (take-all (suc (length w - 1)) (marksOf w) (omega (arith, length-marks w))))
+    rows-downs w h l ∙ ap suc (last-row (lettersOf w) (marksOf w) (length w - 1) (tableau-of-word w) (omega (arith, length-marks w)))
 
 -- ---- the row and the column of a cell
 
@@ -88,4 +95,4 @@ marks-add x (y ∷ ys) (suc (suc m) ∷ ms) (suc k) h l = absurd (h .0)
 pub row-column : (xs ms : List ℕ) (k : ℕ) → Tableau xs ms → k < length xs → rowAt ms k + columnAt ms k ≡ k
 row-column [] ms k h l = let z : ⊥ = omega arith in absurd z
 row-column (x ∷ xs) [] k h l = absurd h
-row-column (x ∷ xs) (m ∷ ms) k h l = rw (h .0) (marks-add x xs ms k (h .1) (omega arith))
+row-column (x ∷ xs) (m ∷ ms) k h l = marks-add x xs ms k (h .1) (omega arith)
