@@ -3,7 +3,7 @@
 --     number, place      of a refusal, as document 01's table fixes them
 --     saidRefusal        a refusal
 --     saidFault k        the first fault that a scan for refusal k finds
---     saidVerdict, saidMove, saidRepeat, saidJunctions, saidClass, saidWeights, saidWritten, saidInserted, saidWordLine, saidTableauLine, saidRecordingLine
+--     saidVerdict, saidMove, saidRepeat, saidJunctions, saidClass, saidWeights, saidWritten, saidInserted, saidCell, saidWordLine, saidTableauLine, saidRecordingLine
 --                        the answers
 -- That each of them tells all cases apart is proofs/Theory/Apart. Assumes nothing.
 use Prim.Native.Nat.{ℕ}
@@ -29,6 +29,8 @@ use Rattle.refusals.specs.declared.answers.Written.{Written}
 use Rattle.refusals.specs.declared.answers.Written.the-variants as written
 use Rattle.refusals.specs.declared.answers.Inserted.{Inserted}
 use Rattle.refusals.specs.declared.answers.Inserted.the-variants as inserted
+use Rattle.refusals.specs.declared.answers.Cell.{Cell}
+use Rattle.refusals.specs.declared.answers.Cell.the-variants as cell
 use Rattle.refusals.specs.declared.answers.WordLine.{WordLine}
 use Rattle.refusals.specs.declared.answers.WordLine.the-variants as wordLine
 use Rattle.refusals.specs.declared.answers.TableauLine.{TableauLine}
@@ -116,6 +118,12 @@ saidWritten (written.Refused r) = saidRefusal r
 abbrev pub saidInserted : Inserted → Said
 saidInserted (inserted.Used n) = gives (n ∷ [])
 saidInserted (inserted.Refused r) = saidRefusal r
+
+-- Letter, row and column; no value for "no such cell".
+abbrev pub saidCell : Cell → Said
+saidCell (cell.Found letter row column) = gives (letter ∷ row ∷ column ∷ [])
+saidCell cell.NoSuchCell = gives []
+saidCell (cell.Refused r) = saidRefusal r
 
 -- Rank and number of letters.
 abbrev pub saidWordLine : WordLine → Said

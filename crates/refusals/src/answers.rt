@@ -60,6 +60,13 @@ pub enum Inserted {
     Refused(Refusal),
 }
 
+// What a look at a cell through a viewer answers: letter, row and column, or that the place is past the last cell.
+pub enum Cell {
+    Found(u8, usize, usize),
+    NoSuchCell,
+    Refused(Refusal),
+}
+
 // What the reader of a W line answers: rank and number of letters.
 pub enum WordLine {
     Word(usize, usize),

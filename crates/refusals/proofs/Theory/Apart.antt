@@ -3,7 +3,7 @@
 --     refusal-apart                                                     refusals by number and place
 --     fault-apart                                                       the faults that a scan for one refusal finds
 --     verdict-apart, move-apart, repeat-apart, junctions-apart, class-apart, weights-apart, written-apart, inserted-apart,
---     word-line-apart, tableau-line-apart, recording-line-apart         the answers
+--     cell-apart, word-line-apart, tableau-line-apart, recording-line-apart     the answers
 -- Assumes nothing.
 use Prim.Native.Nat.{ℕ, _-_}
 use mathlib.Core.Path.{_≡_, refl, sym, ap, _∙_}
@@ -30,13 +30,15 @@ use Rattle.refusals.specs.declared.answers.Written.{Written}
 use Rattle.refusals.specs.declared.answers.Written.the-variants as written
 use Rattle.refusals.specs.declared.answers.Inserted.{Inserted}
 use Rattle.refusals.specs.declared.answers.Inserted.the-variants as inserted
+use Rattle.refusals.specs.declared.answers.Cell.{Cell}
+use Rattle.refusals.specs.declared.answers.Cell.the-variants as cell
 use Rattle.refusals.specs.declared.answers.WordLine.{WordLine}
 use Rattle.refusals.specs.declared.answers.WordLine.the-variants as wordLine
 use Rattle.refusals.specs.declared.answers.TableauLine.{TableauLine}
 use Rattle.refusals.specs.declared.answers.TableauLine.the-variants as tableauLine
 use Rattle.refusals.specs.declared.answers.RecordingLine.{RecordingLine}
 use Rattle.refusals.specs.declared.answers.RecordingLine.the-variants as recordingLine
-use Rattle.refusals.specs.Said.{number, place, saidRefusal, saidFault, saidVerdict, saidMove, saidRepeat, saidJunctions, saidClass, saidWeights, saidWritten, saidInserted, saidWordLine, saidTableauLine, saidRecordingLine}
+use Rattle.refusals.specs.Said.{number, place, saidRefusal, saidFault, saidVerdict, saidMove, saidRepeat, saidJunctions, saidClass, saidWeights, saidWritten, saidInserted, saidCell, saidWordLine, saidTableauLine, saidRecordingLine}
 
 -- What can be found again is told apart.
 apart : {A : Type 0} (said : A → Said) (back : Said → A) → ((a : A) → back (said a) ≡ a) → (a b : A) → said a ≡ said b → a ≡ b
@@ -160,6 +162,19 @@ inserted-again (inserted.Refused r) = ap inserted.Refused (row-of r)
 
 pub inserted-apart : (a b : Inserted) → saidInserted a ≡ saidInserted b → a ≡ b
 inserted-apart = apart saidInserted (answer (λ vs. inserted.Used (getD vs 0 0)) inserted.Refused) inserted-again
+
+cellOf : List ℕ → Cell
+cellOf [] = cell.NoSuchCell
+cellOf (letter ∷ vs) = cell.Found letter (getD vs 0 0) (getD vs 1 0)
+
+cell-again : (a : Cell) → answer cellOf cell.Refused (saidCell a) ≡ a
+unfolding answer cellOf
+cell-again (cell.Found letter row column) = refl
+cell-again cell.NoSuchCell = refl
+cell-again (cell.Refused r) = ap cell.Refused (row-of r)
+
+pub cell-apart : (a b : Cell) → saidCell a ≡ saidCell b → a ≡ b
+cell-apart = apart saidCell (answer cellOf cell.Refused) cell-again
 
 word-line-again : (a : WordLine) → answer (λ vs. wordLine.Word (getD vs 0 0) (getD vs 1 0)) wordLine.Refused (saidWordLine a) ≡ a
 unfolding answer
