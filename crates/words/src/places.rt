@@ -58,7 +58,7 @@ pub fn stands_left(first: Found, second: Found) -> bool
 }
 
 // 1 where `x` is `letter`, else 0.
-fn one_if(letter: u8, x: u8) -> u16
+pub fn one_if(letter: u8, x: u8) -> u16
     ensures { λ r. ⌜ r ≡ tick (eqb x letter) 0 ⌝ }
 {
     if x == letter { 1 } else { 0 }

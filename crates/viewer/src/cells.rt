@@ -1,0 +1,58 @@
+// A cell by its place, over any two slices: they may be of unequal lengths, and need be no tableau.
+use refusals::answers::Cell;
+use refusals::answers::Verdict;
+use words::places::one_if;
+ghost use mathlib.Core.Path.{_≡_};
+ghost use Rattle.hypoplactic.specs.Replies.{gives};
+ghost use Rattle.hypoplactic.specs.Ribbons.{stepsTo};
+ghost use Rattle.hypoplactic.specs.TableauOperations.{cellAt, throughSays};
+ghost use Rattle.hypoplactic.specs.Words.{count};
+ghost use Rattle.refusals.specs.Said.{saidCell, saidVerdict};
+
+// How often a mark stands among marks, however many there are.
+fn count_marks(mark: u8, marks: &[u8]) -> usize
+    ensures { λ r. ⌜ r ≡ count mark (now (marks .entry)) ⌝ }
+{
+    let mut found = 0;
+    let mut i = 0;
+    while i < marks.len() {
+        found += one_if(mark, marks[i]) as usize;
+        i += 1;
+    }
+    found
+}
+
+// The steps with a mark on the way to the cell at a place: with 1 the cell's row, with 0 its column. The first cell's mark is no step.
+pub fn steps_to(mark: u8, marks: &[u8], place: usize) -> usize
+    ensures { λ r. ⌜ r ≡ stepsTo mark (now (marks .entry)) place ⌝ }
+{
+    if marks.len() == 0 {
+        return 0;
+    }
+    if place < marks.len() {
+        return count_marks(mark, &marks[1..place + 1]);
+    }
+    count_marks(mark, &marks[1..marks.len()])
+}
+
+// The cell at a place.
+pub fn cell_at(letters: &[u8], marks: &[u8], place: usize) -> Cell
+    ensures { λ r. ⌜ saidCell r ≡ gives (cellAt (now (letters .entry)) (now (marks .entry)) place) ⌝ }
+{
+    if place < letters.len() {
+        let row = steps_to(1, marks, place);
+        let column = steps_to(0, marks, place);
+        return Cell::Found(letters[place], row, column);
+    }
+    Cell::NoSuchCell
+}
+
+// The cell at a place, through a viewer whose making gave the verdict `made`: a refusal is passed on, so that no cell is called missing for it.
+pub fn cell_through(place: usize, letters: &[u8], marks: &[u8], made: Verdict) -> Cell
+    ensures { λ r. ⌜ saidCell r ≡ throughSays (saidVerdict made) (now (letters .entry)) (now (marks .entry)) place ⌝ }
+{
+    match made {
+        Verdict::Passed => cell_at(letters, marks, place),
+        Verdict::Refused(refusal) => Cell::Refused(refusal),
+    }
+}
