@@ -1,11 +1,4 @@
-pub mod Bytes
-pub mod Numbers
-pub mod Kept
-pub mod Cells
-pub mod Items
-pub mod Heads
-pub mod Scans
-pub mod Kinds
+pub mod Letters
 pub mod Stores
 pub mod Narrowed
 pub mod Readers

@@ -25,13 +25,14 @@ use Rattle.refusals.specs.Said.{saidRefusal, saidVerdict}
 use Rattle.refusals.specs.declared.refusal.Refusal.{Refusal}
 use Rattle.refusals.specs.declared.answers.Verdict.{Verdict}
 use Rattle.refusals.specs.declared.answers.Verdict.the-variants.{Passed, Refused}
-use Rattle.readers.specs.Numbers.{Told}
-use Rattle.readers.specs.Kept.{Agree, agree-take, narrowed}
-use Rattle.readers.specs.Kinds.{recording-whole, tableau-whole, word-whole}
+use Rattle.scans.specs.Numbers.{Told}
+use Rattle.scans.specs.Kept.{Agree, agree-take, kept-agrees, length-kept}
+use Rattle.readers.specs.Letters.{narrowed}
+use Rattle.scans.specs.Kinds.{recording-whole, tableau-whole, word-whole}
 use Rattle.readers.specs.Narrowed.{narrowed-run}
-use Rattle.readers.specs.Scans.{Scanned, readWhole}
-use Rattle.readers.specs.declared.scans.Line.{Line}
-use Rattle.readers.specs.declared.scans.Line.the-variants as line
+use Rattle.scans.specs.Scans.{Scanned, readWhole}
+use Rattle.scans.specs.declared.line.Line.{Line}
+use Rattle.scans.specs.declared.line.Line.the-variants as line
 
 -- The place of a break.
 break-place : (text : List ℕ) (p : ℕ) → p ≤ length text → length text - length (drop p text) ≡ p
@@ -60,61 +61,68 @@ length-limit {v} k e q = let (size, t) = all-passing (lengthJudged k ∷ []) (en
 
 -- ---- a line that was scanned
 
-module _ {text : List ℕ} {reading : Read (ℕ × List (ℕ × ℕ))} {old-letters old-marks xs ms : List ℕ} {r : Line}
-    (s : Scanned text reading old-letters old-marks xs ms r) where
+module _ {text : List ℕ} {reading : Read (ℕ × List (ℕ × ℕ))} {cells : List (ℕ × ℕ)} {old-letters old-marks xs ms : List ℕ} {r : Line}
+    (s : Scanned text reading cells old-letters old-marks xs ms r) where
   line-broken : {p : ℕ} → r ≡ line.Broken p → Told text reading (broken (drop p text)) p
   line-broken e = rw e at (s .told)
 
   -- Room for 1,024 letters and marks is as long as it was.
   pub letters-room : length old-letters ≡ 1024 → length xs ≡ 1024
-  letters-room e = s .letters-size ∙ e
+  letters-room e = ap length (s .letters-are) ∙ length-kept (letters cells) old-letters ∙ e
 
   pub marks-room : length old-marks ≡ 1024 → length ms ≡ 1024
-  marks-room e = s .marks-size ∙ e
+  marks-room e = ap length (s .marks-are) ∙ length-kept (marks cells) old-marks ∙ e
 
   module _ {n k next : ℕ} (e : r ≡ line.Read n k next) where
-    line-read : reading ≡ got (n, s .cells) (drop next text)
-    line-read = let f : Told text reading (got (n, s .cells) (drop next text)) next = rw e at (s .told) in f .says
+    line-read : reading ≡ got (n, cells) (drop next text)
+    line-read = let f : Told text reading (got (n, cells) (drop next text)) next = rw e at (s .told) in f .says
 
-    line-long : length (s .cells) ≡ k
+    line-long : length cells ≡ k
     line-long = rw e at (s .long)
 
-    letters-long : length (letters (s .cells)) ≡ k
-    letters-long = length-map (s .cells) (λ c. c .0) ∙ line-long
+    letters-long : length (letters cells) ≡ k
+    letters-long = length-map cells (λ c. c .0) ∙ line-long
+
+    -- The letters and the marks in memory agree with the line's.
+    letters-kept : Agree (letters cells) xs
+    letters-kept = rw (s .letters-are) (kept-agrees (letters cells) old-letters)
+
+    marks-kept : Agree (marks cells) ms
+    marks-kept = rw (s .marks-are) (kept-agrees (marks cells) old-marks)
 
     -- What is kept of a line within the limits is all of it,
-    kept-all : (f : ℕ × ℕ → ℕ) (ys : List ℕ) → Agree (map f (s .cells)) ys → k ≤ length ys → take (k - 0) ys ≡ map f (s .cells)
+    kept-all : (f : ℕ × ℕ → ℕ) (ys : List ℕ) → Agree (map f cells) ys → k ≤ length ys → take (k - 0) ys ≡ map f cells
     kept-all f ys h l =
-        let size : length (map f (s .cells)) ≡ k = length-map (s .cells) f ∙ line-long in
-        let all : k - 0 ≡ length (map f (s .cells)) = omega arith in
-        rw all (agree-take (map f (s .cells)) ys h (omega arith))
+        let size : length (map f cells) ≡ k = length-map cells f ∙ line-long in
+        let all : k - 0 ≡ length (map f cells) = omega arith in
+        rw all (agree-take (map f cells) ys h (omega arith))
 
     -- and so are its letters as bytes.
     bytes-all : (bytes : List ℕ) → Agree (map narrowed (take (k - 0) xs)) bytes → k ≤ length xs → k ≤ length bytes
-        → take (k - 0) bytes ≡ map narrowed (letters (s .cells))
+        → take (k - 0) bytes ≡ map narrowed (letters cells)
     bytes-all bytes h l m =
-        let is : take (k - 0) xs ≡ letters (s .cells) = kept-all (λ c. c .0) xs (s .letters-kept) l in
-        let size : length (map narrowed (letters (s .cells))) ≡ k = length-map (letters (s .cells)) narrowed ∙ letters-long in
-        let all : k - 0 ≡ length (map narrowed (letters (s .cells))) = omega arith in
-        rw all (agree-take (map narrowed (letters (s .cells))) bytes (rw is at h) (omega arith))
+        let is : take (k - 0) xs ≡ letters cells = kept-all (λ c. c .0) xs letters-kept l in
+        let size : length (map narrowed (letters cells)) ≡ k = length-map (letters cells) narrowed ∙ letters-long in
+        let all : k - 0 ≡ length (map narrowed (letters cells)) = omega arith in
+        rw all (agree-take (map narrowed (letters cells)) bytes (rw is at h) (omega arith))
 
 -- ---- W lines
 
-module _ {text old-letters old-marks xs ms : List ℕ} {r : Line} (s : Scanned text (readWhole 87 true false text) old-letters old-marks xs ms r)
+module _ {text old-letters old-marks xs ms : List ℕ} {cells : List (ℕ × ℕ)} {r : Line} (s : Scanned text (readWhole 87 true false text) cells old-letters old-marks xs ms r)
     (out : List ℕ) where
   pub word-broken : {p : ℕ} → r ≡ line.Broken p → (refused 14 p, out) ≡ readWRun text out
   unfolding readWRun
   word-broken {p} e = let f = line-broken s e in rw (word-whole text, f .says, break-place text p (f .within))
 
   module _ {n k next : ℕ} (e : r ≡ line.Read n k next) where
-    word-is : readWRun text out ≡ wordRead out n (letters (s .cells))
+    word-is : readWRun text out ≡ wordRead out n (letters cells)
     unfolding readWRun
     word-is = rw (word-whole text, line-read s e)
 
     module _ {v : Verdict} (h : saidVerdict v ≡ first (rankJudged n ∷ lengthJudged k ∷ []) passed) where
       pub word-stopped : {f : Refusal} → v ≡ Refused f → (saidRefusal f, out) ≡ readWRun text out
       word-stopped {f} q =
-          let ws = letters (s .cells) in
+          let ws = letters cells in
           run-stopped (rankJudged n ∷ lengthJudged (length ws) ∷ []) (lettersJudged n ws ∷ roomJudged (length ws) (length out) ∷ []) (n ∷ length ws ∷ [])
           (written ws out) out f (rw (letters-long s e) h) q
           ∙ sym word-is
@@ -122,32 +130,32 @@ module _ {text old-letters old-marks xs ms : List ℕ} {r : Line} (s : Scanned t
       pub word-stored : (bytes : List ℕ) {said : Said × List ℕ} → v ≡ Passed → length old-letters ≡ 1024 → length bytes ≡ 1024
           → Agree (map narrowed (take (k - 0) xs)) bytes → said ≡ wordRead out n (take (k - 0) bytes) → said ≡ readWRun text out
       word-stored bytes q l m a w =
-          let is : take (k - 0) bytes ≡ map narrowed (letters (s .cells)) =
+          let is : take (k - 0) bytes ≡ map narrowed (letters cells) =
           bytes-all s e bytes a (limit-part n k h q xs (letters-room s l)) (limit-part n k h q bytes m) in
           w ∙ ap (wordRead out n) is
-          ∙ narrowed-run n (letters (s .cells)) (λ ws. rankJudged n ∷ lengthJudged (length ws) ∷ []) (λ ws. roomJudged (length ws) (length out) ∷ [])
-          (λ ws. gives (n ∷ length ws ∷ [])) (λ ws. written ws out) out (limit-rank n k h q) (rw (length-map (letters (s .cells)) narrowed)) ∙ sym word-is
+          ∙ narrowed-run n (letters cells) (λ ws. rankJudged n ∷ lengthJudged (length ws) ∷ []) (λ ws. roomJudged (length ws) (length out) ∷ [])
+          (λ ws. gives (n ∷ length ws ∷ [])) (λ ws. written ws out) out (limit-rank n k h q) (rw (length-map (letters cells) narrowed)) ∙ sym word-is
 
 pub ruleset reading-words = (limit-part, limit-few, letters-room, word-broken, word-stopped, word-stored, needs)
 
 -- ---- T lines
 
-module _ {text old-letters old-marks xs ms : List ℕ} {r : Line} (s : Scanned text (readWhole 84 true true text) old-letters old-marks xs ms r)
+module _ {text old-letters old-marks xs ms : List ℕ} {cells : List (ℕ × ℕ)} {r : Line} (s : Scanned text (readWhole 84 true true text) cells old-letters old-marks xs ms r)
     (out-letters out-marks : List ℕ) where
   pub tableau-broken : {p : ℕ} → r ≡ line.Broken p → (refused 14 p, (out-letters, out-marks)) ≡ readTRun text out-letters out-marks
   unfolding readTRun
   tableau-broken {p} e = let f = line-broken s e in rw (tableau-whole text, f .says, break-place text p (f .within))
 
   module _ {n k next : ℕ} (e : r ≡ line.Read n k next) where
-    tableau-is : readTRun text out-letters out-marks ≡ tableauRead out-letters out-marks n (letters (s .cells)) (marks (s .cells))
+    tableau-is : readTRun text out-letters out-marks ≡ tableauRead out-letters out-marks n (letters cells) (marks cells)
     unfolding readTRun
     tableau-is = rw (tableau-whole text, line-read s e)
 
     module _ {v : Verdict} (h : saidVerdict v ≡ first (rankJudged n ∷ lengthJudged k ∷ []) passed) where
       pub tableau-stopped : {f : Refusal} → v ≡ Refused f → (saidRefusal f, (out-letters, out-marks)) ≡ readTRun text out-letters out-marks
       tableau-stopped {f} q =
-          let ws = letters (s .cells) in
-          let us = marks (s .cells) in
+          let ws = letters cells in
+          let us = marks cells in
           run-stopped (rankJudged n ∷ lengthJudged (length ws) ∷ [])
           (alikeJudged (length ws) (length us ∷ []) ∷ lettersJudged n ws ∷ risingJudged ws ∷ marksJudged ws us ∷ roomJudged (length ws) (length out-letters)
           ∷ roomJudged (length ws) (length out-marks) ∷ [])
@@ -158,35 +166,35 @@ module _ {text old-letters old-marks xs ms : List ℕ} {r : Line} (s : Scanned t
           → length bytes ≡ 1024 → Agree (map narrowed (take (k - 0) xs)) bytes
           → said ≡ tableauRead out-letters out-marks n (take (k - 0) bytes) (take (k - 0) ms) → said ≡ readTRun text out-letters out-marks
       tableau-stored bytes q l o m a w =
-          let is : take (k - 0) bytes ≡ map narrowed (letters (s .cells)) =
+          let is : take (k - 0) bytes ≡ map narrowed (letters cells) =
           bytes-all s e bytes a (limit-part n k h q xs (letters-room s l)) (limit-part n k h q bytes m) in
-          let steps : take (k - 0) ms ≡ marks (s .cells) = kept-all s e (λ c. c .1) ms (s .marks-kept) (limit-part n k h q ms (marks-room s o)) in
+          let steps : take (k - 0) ms ≡ marks cells = kept-all s e (λ c. c .1) ms (marks-kept s e) (limit-part n k h q ms (marks-room s o)) in
           w ∙ ap (λ (ws : List ℕ). tableauRead out-letters out-marks n ws (take (k - 0) ms)) is
-          ∙ narrowed-run n (letters (s .cells)) (λ ws. rankJudged n ∷ lengthJudged (length ws) ∷ alikeJudged (length ws) (length (take (k - 0) ms) ∷ []) ∷ [])
+          ∙ narrowed-run n (letters cells) (λ ws. rankJudged n ∷ lengthJudged (length ws) ∷ alikeJudged (length ws) (length (take (k - 0) ms) ∷ []) ∷ [])
           (λ ws. risingJudged ws ∷ marksJudged ws (take (k - 0) ms) ∷ roomJudged (length ws) (length out-letters) ∷ roomJudged (length ws) (length out-marks) ∷ [])
           (λ ws. gives (n ∷ length ws ∷ [])) (λ ws. (written ws out-letters, written (take (k - 0) ms) out-marks)) (out-letters, out-marks)
-          (limit-rank n k h q) (rw (length-map (letters (s .cells)) narrowed))
-          ∙ ap (tableauRead out-letters out-marks n (letters (s .cells))) steps ∙ sym tableau-is
+          (limit-rank n k h q) (rw (length-map (letters cells) narrowed))
+          ∙ ap (tableauRead out-letters out-marks n (letters cells)) steps ∙ sym tableau-is
 
 pub ruleset reading-tableaux = (limit-part, limit-few, letters-room, marks-room, tableau-broken, tableau-stopped, tableau-stored, needs)
 
 -- ---- N lines
 
-module _ {text old-letters old-marks xs ms : List ℕ} {r : Line} (s : Scanned text (readWhole 78 false false text) old-letters old-marks xs ms r)
+module _ {text old-letters old-marks xs ms : List ℕ} {cells : List (ℕ × ℕ)} {r : Line} (s : Scanned text (readWhole 78 false false text) cells old-letters old-marks xs ms r)
     (out : List ℕ) where
   pub recording-broken : {p : ℕ} → r ≡ line.Broken p → (refused 14 p, out) ≡ readNRun text out
   unfolding readNRun
   recording-broken {p} e = let f = line-broken s e in rw (recording-whole text, f .says, break-place text p (f .within))
 
   module _ {n k next : ℕ} (e : r ≡ line.Read n k next) where
-    recording-is : readNRun text out ≡ recordingRead out (letters (s .cells))
+    recording-is : readNRun text out ≡ recordingRead out (letters cells)
     unfolding readNRun
     recording-is = rw (recording-whole text, line-read s e)
 
     module _ {v : Verdict} (h : saidVerdict v ≡ lengthJudged k) where
       pub recording-stopped : {f : Refusal} → v ≡ Refused f → (saidRefusal f, out) ≡ readNRun text out
       recording-stopped {f} q =
-          let ws = letters (s .cells) in
+          let ws = letters cells in
           run-stopped (lengthJudged (length ws) ∷ []) (entriesJudged (length ws) ws ∷ roomJudged (length ws) (length out) ∷ []) (length ws ∷ [])
           (written ws out) out f (rw (letters-long s e) (ends v (lengthJudged k) h)) q
           ∙ sym recording-is
@@ -198,6 +206,6 @@ module _ {text old-letters old-marks xs ms : List ℕ} {r : Line} (s : Scanned t
       pub recording-stored : {said : Said × List ℕ} → v ≡ Passed → length old-letters ≡ 1024 → said ≡ recordingRead out (take (k - 0) xs)
           → said ≡ readNRun text out
       recording-stored q l w =
-          w ∙ ap (recordingRead out) (kept-all s e (λ c. c .0) xs (s .letters-kept) (recording-part q l)) ∙ sym recording-is
+          w ∙ ap (recordingRead out) (kept-all s e (λ c. c .0) xs (letters-kept s e) (recording-part q l)) ∙ sym recording-is
 
 pub ruleset reading-recordings = (recording-broken, recording-stopped, recording-part, recording-stored, needs)

@@ -3,7 +3,8 @@ ghost use Prim.Native.Nat.{_≤_};
 ghost use mathlib.Core.List.{map};
 ghost use mathlib.Core.Path.{_≡_};
 ghost use lib.ListN.{length};
-ghost use Rattle.readers.specs.Kept.{Agree, narrowed};
+ghost use Rattle.scans.specs.Kept.{Agree};
+ghost use Rattle.readers.specs.Letters.{narrowed};
 
 // A letter as a byte: one that no byte holds becomes 0, which is no letter either.
 fn narrow(letter: u16) -> u8

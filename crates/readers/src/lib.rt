@@ -1,8 +1,6 @@
 // The readers of W, T and N lines: the values of a line into lent memory, or the exact refusal. Every public function takes whatever it is given.
-mod cells;
 mod letters;
-mod numbers;
 pub mod recording;
-mod scans;
+mod room;
 pub mod tableau;
 pub mod word;

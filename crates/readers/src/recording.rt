@@ -1,8 +1,6 @@
 // The reader of N lines: the recording ribbon of a line, judged alone, into lent entries.
-use crate::scans::Line;
-use crate::scans::no_letters;
-use crate::scans::no_marks;
-use crate::scans::scan_line;
+use crate::room::no_letters;
+use crate::room::no_marks;
 use refusals::answers::RecordingLine;
 use refusals::answers::Verdict;
 use refusals::chains::or_else;
@@ -10,6 +8,8 @@ use refusals::copies::copy_entries;
 use refusals::numbers::check_length;
 use refusals::numbers::check_room;
 use refusals::refusal::Refusal;
+use scans::line::Line;
+use scans::line::scan_line;
 use validity::recording::check_entries;
 ghost use mathlib.Core.List.{[], _∷_};
 ghost use mathlib.Core.Path.{_≡_};

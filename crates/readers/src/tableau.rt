@@ -1,9 +1,7 @@
 // The reader of T lines: the tableau of a line into lent letters and marks.
 use crate::letters::narrow_letters;
-use crate::scans::Line;
-use crate::scans::no_letters;
-use crate::scans::no_marks;
-use crate::scans::scan_line;
+use crate::room::no_letters;
+use crate::room::no_marks;
 use refusals::answers::TableauLine;
 use refusals::answers::Verdict;
 use refusals::chains::check_limits;
@@ -11,6 +9,8 @@ use refusals::chains::or_else;
 use refusals::copies::copy_bytes;
 use refusals::numbers::check_room;
 use refusals::refusal::Refusal;
+use scans::line::Line;
+use scans::line::scan_line;
 use validity::tableau::check_tableau;
 ghost use mathlib.Core.List.{[], _∷_};
 ghost use mathlib.Core.Path.{_≡_};

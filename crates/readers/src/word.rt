@@ -1,9 +1,7 @@
 // The reader of W lines: the word of a line into lent letters.
 use crate::letters::narrow_letters;
-use crate::scans::Line;
-use crate::scans::no_letters;
-use crate::scans::no_marks;
-use crate::scans::scan_line;
+use crate::room::no_letters;
+use crate::room::no_marks;
 use refusals::answers::Verdict;
 use refusals::answers::WordLine;
 use refusals::chains::check_limits;
@@ -12,6 +10,8 @@ use refusals::copies::copy_bytes;
 use refusals::numbers::check_room;
 use refusals::refusal::Refusal;
 use refusals::word::check_word;
+use scans::line::Line;
+use scans::line::scan_line;
 ghost use mathlib.Core.List.{[], _∷_};
 ghost use mathlib.Core.Path.{_≡_};
 ghost use lib.ListN.{length};

@@ -1,5 +1,5 @@
--- `readers::letters::narrow` meets its contract, by the laws of specs/Kept. Assumes nothing.
-use Rattle.readers.specs.Kept.{narrowing}
+-- `readers::letters::narrow` meets its contract, by the laws of specs/Letters. Assumes nothing.
+use Rattle.readers.specs.Letters.{narrowing}
 use Rattle.readers.proofs.letters.narrow.Statement.{statement}
 use Rattle.readers.proofs.letters.narrow.Tie as tie
 

@@ -1,7 +1,7 @@
--- `readers::letters::narrow_letters` meets its contract, by the laws of specs/Kept. The invariant: the first i letters are narrowed. Assumes nothing.
+-- `readers::letters::narrow_letters` meets its contract, by the laws of specs/Letters. The invariant: the first i letters are narrowed. Assumes nothing.
 use Prim.Native.Nat.{_-_}
 use lib.ListN.{length}
-use Rattle.readers.specs.Kept.{narrowing, Narrowing}
+use Rattle.readers.specs.Letters.{narrowing, Narrowing}
 use Rattle.readers.proofs.letters.narrow_letters.Statement.{statement}
 use Rattle.readers.proofs.letters.narrow_letters.Tie as tie
 

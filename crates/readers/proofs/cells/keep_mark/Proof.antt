@@ -1,8 +1,0 @@
--- `readers::cells::keep_mark` meets its contract, by the laws of specs/Items. Assumes nothing.
-use Rattle.readers.specs.Items.{gathering}
-use Rattle.readers.proofs.cells.keep_mark.Statement.{statement}
-use Rattle.readers.proofs.cells.keep_mark.Tie as tie
-
-pub keep-mark-spec : {M : Type 1} → statement M
-keep-mark-spec = tie.close
-    (tie.spec (λ c. search gathering) (λ c. search gathering) (λ c. search gathering) (λ c. search gathering))

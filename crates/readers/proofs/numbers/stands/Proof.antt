@@ -1,8 +1,0 @@
--- `readers::numbers::stands` meets its contract, by the laws of specs/Bytes. Assumes nothing.
-use Rattle.readers.specs.Bytes.{seeking}
-use Rattle.readers.proofs.numbers.stands.Statement.{statement}
-use Rattle.readers.proofs.numbers.stands.Tie as tie
-
-pub stands-spec : {M : Type 1} → statement M
-stands-spec = tie.close
-    (tie.spec (λ c. search seeking) (λ c. search seeking) (λ c. search seeking))

@@ -1,8 +1,0 @@
--- `readers::scans::rank_at` meets its contract, by the laws of specs/Heads. Assumes nothing.
-use Rattle.readers.specs.Heads.{heading}
-use Rattle.readers.proofs.scans.rank_at.Statement.{statement}
-use Rattle.readers.proofs.scans.rank_at.Tie as tie
-
-pub rank-at-spec : {M : Type 1} → statement M
-rank-at-spec = tie.close
-    (tie.spec (λ c κs. search heading) (λ c. search heading) (λ c. search heading))

@@ -1,0 +1,58 @@
+-- Letters narrowed to bytes.
+--     narrowed                 a letter as a byte
+--     Narrowing n xs bytes i   the loop over letters: the first i are in the bytes, of which there are n
+--     narrowing                the ruleset of letters narrowed to bytes
+-- Assumes nothing.
+use Prim.Native.Nat.{ℕ, _+_, _%_, _≤_, _<_}
+use mathlib.Core.Path.{_≡_, _∙_}
+use mathlib.Core.Bool.{cond}
+use mathlib.Core.List.{List, [], _∷_, map, map-append}
+use native.Mathlib.Numerals.{add-one}
+use native.Mathlib.Omega.{arith}
+use lib.Dec.{ltb}
+use lib.ListN.{length, getD, set, take, replicate, length-map, length-replicate, length-set}
+use lib.Seq.{length-take-le, take-all, take-suc}
+use borrow.Author.Needs.{needs}
+use borrow.Author.Tests.{le-ltb, lt-ltb}
+use Rattle.scans.specs.Kept.{Agree, agree-more}
+
+-- A letter as a byte, 0 where no byte holds it.
+abbrev pub narrowed : ℕ → ℕ
+narrowed x = cond (ltb x 256) x 0
+
+pub narrow-byte : (x : ℕ) → x < 256 → x % 256 ≡ narrowed x
+narrow-byte x l = rw (lt-ltb x 256 l) (omega arith)
+
+pub narrow-none : (x : ℕ) → 256 ≤ x → 0 ≡ narrowed x
+narrow-none x l = rw (le-ltb x 256 l)
+
+-- The first i letters are narrowed.
+pub record Narrowing (n : ℕ) (xs bytes : List ℕ) (i : ℕ) : Type 0 where
+  pub reached : i ≤ length xs
+  pub few : length xs ≤ n
+  pub size : length bytes ≡ n
+  pub kept : Agree (map narrowed (take i xs)) bytes
+
+-- None.
+pub narrow-start : (n : ℕ) (xs : List ℕ) → length xs ≤ n → Narrowing n xs (replicate n 0) 0
+narrow-start n xs l = record { reached = omega arith; few = l; size = length-replicate n 0; kept = tt }
+
+module _ {n : ℕ} {xs bytes : List ℕ} {i : ℕ} (h : Narrowing n xs bytes i) where
+  -- One letter more,
+  pub narrow-turn : {v : ℕ} → i < length xs → v ≡ narrowed (getD xs i 0) → Narrowing n xs (set bytes i v) (i + 1)
+  narrow-turn {v} l e =
+      let size : length (map narrowed (take i xs)) ≡ i = length-map (take i xs) narrowed ∙ length-take-le i xs (h .reached) in
+      record {
+        reached = omega arith;
+        few = h .few;
+        size = length-set bytes i v ∙ h .size;
+        kept =
+            rw (add-one i, take-suc xs i 0 l, map-append narrowed (take i xs) (getD xs i 0 ∷ []), ← e)
+            (rw size at (agree-more (map narrowed (take i xs)) bytes v (h .kept)));
+      }
+
+  -- and all of them.
+  pub narrow-end : length xs ≤ i → Agree (map narrowed xs) bytes
+  narrow-end l = rw (take-all i xs l) at (h .kept)
+
+pub ruleset narrowing = (narrow-byte, narrow-none, narrow-start, narrow-turn, narrow-end, needs)

@@ -1,0 +1,10 @@
+-- `scans::numbers::digit_at` meets its contract, by the laws of specs/Bytes. Assumes nothing.
+use Rattle.scans.specs.Bytes.{seeking}
+use Rattle.scans.proofs.numbers.digit_at.Statement.{statement}
+use Rattle.scans.proofs.numbers.digit_at.Tie as tie
+
+pub digit-at-spec : {M : Type 1} → statement M
+digit-at-spec =
+    tie.close
+    (tie.spec (λ c. search seeking) (λ c. search seeking) (λ c. search seeking) (λ c. search seeking)
+    (λ c. search seeking) (λ c. search seeking))

@@ -1,0 +1,91 @@
+-- Single bytes at a place of the text: what is left there is the text without the bytes before it.
+--     startsWith k t                 the byte k stands first in t
+--     digitOf t                      the digit that stands first in t, 10 where none does
+--     starts-inside, digit-inside    where a byte or a digit stands is in the text
+--     left-there                     what is left there begins with the byte at that place
+--     after-there, after-none        a byte that the grammar asks for, and what follows
+--     starts-within                  the place after it is in the text
+--     seeking                        the ruleset of single bytes
+-- Assumes nothing.
+use Prim.Native.Nat.{ℕ, _+_, _-_, _≤_, _<_}
+use mathlib.Core.Path.{_≡_, refl, sym, _∙_}
+use mathlib.Core.Bool.{Bool, true, false, cond, true≢false}
+use mathlib.Core.Logic.{_⊎_, inl, inr, ⊎-elim}
+use mathlib.Core.List.{List, [], _∷_}
+use native.Mathlib.Numerals.{add-one}
+use native.Mathlib.Omega.{arith}
+use lib.Dec.{eqb, leb}
+use lib.ListN.{length, getD, drop, drop-of-length-le}
+use lib.Seq.{drop-cons}
+use borrow.Author.Needs.{needs}
+use borrow.Author.Tests.{le-leb, leb-false, leb-true, lt-leb}
+use Rattle.grammar.specs.Reading.{Read, after, broken, digit}
+
+-- Order is decided.
+le-or-lt : (a b : ℕ) → (a ≤ b) ⊎ (b < a)
+le-or-lt a b = go (leb a b) refl
+  where
+    go : (t : Bool) → leb a b ≡ t → (a ≤ b) ⊎ (b < a)
+    go true e = inl (leb-true a b e)
+    go false e = inr (leb-false a b e)
+
+-- The byte stands first.
+abbrev pub startsWith : ℕ → List ℕ → Bool
+startsWith k [] = false
+startsWith k (b ∷ t) = eqb b k
+
+-- The digit that stands first, 10 for none.
+abbrev pub digitOf : List ℕ → ℕ
+digitOf [] = 10
+digitOf (b ∷ t) = cond (digit b) (b - 48) 10
+
+module _ (text : List ℕ) (at : ℕ) where
+  -- No byte stands beyond the text,
+  pub stands-none : (k : ℕ) → length text ≤ at → false ≡ startsWith k (drop at text)
+  stands-none k l = rw (drop-of-length-le text l)
+
+  -- and in it the one at that place.
+  pub stands-byte : (k : ℕ) → at < length text → eqb (getD text at 0) k ≡ startsWith k (drop at text)
+  stands-byte k l = rw (drop-cons text at 0 l)
+
+  pub digit-none : length text ≤ at → 10 ≡ digitOf (drop at text)
+  digit-none l = rw (drop-of-length-le text l)
+
+  pub digit-low : at < length text → getD text at 0 < 48 → 10 ≡ digitOf (drop at text)
+  digit-low l h = rw (drop-cons text at 0 l, lt-leb 48 (getD text at 0) h)
+
+  pub digit-high : at < length text → 48 ≤ getD text at 0 → 57 < getD text at 0 → 10 ≡ digitOf (drop at text)
+  digit-high l g h = rw (drop-cons text at 0 l, le-leb 48 (getD text at 0) g, lt-leb (getD text at 0) 57 h)
+
+  pub digit-byte : at < length text → 48 ≤ getD text at 0 → getD text at 0 ≤ 57 → getD text at 0 - 48 ≡ digitOf (drop at text)
+  digit-byte l g h = rw (drop-cons text at 0 l, le-leb 48 (getD text at 0) g, le-leb (getD text at 0) 57 h)
+
+pub ruleset seeking = (stands-none, stands-byte, digit-none, digit-low, digit-high, digit-byte, needs)
+
+-- Where a byte or a digit stands is in the text.
+module _ (text : List ℕ) (at : ℕ) where
+  pub starts-inside : (k : ℕ) → startsWith k (drop at text) ≡ true → at < length text
+  starts-inside k e =
+      ⊎-elim (λ l. let z : false ≡ true = stands-none text at k l ∙ e in absurd (true≢false (sym z))) (λ l. l) (le-or-lt (length text) at)
+
+  pub digit-inside : digitOf (drop at text) ≤ 9 → at < length text
+  digit-inside h = ⊎-elim (λ l. let e : 10 ≡ digitOf (drop at text) = digit-none text at l in let z : ⊥ = omega arith in absurd z) (λ l. l) (le-or-lt (length text) at)
+
+  -- What is left there begins with the byte at that place.
+  pub left-there : at < length text → drop at text ≡ getD text at 0 ∷ drop (at + 1) text
+  left-there l = rw (add-one at) (drop-cons text at 0 l)
+
+  -- A byte that the grammar asks for: what follows is read on,
+  pub after-there : {A : Type 0} (k : ℕ) (r : List ℕ → Read A) → startsWith k (drop at text) ≡ true → after k r (drop at text) ≡ r (drop (at + 1) text)
+  after-there k r e =
+      let is : eqb (getD text at 0) k ≡ true = stands-byte text at k (starts-inside k e) ∙ e in
+      rw (left-there (starts-inside k e), is)
+
+  -- and the place after it is in the text.
+  pub starts-within : (k : ℕ) {b : Bool} → b ≡ startsWith k (drop at text) → b ≡ true → at + 1 ≤ length text
+  starts-within k is e = let l : at < length text = starts-inside k (sym is ∙ e) in omega arith
+
+-- Where it does not stand the grammar breaks.
+pub after-none : {A : Type 0} (k : ℕ) (r : List ℕ → Read A) (t : List ℕ) → startsWith k t ≡ false → after k r t ≡ broken t
+after-none k r [] e = refl
+after-none k r (b ∷ t) e = rw e

@@ -1,0 +1,8 @@
+pub mod Bytes
+pub mod Numbers
+pub mod Kept
+pub mod Cells
+pub mod Items
+pub mod Heads
+pub mod Scans
+pub mod Kinds
