@@ -24,6 +24,7 @@ OPERATIONS = {
     "insert_letter": ("nnnLLL", meaning.insert_letter),
     "word_of_pair": ("nlllL", meaning.word_of_pair),
     "column_reading": ("nllL", meaning.column_reading),
+    "look_once": ("nnll", meaning.look_once),
     "raise_tableau": ("nnLl", lambda *a: meaning.move_tableau(True, *a)),
     "lower_tableau": ("nnLl", lambda *a: meaning.move_tableau(False, *a)),
     "raise_count_tableau": ("nnll", lambda *a: meaning.count_tableau(True, *a)),

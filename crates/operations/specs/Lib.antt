@@ -1,2 +1,2 @@
--- What the contracts of the table's program cite. Assumes nothing.
+-- What the contracts of the table's notation cite. Assumes nothing.
 pub mod Bounds

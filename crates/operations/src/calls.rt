@@ -1,15 +1,14 @@
-// The calls, by the place of an operation in the list of main.rt. Each takes the numbers of a line and its lists.
-use crate::answers::print_class;
-use crate::answers::print_inserted;
-use crate::answers::print_junctions;
+// The calls, by the place of an operation in the list of `operations::names`. Each takes the numbers of a line and its lists, and prints what came of it.
+use crate::answers::print_cell;
+use crate::answers::print_gives;
+use crate::answers::print_gives_two;
 use crate::answers::print_move;
-use crate::answers::print_recording_line;
+use crate::answers::print_refusal;
 use crate::answers::print_repeat;
-use crate::answers::print_tableau_line;
-use crate::answers::print_weights;
-use crate::answers::print_word_line;
 use crate::answers::print_written;
-use crate::notation::number;
+use crate::fields::number;
+use crate::lists::entries_of;
+use crate::names::operation_of;
 use comparisons::classes::same_class;
 use comparisons::weights::compare_weights;
 use lines::tableau::tableau_line_of_word;
@@ -18,8 +17,15 @@ use pairs::way_back::word_of_pair;
 use readers::recording::read_recording_line;
 use readers::tableau::read_tableau_line;
 use readers::word::read_word_line;
+use refusals::answers::Class;
+use refusals::answers::Inserted;
+use refusals::answers::Junctions;
 use refusals::answers::Move;
+use refusals::answers::RecordingLine;
 use refusals::answers::Repeat;
+use refusals::answers::TableauLine;
+use refusals::answers::Weights;
+use refusals::answers::WordLine;
 use refusals::answers::Written;
 use ribbons::recording::recording_of_word;
 use ribbons::tableau::tableau_of_word;
@@ -28,6 +34,7 @@ use tableaux::moves::lower_tableau;
 use tableaux::moves::raise_count_tableau;
 use tableaux::moves::raise_tableau;
 use tableaux::reading::column_reading;
+use viewer::viewers::look_once;
 use words::junctions::junctions;
 use words::moves::lower_count_word;
 use words::moves::lower_word;
@@ -66,96 +73,176 @@ fn counted(operation: usize, rank: usize, index: usize, a: &[u8], b: &[u8]) -> R
     lower_count_tableau(rank, index, a, b)
 }
 
-// Questions about two words and one, 8 to 10.
-fn asked(operation: usize, rank: usize, other: usize, a: &[u8], b: &[u8]) {
-    if operation == 8 {
-        return print_class(same_class(rank, a, other, b));
+// 1 for two words of one class, 0 for others.
+fn ask_class(rank: usize, other: usize, a: &[u8], b: &[u8]) {
+    let answer = same_class(rank, a, other, b);
+    match answer {
+        Class::Same => print_gives(1),
+        Class::Different => print_gives(0),
+        Class::Refused(refusal) => print_refusal(refusal),
     }
-    if operation == 9 {
-        return print_weights(compare_weights(rank, a, other, b));
-    }
-    print_junctions(junctions(rank, a))
 }
 
-// Words and lines, written, 12 to 18.
-fn written(
-    operation: usize,
-    rank: usize,
-    a: &[u8],
-    b: &[u8],
-    e: &[u16],
-    out: &mut [u8],
-) -> Written {
-    if operation == 12 {
-        return column_reading(rank, a, b, out);
+// 0 for equal weights, 1 lower, 2 higher, 3 neither.
+fn ask_weights(rank: usize, other: usize, a: &[u8], b: &[u8]) {
+    let answer = compare_weights(rank, a, other, b);
+    match answer {
+        Weights::Equal => print_gives(0),
+        Weights::Lower => print_gives(1),
+        Weights::Higher => print_gives(2),
+        Weights::Neither => print_gives(3),
+        Weights::Refused(refusal) => print_refusal(refusal),
     }
+}
+
+// The junction set, then the rows.
+fn ask_junctions(rank: usize, a: &[u8]) {
+    let answer = junctions(rank, a);
+    match answer {
+        Junctions::Found(set, rows) => print_gives_two(set as usize, rows),
+        Junctions::Refused(refusal) => print_refusal(refusal),
+    }
+}
+
+// Questions, 4 to 11, which write nothing.
+fn ask(operation: usize, rank: usize, index: usize, a: &[u8], b: &[u8]) {
+    if operation < 8 {
+        return print_repeat(counted(operation, rank, index, a, b));
+    }
+    if operation == 8 {
+        return ask_class(rank, index, a, b);
+    }
+    if operation == 9 {
+        return ask_weights(rank, index, a, b);
+    }
+    if operation == 10 {
+        return print_cell(look_once(rank, a, b, index));
+    }
+    ask_junctions(rank, a)
+}
+
+// Rank and number of letters.
+fn read_word(text: &[u8], letters: &mut [u8]) {
+    let answer = read_word_line(text, letters);
+    match answer {
+        WordLine::Word(rank, count) => print_gives_two(rank, count),
+        WordLine::Refused(refusal) => print_refusal(refusal),
+    }
+}
+
+// Lines of a word, 13 to 15.
+fn written_of_word(operation: usize, rank: usize, word: &[u8], out: &mut [u8]) -> Written {
     if operation == 13 {
-        return word_of_pair(rank, a, b, e, out);
+        return write_word_line(rank, word, out);
     }
     if operation == 14 {
-        return write_word_line(rank, a, out);
+        return write_junction_line(rank, word, out);
     }
-    if operation == 15 {
-        return write_junction_line(rank, a, out);
-    }
+    tableau_line_of_word(rank, word, out)
+}
+
+// Word and line of a tableau, 16 and 17.
+fn written_of_cells(operation: usize, rank: usize, a: &[u8], b: &[u8], out: &mut [u8]) -> Written {
     if operation == 16 {
-        return tableau_line_of_word(rank, a, out);
+        return column_reading(rank, a, b, out);
     }
-    if operation == 17 {
-        return write_tableau_line(rank, a, b, out);
+    write_tableau_line(rank, a, b, out)
+}
+
+// What is written from a recording, 18 and 19.
+fn written_of_recording(line: &[u8], a: &[u8], b: &[u8], e: &[u16], out: &mut [u8]) -> Written {
+    if operation_of(line) == 18 {
+        return word_of_pair(number(line, 1), a, b, e, out);
     }
     write_recording_line(e, out)
 }
 
-// Makes a call of 0 to 18, which writes into one list of bytes at most.
-pub(crate) fn call_on_list(
-    line: &[u8],
-    operation: usize,
-    a: &[u8],
-    b: &[u8],
-    e: &[u16],
-    out: &mut [u8],
-) {
-    let x = number(line, 1);
-    let y = number(line, 2);
-    if operation < 4 {
-        return print_move(moved(operation, x, y, out, a));
-    }
-    if operation < 8 {
-        return print_repeat(counted(operation, x, y, a, b));
-    }
-    if operation < 11 {
-        return asked(operation, x, y, a, b);
-    }
-    if operation < 12 {
-        return print_word_line(read_word_line(a, out));
-    }
-    print_written(written(operation, x, a, b, e, out))
+// Gives the 16-bit list.
+fn call_on_recording(line: &[u8], a: &[u8], b: &[u8], out: &mut [u8]) {
+    let mut space: [u16; 1100] = [0; 1100];
+    let memory: &mut [u16] = &mut space;
+    let count = entries_of(line, memory);
+    let whole = &memory[..];
+    print_written(written_of_recording(line, a, b, &whole[0..count], out));
 }
 
-// Makes a call of 19 to 21, which writes into two lists of bytes.
-pub(crate) fn call_on_two(
+// Makes a call of 0 to 19, which writes into one list of bytes at most.
+pub(crate) fn call_on_list(line: &[u8], a: &[u8], b: &[u8], out: &mut [u8]) {
+    let operation = operation_of(line);
+    let rank = number(line, 1);
+    let index = number(line, 2);
+    if operation < 4 {
+        return print_move(moved(operation, rank, index, out, a));
+    }
+    if operation < 12 {
+        return ask(operation, rank, index, a, b);
+    }
+    if operation < 13 {
+        return read_word(a, out);
+    }
+    if operation < 16 {
+        return print_written(written_of_word(operation, rank, a, out));
+    }
+    if operation < 18 {
+        return print_written(written_of_cells(operation, rank, a, b, out));
+    }
+    call_on_recording(line, a, b, out)
+}
+
+// Rank and number of cells.
+fn print_tableau(answer: TableauLine) {
+    match answer {
+        TableauLine::Tableau(rank, cells) => print_gives_two(rank, cells),
+        TableauLine::Refused(refusal) => print_refusal(refusal),
+    }
+}
+
+// The new used count.
+fn print_inserted(answer: Inserted) {
+    match answer {
+        Inserted::Used(used) => print_gives(used),
+        Inserted::Refused(refusal) => print_refusal(refusal),
+    }
+}
+
+// An insertion, 22.
+fn insert(line: &[u8], letters: &mut [u8], marks: &mut [u8], entries: &mut [u16]) {
+    let used = number(line, 2);
+    let letter = number(line, 3);
+    print_inserted(insert_letter(number(line, 1), used, letter, letters, marks, entries));
+}
+
+// The number of entries.
+fn read_recording(text: &[u8], entries: &mut [u16]) {
+    let answer = read_recording_line(text, entries);
+    match answer {
+        RecordingLine::Recording(count) => print_gives(count),
+        RecordingLine::Refused(refusal) => print_refusal(refusal),
+    }
+}
+
+// Makes a call of 20 to 22, which writes into letters and marks, or into entries too.
+pub(crate) fn call_on_parts(
     line: &[u8],
-    operation: usize,
     a: &[u8],
     letters: &mut [u8],
     marks: &mut [u8],
-    e: &mut [u16],
+    entries: &mut [u16],
 ) {
-    let x = number(line, 1);
-    if operation == 19 {
-        return print_written(tableau_of_word(x, a, letters, marks));
-    }
+    let operation = operation_of(line);
     if operation == 20 {
-        return print_tableau_line(read_tableau_line(a, letters, marks));
+        return print_written(tableau_of_word(number(line, 1), a, letters, marks));
     }
-    print_inserted(insert_letter(x, number(line, 2), number(line, 3), letters, marks, e))
+    if operation == 21 {
+        return print_tableau(read_tableau_line(a, letters, marks));
+    }
+    insert(line, letters, marks, entries)
 }
 
-// Makes a call of 22 or 23, which writes into a list of 16-bit elements.
-pub(crate) fn call_on_recording(line: &[u8], operation: usize, a: &[u8], e: &mut [u16]) {
-    if operation == 22 {
-        return print_written(recording_of_word(number(line, 1), a, e));
+// Makes a call of 23 or 24, which writes into entries alone.
+pub(crate) fn call_on_entries(line: &[u8], a: &[u8], entries: &mut [u16]) {
+    if operation_of(line) == 23 {
+        return print_written(recording_of_word(number(line, 1), a, entries));
     }
-    print_recording_line(read_recording_line(a, e))
+    read_recording(a, entries)
 }

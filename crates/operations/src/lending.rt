@@ -1,99 +1,88 @@
-// The lists of a line, each in memory of its own that is given or lent to the call. Lent lists are printed after it.
+// The lists of a line, each in memory of its own that is given or lent to the call. Lent lists are printed after it. A list that the operation does not have
+// is empty.
+use crate::calls::call_on_entries;
 use crate::calls::call_on_list;
-use crate::calls::call_on_recording;
-use crate::calls::call_on_two;
-use crate::lists::blank_bytes;
-use crate::lists::blank_entries;
-use crate::lists::bytes;
-use crate::lists::entries;
-use crate::notation::field;
-use crate::notation::has;
-use crate::notation::place_of;
+use crate::calls::call_on_parts;
+use crate::lists::bytes_in;
+use crate::lists::bytes_of;
+use crate::lists::entries_of;
+use crate::names::argument;
+use crate::names::operation_of;
 use crate::printing::print_bytes;
-use crate::printing::print_entries;
-
-// The field of a list among an operation's arguments under either letter; past the last field where it has no such list.
-fn place_in(arguments: &[u8], letter: u8, other: u8) -> usize {
-    let first = place_of(arguments, 0, letter);
-    if first < arguments.len() {
-        return first + 1;
-    }
-    place_of(arguments, 0, other) + 1
-}
+use crate::printing::print_list;
 
 // Gives the text, or the first list of bytes.
-pub(crate) fn give_first(line: &[u8], operation: usize, arguments: &[u8]) {
-    let mut space = blank_bytes();
+pub(crate) fn give_first(line: &[u8]) {
+    let mut space: [u8; 4200] = [0; 4200];
     let out: &mut [u8] = &mut space;
-    let list = field(line, place_in(arguments, b'a', b't'));
-    let count = bytes(has(arguments, b't'), list, out);
+    let count = bytes_of(line, b't', b'a', out);
     let whole = &out[..];
-    lend_entries(line, operation, arguments, &whole[0..count]);
+    go_on(line, &whole[0..count]);
 }
 
-// Gives or lends the 16-bit list.
-fn lend_entries(line: &[u8], operation: usize, arguments: &[u8], a: &[u8]) {
-    let mut space = blank_entries();
-    let out: &mut [u16] = &mut space;
-    let count = entries(field(line, place_in(arguments, b'e', b'E')), out);
-    let lent = &mut out[0..count];
-    lend_bytes(line, operation, arguments, a, lent);
-    print_entries(has(arguments, b'E'), lent);
-}
-
-// Lends what the operation writes beside the 16-bit list.
-fn lend_bytes(line: &[u8], operation: usize, arguments: &[u8], a: &[u8], e: &mut [u16]) {
-    if operation < 19 {
-        return give_second(line, operation, arguments, a, e);
+// Calls up to 19 write into one list of bytes at most, those from 20 on into two, or into entries.
+fn go_on(line: &[u8], a: &[u8]) {
+    if operation_of(line) < 20 {
+        return give_second(line, a);
     }
-    if operation < 22 {
-        return lend_marks(line, operation, arguments, a, e);
-    }
-    call_on_recording(line, operation, a, e)
+    lend_entries(line, a)
 }
 
 // Gives the second list of bytes.
-fn give_second(line: &[u8], operation: usize, arguments: &[u8], a: &[u8], e: &[u16]) {
-    let mut space = blank_bytes();
-    let out: &mut [u8] = &mut space;
-    let count = bytes(false, field(line, place_in(arguments, b'b', b'b')), out);
-    let whole = &out[..];
-    lend_list(line, operation, arguments, a, &whole[0..count], e);
+fn give_second(line: &[u8], a: &[u8]) {
+    let mut space: [u8; 1100] = [0; 1100];
+    let b = bytes_in(line, b'b', b'b', &mut space);
+    lend_list(line, a, b);
 }
 
-// Lends one list of bytes. What the last five operations write into it is a text.
-fn lend_list(line: &[u8], operation: usize, arguments: &[u8], a: &[u8], b: &[u8], e: &[u16]) {
-    let mut space = blank_bytes();
-    let out: &mut [u8] = &mut space;
-    let count = bytes(false, field(line, place_in(arguments, b'L', b'L')), out);
+// Lends the one list of bytes, or the memory that a text is written into.
+fn lend_list(line: &[u8], a: &[u8], b: &[u8]) {
+    let mut space: [u8; 4200] = [0; 4200];
+    let lent = bytes_in(line, b'L', b'T', &mut space);
+    call_on_list(line, a, b, lent);
+    print_lent(line, b'L', lent);
+    print_lent(line, b'T', lent);
+}
+
+// Lends the 16-bit list.
+fn lend_entries(line: &[u8], a: &[u8]) {
+    let mut space: [u16; 1100] = [0; 1100];
+    let out: &mut [u16] = &mut space;
+    let count = entries_of(line, out);
     let lent = &mut out[0..count];
-    call_on_list(line, operation, a, b, e, lent);
-    print_bytes(has(arguments, b'L'), 13 < operation, lent);
+    lend_bytes(line, a, lent);
+    if argument(line, b'E') < 99 {
+        print_list(false, lent);
+    }
+}
+
+// Up to 22 lists of bytes are lent too.
+fn lend_bytes(line: &[u8], a: &[u8], e: &mut [u16]) {
+    if operation_of(line) < 23 {
+        return lend_marks(line, a, e);
+    }
+    call_on_entries(line, a, e)
 }
 
 // Lends the second of two lists of bytes.
-fn lend_marks(line: &[u8], operation: usize, arguments: &[u8], a: &[u8], e: &mut [u16]) {
-    let mut space = blank_bytes();
-    let out: &mut [u8] = &mut space;
-    let count = bytes(false, field(line, place_in(arguments, b'M', b'M')), out);
-    let lent = &mut out[0..count];
-    lend_letters(line, operation, arguments, a, lent, e);
-    print_bytes(true, false, lent);
+fn lend_marks(line: &[u8], a: &[u8], e: &mut [u16]) {
+    let mut space: [u8; 1100] = [0; 1100];
+    let lent = bytes_in(line, b'M', b'M', &mut space);
+    lend_letters(line, a, lent, e);
+    print_bytes(false, lent);
 }
 
 // Lends the first of two lists of bytes.
-fn lend_letters(
-    line: &[u8],
-    operation: usize,
-    arguments: &[u8],
-    a: &[u8],
-    marks: &mut [u8],
-    e: &mut [u16],
-) {
-    let mut space = blank_bytes();
-    let out: &mut [u8] = &mut space;
-    let count = bytes(false, field(line, place_in(arguments, b'L', b'L')), out);
-    let lent = &mut out[0..count];
-    call_on_two(line, operation, a, lent, marks, e);
-    print_bytes(true, false, lent);
+fn lend_letters(line: &[u8], a: &[u8], marks: &mut [u8], e: &mut [u16]) {
+    let mut space: [u8; 1100] = [0; 1100];
+    let lent = bytes_in(line, b'L', b'L', &mut space);
+    call_on_parts(line, a, lent, marks, e);
+    print_bytes(false, lent);
+}
+
+// Lent bytes after the call, if the operation has them.
+fn print_lent(line: &[u8], letter: u8, list: &[u8]) {
+    if argument(line, letter) < 99 {
+        print_bytes(letter == b'T', list);
+    }
 }

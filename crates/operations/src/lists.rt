@@ -1,12 +1,12 @@
 // Lists and texts of the table, into lent elements. An item of a list is a number, `v*k` for k times v, or `a-b` for the numbers from a to b. A text has `$`
 // for the line feed, and may end in a group and a line feed, `(t)*k$` for k times t. `-` is the empty list and the empty text. Elements beyond the room are
 // dropped.
-use crate::notation::has;
-use crate::notation::number_at;
-use crate::notation::place_of;
-use crate::notation::wide;
+use crate::fields::field;
+use crate::fields::number_at;
+use crate::fields::place_of;
+use crate::fields::wide;
+use crate::names::argument;
 ghost use Prim.Native.Nat.{_≤_};
-ghost use mathlib.Core.Path.{_≡_};
 ghost use lib.ListN.{length};
 
 // How many elements an item has. A dash alone has none.
@@ -29,7 +29,7 @@ fn times_of(item: &[u8]) -> usize {
 // The element of an item at a place.
 fn in_item(item: &[u8], place: usize) -> usize {
     let first = number_at(item, 0);
-    if has(item, b'*') {
+    if place_of(item, 0, b'*') < item.len() {
         return first;
     }
     std::num::wrapping_add_usize(first, place)
@@ -112,7 +112,7 @@ fn byte(number: usize) -> u8 {
 }
 
 // A text or a list of bytes; answers how many there are.
-pub(crate) fn bytes(is_text: bool, list: &[u8], out: &mut [u8]) -> usize
+fn bytes(is_text: bool, list: &[u8], out: &mut [u8]) -> usize
     ensures { λ r. ⌜ r ≤ length (now (out .exit)) ⌝ }
 {
     let mut i = 0;
@@ -127,13 +127,30 @@ pub(crate) fn bytes(is_text: bool, list: &[u8], out: &mut [u8]) -> usize
     i
 }
 
+// The bytes of a line's argument under one of two letters, t for a text; answers how many there are.
+pub(crate) fn bytes_of(line: &[u8], letter: u8, other: u8, out: &mut [u8]) -> usize
+    ensures { λ r. ⌜ r ≤ length (now (out .exit)) ⌝ }
+{
+    let place = argument(line, letter);
+    if place < 99 {
+        return bytes(letter == b't', field(line, place), out);
+    }
+    bytes(false, field(line, argument(line, other)), out)
+}
+
+// The same, as a part of the memory that they are in.
+pub(crate) fn bytes_in<'a>(line: &[u8], letter: u8, other: u8, out: &'a mut [u8]) -> &'a mut [u8] {
+    let count = bytes_of(line, letter, other, out);
+    &mut out[0..count]
+}
+
 // A number as a 16-bit element.
 fn element(number: usize) -> u16 {
     (number % 65536) as u16
 }
 
 // A list of 16-bit elements; answers how many there are.
-pub(crate) fn entries(list: &[u8], out: &mut [u16]) -> usize
+fn entries(list: &[u8], out: &mut [u16]) -> usize
     ensures { λ r. ⌜ r ≤ length (now (out .exit)) ⌝ }
 {
     let mut i = 0;
@@ -148,16 +165,13 @@ pub(crate) fn entries(list: &[u8], out: &mut [u16]) -> usize
     i
 }
 
-// Bytes for a list or a text.
-pub(crate) fn blank_bytes() -> [u8; 4200]
-    ensures { λ r. ⌜ 4200 ≡ length r ⌝ }
+// The 16-bit elements of a line's argument; answers how many there are.
+pub(crate) fn entries_of(line: &[u8], out: &mut [u16]) -> usize
+    ensures { λ r. ⌜ r ≤ length (now (out .exit)) ⌝ }
 {
-    [0; 4200]
-}
-
-// Elements for a list.
-pub(crate) fn blank_entries() -> [u16; 1100]
-    ensures { λ r. ⌜ 1100 ≡ length r ⌝ }
-{
-    [0; 1100]
+    let place = argument(line, b'e');
+    if place < 99 {
+        return entries(field(line, place), out);
+    }
+    entries(field(line, argument(line, b'E')), out)
 }

@@ -2,40 +2,29 @@
 // to, are those of scripts/operation_calls.py, which makes the output without the kernel.
 mod answers;
 mod calls;
+mod fields;
 mod lending;
 mod lists;
-mod notation;
+mod names;
 mod printing;
+mod source;
 
+use fields::place_of;
 use lending::give_first;
-use notation::field;
-use notation::place_of;
-use notation::same;
+use names::operation_of;
 use printing::print;
+use printing::print_byte;
+use source::read_argument;
 
-// The place of an operation's name among names and arguments in turn; 48 where it is none of them.
-fn operation_place(operations: &[u8], name: &[u8]) -> usize {
-    let mut place = 0;
-    while place < 48 {
-        if same(field(operations, place), name) {
-            return place;
-        }
-        place += 2;
+// A line, and what came of its call.
+fn answer_line(line: &[u8]) {
+    print(line);
+    print(b" = ");
+    if operation_of(line) < 25 {
+        give_first(line);
+        return print_byte(b'\n');
     }
-    place
-}
-
-// Makes the call of a line, whatever it is. Of an operation's arguments n is a number, t a text, a and b are lists of bytes, e is a list of 16-bit elements;
-// L and M are lists of bytes that are lent, E is a lent list of 16-bit elements.
-fn call_line(line: &[u8]) {
-    let operations =
-        b"raise_word nnL lower_word nnL raise_tableau nnLa lower_tableau nnLa raise_count_word nna lower_count_word nna raise_count_tableau nnab lower_count_tableau nnab same_class nnab compare_weights nnab junctions na read_word_line tL column_reading nabL word_of_pair nabeL write_word_line naL write_junction_line naL tableau_line_of_word naL write_tableau_line nabL write_recording_line eL tableau_of_word naLM read_tableau_line tLM insert_letter nnnLME recording_of_word naE read_recording_line tE";
-    let place = operation_place(operations, field(line, 0));
-    if 48 <= place {
-        print(b"unknown");
-        return;
-    }
-    give_first(line, place / 2, field(operations, place + 1));
+    print(b"unknown\n");
 }
 
 // All lines of a table, and what came of each. What follows the last line feed is no line.
@@ -46,31 +35,16 @@ fn answer_table(table: &[u8]) {
         if table.len() <= end {
             return;
         }
-        let line = &table[from..end];
-        print(line);
-        print(b" = ");
-        call_line(line);
-        print(b"\n");
+        answer_line(&table[from..end]);
         from = end + 1;
     }
 }
 
-// The table that stands under a name.
-fn answer_path(path: &[u8]) {
-    let fd = os::open_read(path);
-    if fd < 0 {
-        os::fail(path);
-        return;
-    }
-    let mut table = io::large_buffer();
-    let n = io::read_full(fd, &mut table);
-    answer_table(&table[..n]);
-    libc::close(fd);
-}
-
 // The table that the first argument names.
 fn main() {
-    let mut path = io::buffer();
-    let n = os::arg(1, &mut path);
-    answer_path(&path[..n]);
+    let mut space = io::large_buffer();
+    let table: &mut [u8] = &mut space;
+    let count = read_argument(table);
+    let whole = &table[..];
+    answer_table(&whole[0..count]);
 }

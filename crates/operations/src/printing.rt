@@ -1,6 +1,5 @@
 // Numbers and lists, printed in the table's notation. A list of more than 16 elements that are not all equal is printed by its first eight, its length and a
 // checksum, the sum of place times element mod 65,536, places from 1; a text of more than 64 bytes by its first 32, its length and its checksum.
-use crate::lists::blank_entries;
 use libc::STDOUT_FILENO;
 ghost use Prim.Native.Nat.{_≤_};
 ghost use lib.ListN.{length};
@@ -10,32 +9,35 @@ pub(crate) fn print(text: &[u8]) {
     io::write_all(STDOUT_FILENO, text);
 }
 
+// A byte as it is.
+pub(crate) fn print_byte(byte: u8) {
+    print(&[byte]);
+}
+
 // A number after a mark.
-pub(crate) fn print_number(mark: &[u8], number: u64) {
-    print(mark);
-    io::print_decimal(STDOUT_FILENO, number);
+pub(crate) fn print_number(mark: u8, number: usize) {
+    print_byte(mark);
+    io::print_decimal(STDOUT_FILENO, number as u64);
 }
 
 // A byte of a text, `$` for the line feed.
-fn print_byte(element: u16) {
+fn in_notation(element: u16) -> u8 {
     let byte = (element % 256) as u8;
     if byte == b'\n' {
-        print(b"$");
-        return;
+        return b'$';
     }
-    print(&[byte]);
+    byte
 }
 
 // An element at a place, after a comma where it is not the first; of a text a byte.
 fn print_element(text: bool, place: usize, element: u16) {
     if text {
-        print_byte(element);
-        return;
+        return print_byte(in_notation(element));
     }
     if 0 < place {
-        print(b",");
+        return print_number(b',', element as usize);
     }
-    print_number(b"", element as u64);
+    io::print_decimal(STDOUT_FILENO, element as u64);
 }
 
 // The first elements of a list.
@@ -74,41 +76,53 @@ fn checksum(list: &[u16]) -> u16 {
     sum
 }
 
-// A list that is too long to be printed whole, by its first elements, its length and its checksum.
-fn print_long(text: bool, list: &[u16], first: usize)
-    requires { ⌜ first ≤ length (now list) ⌝ }
+// How many bytes of a text are printed.
+fn shown_of_text(list: &[u16]) -> usize
+    ensures { λ r. ⌜ r ≤ length (now (list .entry)) ⌝ }
 {
-    print_first(text, list, first);
-    print_number(b"..", list.len() as u64);
-    print_number(b":", checksum(list) as u64);
+    if list.len() <= 64 {
+        return list.len();
+    }
+    32
 }
 
-// A text, or a list that is not all equal.
-fn print_parts(text: bool, list: &[u16], most: usize) {
-    if list.len() <= most {
-        print_first(text, list, list.len());
-        return;
+// How many elements of a list or a text are printed: one where all of many are equal.
+fn shown(text: bool, list: &[u16]) -> usize
+    ensures { λ r. ⌜ r ≤ length (now (list .entry)) ⌝ }
+{
+    if text {
+        return shown_of_text(list);
     }
-    print_long(text, list, most / 2);
+    if list.len() <= 16 {
+        return list.len();
+    }
+    if all_equal(list) {
+        return 1;
+    }
+    8
+}
+
+// What follows the elements of a list that is not printed whole.
+fn print_rest(first: usize, list: &[u16]) {
+    if first == 1 {
+        return print_number(b'*', list.len());
+    }
+    print_byte(b'.');
+    print_number(b'.', list.len());
+    print_number(b':', checksum(list) as usize);
 }
 
 // A lent list after the call, or a text.
-fn print_list(text: bool, list: &[u16]) {
+pub(crate) fn print_list(text: bool, list: &[u16]) {
     print(b" | ");
     if list.len() < 1 {
-        print(b"-");
-        return;
+        return print_byte(b'-');
     }
-    if text {
-        print_parts(text, list, 64);
-        return;
+    let first = shown(text, list);
+    print_first(text, list, first);
+    if first < list.len() {
+        print_rest(first, list);
     }
-    if 16 < list.len() && all_equal(list) {
-        print_element(false, 0, list[0]);
-        print_number(b"*", list.len() as u64);
-        return;
-    }
-    print_parts(text, list, 16);
 }
 
 // A byte as a 16-bit element.
@@ -131,22 +145,11 @@ fn widen(list: &[u8], out: &mut [u16]) -> usize
     i
 }
 
-// Lent elements after the call, if they are to be shown.
-pub(crate) fn print_entries(shown: bool, list: &[u16]) {
-    if shown {
-        print_list(false, list);
-    }
-}
-
-// Lent bytes after the call, if they are to be shown.
-pub(crate) fn print_bytes(shown: bool, text: bool, list: &[u8]) {
-    if !shown {
-        return;
-    }
-    let mut space = blank_entries();
-    let count = widen(list, &mut space);
-    let wide = &space[..];
-    if count <= wide.len() {
-        print_list(text, &wide[0..count]);
-    }
+// Lent bytes after the call, or a text.
+pub(crate) fn print_bytes(text: bool, list: &[u8]) {
+    let mut space: [u16; 1100] = [0; 1100];
+    let out: &mut [u16] = &mut space;
+    let count = widen(list, out);
+    let whole = &out[..];
+    print_list(text, &whole[0..count]);
 }

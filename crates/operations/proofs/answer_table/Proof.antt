@@ -1,20 +1,19 @@
--- `operations::answer_table` meets its contract, by the laws of specs/Bounds. Assumes nothing.
+-- `operations::answer_table` meets its contract. Assumes nothing.
 use Prim.Native.Nat.{_-_}
 use lib.ListN.{length}
-use Rattle.operations.specs.Bounds.{filling}
+use borrow.Author.Needs.{needs}
 use Rattle.operations.proofs.answer_table.Statement.{statement}
 use Rattle.operations.proofs.answer_table.Tie as tie
 
 abbrev Inv-loop : tie.InvT-loop
-Inv-loop table from₀ t5 t6 from = Unit {0}
+Inv-loop table from₀ from = Unit {0}
 
 abbrev μ-loop : tie.MeasureT-loop
-μ-loop table from₀ t5 t6 from = length table - from
+μ-loop table from₀ from = length table - from
 
 pub answer-table-spec : {M : Type 1} → statement M
 answer-table-spec =
     tie.close
-    (tie.spec Inv-loop μ-loop (λ c. search filling) (λ c κs. search filling) (λ c. search filling)
-    (λ c. search filling) (λ c. search filling) (λ c. search filling) (λ c κs. search filling) (λ c. search filling)
-    (λ c κs. search filling) (λ c κs. search filling) (λ c. search filling) (λ c κs. search filling)
-    (λ c. search filling) (λ c. search filling) (λ c. search filling) (λ c. search filling))
+    (tie.spec Inv-loop μ-loop (λ c. search needs) (λ c κs. search needs) (λ c. search needs)
+    (λ c. search needs) (λ c. search needs) (λ c. search needs) (λ c κs. search needs) (λ c. search needs)
+    (λ c. search needs) (λ c. search needs) (λ c. search needs))

@@ -1,9 +1,9 @@
--- `operations::notation::place_of` meets its contract, by the laws of specs/Bounds. Assumes nothing.
+-- `operations::fields::place_of` meets its contract, by the laws of specs/Bounds. Assumes nothing.
 use Prim.Native.Nat.{_-_}
 use lib.ListN.{length}
 use Rattle.operations.specs.Bounds.{filling, Between}
-use Rattle.operations.proofs.notation.place_of.Statement.{statement}
-use Rattle.operations.proofs.notation.place_of.Tie as tie
+use Rattle.operations.proofs.fields.place_of.Statement.{statement}
+use Rattle.operations.proofs.fields.place_of.Tie as tie
 
 abbrev Inv-loop : tie.InvT-loop
 Inv-loop text from byte at₀ at = Between from at (length text)

@@ -1,9 +1,9 @@
--- `operations::notation::number_at` meets its contract, by the laws of specs/Bounds. Assumes nothing.
+-- `operations::fields::number_at` meets its contract, by the laws of specs/Bounds. Assumes nothing.
 use Prim.Native.Nat.{_-_}
 use lib.ListN.{length}
 use Rattle.operations.specs.Bounds.{filling}
-use Rattle.operations.proofs.notation.number_at.Statement.{statement}
-use Rattle.operations.proofs.notation.number_at.Tie as tie
+use Rattle.operations.proofs.fields.number_at.Statement.{statement}
+use Rattle.operations.proofs.fields.number_at.Tie as tie
 
 abbrev Inv-loop : tie.InvT-loop
 Inv-loop text from value₀ at₀ value at = Unit {0}

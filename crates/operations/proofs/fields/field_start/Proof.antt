@@ -1,9 +1,9 @@
--- `operations::notation::field_start` meets its contract, by the laws of specs/Bounds. Assumes nothing.
+-- `operations::fields::field_start` meets its contract, by the laws of specs/Bounds. Assumes nothing.
 use Prim.Native.Nat.{_≤_, _-_}
 use lib.ListN.{length}
 use Rattle.operations.specs.Bounds.{filling}
-use Rattle.operations.proofs.notation.field_start.Statement.{statement}
-use Rattle.operations.proofs.notation.field_start.Tie as tie
+use Rattle.operations.proofs.fields.field_start.Statement.{statement}
+use Rattle.operations.proofs.fields.field_start.Tie as tie
 
 abbrev Inv-loop : tie.InvT-loop
 Inv-loop line spaces left₀ at₀ left at = at ≤ length line

@@ -5,7 +5,7 @@ ghost use lib.ListN.{length};
 ghost use Rattle.operations.specs.Bounds.{Between};
 
 // Whether two texts are the same.
-pub(crate) fn same(a: &[u8], b: &[u8]) -> bool {
+fn same(a: &[u8], b: &[u8]) -> bool {
     if a.len() != b.len() {
         return false;
     }
@@ -34,11 +34,6 @@ pub(crate) fn place_of(text: &[u8], from: usize, byte: u8) -> usize
     at
 }
 
-// Whether a byte stands in a text.
-pub(crate) fn has(text: &[u8], byte: u8) -> bool {
-    place_of(text, 0, byte) < text.len()
-}
-
 // Where a field of a line begins: after so many spaces.
 fn field_start(line: &[u8], spaces: usize) -> usize
     ensures { λ r. ⌜ r ≤ length (now (line .entry)) ⌝ }
@@ -58,11 +53,23 @@ fn field_start(line: &[u8], spaces: usize) -> usize
     at
 }
 
-// A field of a line, counted from 0.
+// A field of a line, counted from 0; empty past the last.
 pub(crate) fn field(line: &[u8], place: usize) -> &[u8] {
     let start = field_start(line, place);
     let end = place_of(line, start, b' ');
     &line[start..end]
+}
+
+// The place of a field that is a name; as many as there can be where none is.
+pub(crate) fn field_of(line: &[u8], name: &[u8], most: usize) -> usize {
+    let mut place = 0;
+    while place < most {
+        if same(field(line, place), name) {
+            return place;
+        }
+        place += 1;
+    }
+    place
 }
 
 // The number whose digits begin at a place of a text. Of more than six digits the last count.

@@ -1,9 +1,9 @@
--- `operations::notation::same` meets its contract, by the laws of specs/Bounds. Assumes nothing.
+-- `operations::fields::same` meets its contract, by the laws of specs/Bounds. Assumes nothing.
 use Prim.Native.Nat.{_-_}
 use lib.ListN.{length}
 use Rattle.operations.specs.Bounds.{filling}
-use Rattle.operations.proofs.notation.same.Statement.{statement}
-use Rattle.operations.proofs.notation.same.Tie as tie
+use Rattle.operations.proofs.fields.same.Statement.{statement}
+use Rattle.operations.proofs.fields.same.Tie as tie
 
 abbrev Inv-loop : tie.InvT-loop
 Inv-loop a b i₀ i = Unit {0}
