@@ -1,12 +1,13 @@
 -- The faults that the checks 5 and 6 look for at a place, and that each check is the scan for its fault.
 --     fallFault, markFault (hypoplactic, FirstPlaces)      5, 6
 --     Shorter a b r                                        r is the smaller of two lengths: how many places two lists have in common
+--     largestMark x y                                      the largest mark of a step between two letters
 --     start-rising, start-marks                            where the two scans begin
 --     scanning                                             the ruleset of the scans, and of the passes before them (Clear)
 -- Assumes nothing.
 use Prim.Native.Nat.{ℕ, zero, suc, _+_, _-_, _<_, _≤_}
 use mathlib.Core.Path.{_≡_, refl, ap, sym, _∙_}
-use mathlib.Core.Bool.{Bool, true, _&&_, _||_, and-false, or-false}
+use mathlib.Core.Bool.{Bool, true, false, cond, _&&_, _||_, and-false, or-false}
 use mathlib.Core.Logic.{_⊎_, inl, inr}
 use mathlib.Core.List.{List, [], _∷_}
 use native.Mathlib.Omega.{arith}
@@ -74,7 +75,19 @@ shorter-is {a} {b} {r} {q} s t = go (le-or-lt r q) (le-or-lt q r)
     go (inr f) g = absurd (omega (arith, t .whole q (omega (arith, s .first)) (omega (arith, s .second))))
     go (inl f) (inr g) = absurd (omega (arith, s .whole r (omega (arith, t .first)) (omega (arith, t .second))))
 
--- The faults of a mark: at the first place, between equals, between different letters.
+-- The largest mark of a step between two letters: none goes down between equals.
+unfoldable pub largestMark : ℕ → ℕ → ℕ
+largestMark x y = cond (eqb x y) 0 1
+
+pub largest-level : {x y : ℕ} → x ≡ y → 0 ≡ largestMark x y
+unfolding largestMark
+largest-level {x} {y} e = rw (eq-eqb x y e)
+
+pub largest-apart : {x y : ℕ} → (x ≡ y → ⊥) → 1 ≡ largestMark x y
+unfolding largestMark
+largest-apart {x} {y} ne = rw (ne-eqb x y ne)
+
+-- The faults of a mark: at the first place,
 pub mark-first : (xs ms : List ℕ) (p : ℕ) → p ≡ 0 → ltb 0 (getD ms p 0) ≡ markFault xs ms p
 mark-first xs ms p e = rw e
 
@@ -90,15 +103,19 @@ above-none (suc zero) = refl
 above-none (suc (suc m)) =
     lt-ltb 0 (suc (suc m)) (omega arith) ∙ ap (λ (b : Bool). b || eqb (suc (suc m)) 1 && true) (sym (lt-ltb 1 (suc (suc m)) (omega arith)))
 
-pub mark-level : (xs ms : List ℕ) (p : ℕ) → (p ≡ 0 → ⊥) → getD xs (p - 1) 0 ≡ getD xs p 0 → ltb 0 (getD ms p 0) ≡ markFault xs ms p
-mark-level xs ms p h e = rw (mark-later xs ms p h, eq-eqb (getD xs (p - 1) 0) (getD xs p 0) e) (above-none (getD ms p 0))
-
-pub mark-apart : (xs ms : List ℕ) (p : ℕ) → (p ≡ 0 → ⊥) → (getD xs (p - 1) 0 ≡ getD xs p 0 → ⊥) → ltb 1 (getD ms p 0) ≡ markFault xs ms p
-mark-apart xs ms p h e = rw (mark-later xs ms p h, ne-eqb (getD xs (p - 1) 0) (getD xs p 0) e, and-false, or-false)
+-- Later, where the mark is above the largest that the two letters allow.
+pub mark-later-fault : (xs ms : List ℕ) (p : ℕ) {k : ℕ} → (p ≡ 0 → ⊥) → k ≡ largestMark (getD xs (p - 1) 0) (getD xs p 0)
+    → ltb k (getD ms p 0) ≡ markFault xs ms p
+unfolding largestMark
+mark-later-fault xs ms p h e = rw (e, mark-later xs ms p h) (go (eqb (getD xs (p - 1) 0) (getD xs p 0)) (getD ms p 0))
+  where
+    go : (b : Bool) (m : ℕ) → ltb (cond b 0 1) m ≡ (ltb 1 m || eqb m 1 && b)
+    go true m = above-none m
+    go false m = rw (and-false, or-false)
 
 pub start-marks : {size : ℕ} (xs ms : List ℕ) → Shorter (length xs) (length ms) size → Scanning 6 (markFault xs ms) size (marksJudged xs ms) 0
 start-marks {size} xs ms s =
     start (shorter xs ms) (marks-scan xs ms ∙ scan-from 6 0 (shorter xs ms) _ (markFault xs ms) (λ q l. let e : 0 + q ≡ q = omega arith in rw e))
     (omega (arith, shorter-is s (shorter-size xs ms)))
 
-pub ruleset scanning = (turn, found, none, start-rising, start-marks, mark-first, mark-level, mark-apart, shorter-first, shorter-second, opens-fall, clearing, needs)
+pub ruleset scanning = (turn, found, none, start-rising, start-marks, largest-level, largest-apart, mark-first, mark-later-fault, shorter-first, shorter-second, opens-fall, clearing, needs)

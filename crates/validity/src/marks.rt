@@ -7,7 +7,7 @@ ghost use mathlib.Core.Path.{_≡_};
 ghost use lib.ListN.{length};
 ghost use Rattle.hypoplactic.specs.Judgements.{marksJudged};
 ghost use Rattle.validity.specs.Clear.{Cleared};
-ghost use Rattle.validity.specs.Faults.{Shorter};
+ghost use Rattle.validity.specs.Faults.{Shorter, largestMark};
 ghost use Rattle.hypoplactic.proofs.Theory.FirstPlaces.{markFault};
 ghost use Rattle.refusals.specs.Said.{saidVerdict};
 
@@ -16,6 +16,13 @@ pub fn shorter(first: usize, second: usize) -> usize
     ensures { λ r. ⌜ Shorter first second r ⌝ }
 {
     if first < second { first } else { second }
+}
+
+// The largest mark of a step between two letters: none goes down between equals.
+fn largest_mark(before: u8, here: u8) -> u8
+    ensures { λ r. ⌜ r ≡ largestMark before here ⌝ }
+{
+    if before == here { 0 } else { 1 }
 }
 
 // Whether the mark at a place is not 0 or 1, not 0 at the first place, or down between equals.
@@ -27,10 +34,7 @@ fn mark_wrong(letters: &[u8], marks: &[u8], place: usize) -> bool
     if place == 0 {
         return 0 < mark;
     }
-    if letters[place - 1] == letters[place] {
-        return 0 < mark;
-    }
-    1 < mark
+    largest_mark(letters[place - 1], letters[place]) < mark
 }
 
 // Whether a mark is wrong at any of the places that both lists have. The loop leaves at no place, so that the compiled code takes many marks at once.

@@ -7,4 +7,4 @@ pub mark-wrong-spec : {M : Type 1} → statement M
 mark-wrong-spec =
     tie.close
     (tie.spec (λ c. search scanning) (λ c. search scanning) (λ c. search scanning) (λ c. search scanning)
-    (λ c. search scanning) (λ c. search scanning) (λ c. search scanning))
+    (λ c. search scanning) (λ c κs. search scanning) (λ c. search scanning))
