@@ -1,20 +1,23 @@
 -- Moves and repeat counts on a tableau: the scan for i+1 directly below i, and what is replied past the tableau's own checks.
---     Walking i xs ms p         the scan's invariant: no i+1 stands directly below i before place p
---     stepping, walking         the rulesets of one step and of the scan
---     moving, repeating            the rulesets of moves and of repeat counts
+--     Walking i xs ms p found     the scan's invariant: found, before place p, or in what is left
+--     none-below                  an index whose next letter is no byte
+--     stepping, walking           the rulesets of one step and of the scan
+--     moving, repeating           the rulesets of moves and of repeat counts
 -- What follows the checks and the inversion is in Changes of words. Assumes nothing.
 use Prim.Native.Nat.{ℕ, suc, _+_, _-_, _≤_, _<_}
 use mathlib.Core.Path.{_≡_, refl, sym, _∙_}
 use mathlib.Core.Logic.{_⊎_, inl, inr}
 use mathlib.Core.List.{List, [], _∷_}
-use mathlib.Core.Bool.{Bool, true, false, _&&_, _||_, and-false}
+use mathlib.Core.Bool.{Bool, false, _&&_, _||_, and-false, or-assoc, or-false}
 use native.Mathlib.Numerals.{add-one}
 use native.Mathlib.Omega.{arith}
+use mir.Syntax.{w8}
+use mir.Val.{Fits}
 use lib.Dec.{eqb}
 use lib.ListN.{length, getD, drop, drop-of-length-le}
 use lib.Seq.{drop-cons}
 use borrow.Author.Needs.{needs}
-use borrow.Author.Tests.{eq-eqb, ne-eqb}
+use borrow.Author.Tests.{ne-eqb}
 use Rattle.hypoplactic.specs.Moves.{below, fromTo, movedTableau, repeatTableau}
 use Rattle.hypoplactic.specs.Ribbons.{downAfter}
 use Rattle.hypoplactic.specs.Replies.{Said, gives, passed, first}
@@ -35,67 +38,51 @@ use Rattle.words.specs.declared.changes.Side.{Side as Chosen}
 
 -- ---- one step
 
--- Out of another letter than i, or to the right, no step goes from i down to i+1.
-pub steps-elsewhere : {i x : ℕ} (y m : ℕ) → (x ≡ i → ⊥) → false ≡ (fromTo i x y && eqb m 1)
-steps-elsewhere {i} {x} y m ne = rw (ne-eqb x i ne)
+-- The three tests, with the letter after i in hand.
+pub steps-next : {j : ℕ} {both r : Bool} (i x y m : ℕ) → j ≡ i + 1 → both ≡ (eqb x i && eqb y j) → r ≡ (both && eqb m 1) → r ≡ (fromTo i x y && eqb m 1)
+steps-next i x y m e f g = g ∙ rw (f, e, add-one i)
 
-pub steps-right : {m : ℕ} (i x y : ℕ) → (m ≡ 1 → ⊥) → false ≡ (fromTo i x y && eqb m 1)
-steps-right {m} i x y ne = rw (ne-eqb m 1 ne) (sym (and-false (fromTo i x y)))
-
--- Down out of i, the letter below decides.
-pub steps-down : {i x m : ℕ} (y : ℕ) → x ≡ i → m ≡ 1 → eqb y (x + 1) ≡ (fromTo i x y && eqb m 1)
-steps-down {i} {x} {m} y e d = rw (e, d, eq-eqb i i refl, add-one i) (go (eqb y (suc i)))
-  where
-    go : (b : Bool) → b ≡ (b && true)
-    go true = refl
-    go false = refl
-
-pub ruleset stepping = (steps-elsewhere, steps-right, steps-down, needs)
+pub ruleset stepping = (steps-next, needs)
 
 -- ---- the scan
 
--- Past the places before p, what is left gives the whole.
-pub record Walking (i : ℕ) (xs ms : List ℕ) (p : ℕ) : Type 0 where
+-- An i+1 directly below i was found before place p, or stands in what is left.
+pub record Walking (i : ℕ) (xs ms : List ℕ) (p : ℕ) (found : Bool) : Type 0 where
   pub low : 1 ≤ p
-  pub left : below i xs ms ≡ downAfter (fromTo i) (getD xs (p - 1) 0) (drop p xs) (drop p ms)
+  pub whole : below i xs ms ≡ (found || downAfter (fromTo i) (getD xs (p - 1) 0) (drop p xs) (drop p ms))
 
 no-marks : (f : ℕ → ℕ → Bool) (x : ℕ) (xs : List ℕ) → downAfter f x xs [] ≡ false
 no-marks f x [] = refl
 no-marks f x (y ∷ ys) = refl
 
 -- The first step is the one into the second cell.
-pub walk-start : (i : ℕ) (xs ms : List ℕ) → Walking i xs ms 1
-walk-start i xs ms = record { low = omega arith; left = go xs ms }
+pub walk-start : (i : ℕ) (xs ms : List ℕ) → Walking i xs ms 1 false
+walk-start i xs ms = record { low = omega arith; whole = go xs ms }
   where
     go : (xs ms : List ℕ) → below i xs ms ≡ downAfter (fromTo i) (getD xs (1 - 1) 0) (drop 1 xs) (drop 1 ms)
     go [] ms = refl
     go (x ∷ xs) [] = sym (no-marks (fromTo i) x xs)
     go (x ∷ xs) (m ∷ ms) = refl
 
-module _ {i : ℕ} {xs ms : List ℕ} {p size : ℕ} (s : Walking i xs ms p) (h : Shorter (length xs) (length ms) size) where
-  -- Where a cell follows, what is left begins with the step into it:
-  walk-open : {b : Bool} → p < size → b ≡ (fromTo i (getD xs (p - 1) 0) (getD xs p 0) && eqb (getD ms p 0) 1)
-      → below i xs ms ≡ (b || downAfter (fromTo i) (getD xs p 0) (drop (suc p) xs) (drop (suc p) ms))
-  walk-open l e =
-      let k : p < length xs = omega (arith, h .first) in
-      let j : p < length ms = omega (arith, h .second) in
-      s .left ∙ rw (drop-cons xs p 0 k, drop-cons ms p 0 j, e)
-
-  -- another step, and the scan goes on,
-  pub walk-turn : {b : Bool} → p < size → b ≡ (fromTo i (getD xs (p - 1) 0) (getD xs p 0) && eqb (getD ms p 0) 1) → b ≡ false
-      → Walking i xs ms (p + 1)
-  walk-turn l e f = record {
+module _ {i : ℕ} {xs ms : List ℕ} {p size : ℕ} {found : Bool} where
+  -- Where a cell follows, what is left begins with the step into it.
+  pub walk-turn : {b next : Bool} → next ≡ (found || b) → Walking i xs ms p found
+      → b ≡ (fromTo i (getD xs (p - 1) 0) (getD xs p 0) && eqb (getD ms p 0) 1) → Shorter (length xs) (length ms) size → p < size
+      → Walking i xs ms (p + 1) next
+  walk-turn {b} f s e h l = record {
     low = omega arith;
-    left = let z : p + 1 - 1 ≡ p = omega arith in walk-open l e ∙ rw (f, z, add-one p);
+    whole =
+        let k : p < length xs = omega (arith, h .first) in
+        let j : p < length ms = omega (arith, h .second) in
+        let z : p + 1 - 1 ≡ p = omega arith in
+        s .whole
+        ∙ rw (drop-cons xs p 0 k, drop-cons ms p 0 j, ← e, f, z, add-one p)
+        (sym (or-assoc found b (downAfter (fromTo i) (getD xs p 0) (drop (suc p) xs) (drop (suc p) ms))));
   }
 
-  -- or the step from i down to i+1.
-  pub walk-found : {b : Bool} → p < size → b ≡ (fromTo i (getD xs (p - 1) 0) (getD xs p 0) && eqb (getD ms p 0) 1) → b ≡ true → true ≡ below i xs ms
-  walk-found l e t = sym (walk-open l e ∙ rw t)
-
-  -- Past the last cell there is none.
-  pub walk-end : size ≤ p → false ≡ below i xs ms
-  walk-end l = sym (s .left ∙ go (le-or-lt (length xs) p) (le-or-lt (length ms) p))
+  -- Past the last cell nothing is left.
+  pub walk-end : Walking i xs ms p found → Shorter (length xs) (length ms) size → size ≤ p → found ≡ below i xs ms
+  walk-end s h l = sym (s .whole ∙ rw (go (le-or-lt (length xs) p) (le-or-lt (length ms) p)) (or-false found))
     where
       go : (length xs ≤ p) ⊎ (p < length xs) → (length ms ≤ p) ⊎ (p < length ms)
           → downAfter (fromTo i) (getD xs (p - 1) 0) (drop p xs) (drop p ms) ≡ false
@@ -103,7 +90,19 @@ module _ {i : ℕ} {xs ms : List ℕ} {p size : ℕ} (s : Walking i xs ms p) (h 
       go (inr k) (inl j) = rw (drop-of-length-le ms j) (no-marks (fromTo i) (getD xs (p - 1) 0) (drop p xs))
       go (inr k) (inr j) = let z : ⊥ = omega (arith, h .whole p k j) in absurd z
 
-pub ruleset walking = (walk-start, walk-turn, walk-found, walk-end, needs)
+-- Where i+1 is no byte, it is no letter, and stands below nothing.
+none-after : (i x : ℕ) (xs ms : List ℕ) → 254 < i → ((k : ℕ) → Fits w8 (getD xs k 0)) → downAfter (fromTo i) x xs ms ≡ false
+none-after i x [] ms l h = refl
+none-after i x (y ∷ ys) [] l h = refl
+none-after i x (y ∷ ys) (m ∷ ms) l h =
+    rw (ne-eqb y (suc i) (λ e. omega (arith, h 0 .fits)), and-false (eqb x i)) (none-after i y ys ms l (λ k. h (suc k)))
+
+pub none-below : (i : ℕ) (xs ms : List ℕ) → 254 < i → ((k : ℕ) → Fits w8 (getD xs k 0)) → false ≡ below i xs ms
+none-below i [] ms l h = refl
+none-below i (x ∷ xs) [] l h = refl
+none-below i (x ∷ xs) (m ∷ ms) l h = sym (none-after i x xs ms l (λ k. h (suc k)))
+
+pub ruleset walking = (walk-start, walk-turn, walk-end, none-below, needs)
 
 -- ---- moves and repeat counts
 

@@ -4,5 +4,4 @@ use Rattle.tableaux.proofs.moves.steps_below.Statement.{statement}
 use Rattle.tableaux.proofs.moves.steps_below.Tie as tie
 
 pub steps-below-spec : {M : Type 1} → statement M
-steps-below-spec = tie.close
-    (tie.spec (λ c. search stepping) (λ c. search stepping) (λ c. search stepping) (λ c. search stepping))
+steps-below-spec = tie.close (tie.spec (λ c κs. search stepping) (λ c κs. search stepping) (λ c. search stepping))
