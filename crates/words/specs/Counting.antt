@@ -1,10 +1,13 @@
--- The scan for the count of one letter.
---     Counting a w i n     the letter a stands n times before place i of w
---     counting             the ruleset of the scan
+-- The scan for a count of letters, in 16 bits: of one letter, or of those that pass some other test.
+--     Counting c w i n                               c counts n of the letters before place i of w
+--     tick-one, tick-none                            what a letter counts in the count of one letter
+--     count-start, count-turn, count-fits, counted-all   the scan, of any count that each letter raises by 1 or leaves
+--     count-end                                      its end in the count of one letter
+--     counting                                       the ruleset of the scan
 -- Assumes nothing.
 use Prim.Native.Nat.{ℕ, _+_, _≤_, _<_}
-use mathlib.Core.Path.{_≡_, sym, _∙_}
-use mathlib.Core.List.{List}
+use mathlib.Core.Path.{_≡_, refl, sym, _∙_}
+use mathlib.Core.List.{List, [], _∷_}
 use mathlib.Core.Bool.{Bool, true, false}
 use native.Mathlib.Numerals.{add-one}
 use native.Mathlib.Omega.{arith}
@@ -17,11 +20,11 @@ use borrow.Author.Needs.{needs}
 use borrow.Author.Tests.{eq-eqb, ne-eqb}
 use Rattle.hypoplactic.specs.Words.{tick, count}
 
--- n letters a before place i.
-pub record Counting (a : ℕ) (w : List ℕ) (i n : ℕ) : Type 0 where
+-- n letters before place i are counted.
+pub record Counting (c : List ℕ → ℕ) (w : List ℕ) (i n : ℕ) : Type 0 where
   pub within : i ≤ length w
   pub small : n ≤ i
-  pub left : count a w ≡ n + count a (drop i w)
+  pub left : c w ≡ n + c (drop i w)
 
 tick-sum : (b : Bool) (n k : ℕ) → n + tick b k ≡ n + tick b 0 + k
 tick-sum true n k = omega arith
@@ -38,23 +41,27 @@ tick-one {x} {a} e = rw (eq-eqb x a e)
 pub tick-none : {x a : ℕ} → (x ≡ a → ⊥) → 0 ≡ tick (eqb x a) 0
 tick-none {x} {a} ne = rw (ne-eqb x a ne)
 
-pub count-start : (a : ℕ) (w : List ℕ) → Counting a w 0 0
-count-start a w = record { within = omega arith; small = omega arith; left = omega arith }
+pub count-start : (c : List ℕ → ℕ) (w : List ℕ) → Counting c w 0 0
+count-start c w = record { within = omega arith; small = omega arith; left = omega arith }
 
-module _ {a : ℕ} {w : List ℕ} {i n : ℕ} (s : Counting a w i n) where
-  -- The letter at place i is counted,
-  pub count-turn : {one : ℕ} → i < length w → one ≡ tick (eqb (getD w i 0) a) 0 → Counting a w (i + 1) (n + one)
-  count-turn {one} h e = record {
+module _ {c : List ℕ → ℕ} {w : List ℕ} {i n : ℕ} (s : Counting c w i n) where
+  -- The letter at place i is counted, or not,
+  pub count-turn : (b : Bool) {one : ℕ} → i < length w → one ≡ tick b 0 → ((t : List ℕ) → c (getD w i 0 ∷ t) ≡ tick b (c t)) → Counting c w (i + 1) (n + one)
+  count-turn b {one} h e step = record {
     within = omega arith;
-    small = omega (arith, tick-small (eqb (getD w i 0) a));
-    left = s .left ∙ rw (drop-cons w i 0 h, tick-sum, e, add-one i);
+    small = omega (arith, tick-small b);
+    left = s .left ∙ rw (drop-cons w i 0 h, step, tick-sum, e, add-one i);
   }
 
-  -- and a count of at most 1,024 letters fits 16 bits.
-  pub count-fits : {one : ℕ} → i < length w → length w ≤ 1024 → one ≡ tick (eqb (getD w i 0) a) 0 → Fits w16 (n + one)
-  count-fits {one} h l e = record { fits = omega (arith, tick-small (eqb (getD w i 0) a)) }
+  -- a count of at most 1,024 letters fits 16 bits,
+  pub count-fits : (b : Bool) {one : ℕ} → i < length w → length w ≤ 1024 → one ≡ tick b 0 → Fits w16 (n + one)
+  count-fits b {one} h l e = record { fits = omega (arith, tick-small b) }
 
-  pub count-end : length w ≤ i → n ≡ count a w
-  count-end h = sym (s .left ∙ rw (drop-of-length-le w h) (omega arith))
+  -- and past the last letter it is the whole.
+  pub counted-all : length w ≤ i → c [] ≡ 0 → n ≡ c w
+  counted-all h none = sym (s .left ∙ rw (drop-of-length-le w h, none) (omega arith))
+
+pub count-end : {a : ℕ} {w : List ℕ} {i n : ℕ} → Counting (count a) w i n → length w ≤ i → n ≡ count a w
+count-end s h = counted-all s h refl
 
 pub ruleset counting = (tick-one, tick-none, count-start, count-turn, count-fits, count-end, needs)

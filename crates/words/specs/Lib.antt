@@ -7,3 +7,4 @@ pub mod Counting
 pub mod Targets
 pub mod Changes
 pub mod Moves
+pub mod Parts

@@ -1,12 +1,13 @@
 -- `words::places::count_of` meets its contract. The invariant: so many letters before place i. Assumes nothing.
 use Prim.Native.Nat.{_-_}
 use lib.ListN.{length}
+use Rattle.hypoplactic.specs.Words.{count}
 use Rattle.words.specs.Counting.{counting, Counting}
 use Rattle.words.proofs.places.count_of.Statement.{statement}
 use Rattle.words.proofs.places.count_of.Tie as tie
 
 abbrev Inv-loop : tie.InvT-loop
-Inv-loop letter word found₀ i₀ found i = Counting letter word i found
+Inv-loop letter word found₀ i₀ found i = Counting (count letter) word i found
 
 abbrev μ-loop : tie.MeasureT-loop
 μ-loop letter word found₀ i₀ found i = length word - i
