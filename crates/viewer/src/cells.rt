@@ -1,26 +1,12 @@
 // A cell by its place, over any two slices: they may be of unequal lengths, and need be no tableau.
 use refusals::answers::Cell;
 use refusals::answers::Verdict;
-use words::places::one_if;
+use words::places::count_letters;
 ghost use mathlib.Core.Path.{_≡_};
 ghost use Rattle.hypoplactic.specs.Replies.{gives};
 ghost use Rattle.hypoplactic.specs.Ribbons.{stepsTo};
 ghost use Rattle.hypoplactic.specs.TableauOperations.{cellAt, throughSays};
-ghost use Rattle.hypoplactic.specs.Words.{count};
 ghost use Rattle.refusals.specs.Said.{saidCell, saidVerdict};
-
-// How often a mark stands among marks, however many there are.
-fn count_marks(mark: u8, marks: &[u8]) -> usize
-    ensures { λ r. ⌜ r ≡ count mark (now (marks .entry)) ⌝ }
-{
-    let mut found = 0;
-    let mut i = 0;
-    while i < marks.len() {
-        found += one_if(mark, marks[i]) as usize;
-        i += 1;
-    }
-    found
-}
 
 // The steps with a mark on the way to the cell at a place: with 1 the cell's row, with 0 its column. The first cell's mark is no step.
 pub fn steps_to(mark: u8, marks: &[u8], place: usize) -> usize
@@ -30,9 +16,9 @@ pub fn steps_to(mark: u8, marks: &[u8], place: usize) -> usize
         return 0;
     }
     if place < marks.len() {
-        return count_marks(mark, &marks[1..place + 1]);
+        return count_letters(mark, &marks[1..place + 1]);
     }
-    count_marks(mark, &marks[1..marks.len()])
+    count_letters(mark, &marks[1..marks.len()])
 }
 
 // The cell at a place.
