@@ -9,7 +9,7 @@
 -- Assumes nothing.
 use Prim.Native.Nat.{ℕ, _-_, _≤_}
 use mathlib.Core.Path.{_≡_, sym, ap, _∙_}
-use mathlib.Core.Bool.{true, false}
+use mathlib.Core.Bool.{Bool, true, false}
 use mathlib.Core.List.{List, [], _∷_, map}
 use native.Mathlib.Omega.{arith}
 use lib.ListN.{length, drop, take, length-drop, length-map, length-take}
@@ -28,6 +28,7 @@ use Rattle.refusals.specs.declared.answers.Verdict.the-variants.{Passed, Refuse
 use Rattle.scans.specs.Numbers.{Told}
 use Rattle.scans.specs.Kept.{Agree, agree-take, kept-agrees, length-kept}
 use Rattle.readers.specs.Letters.{narrowed}
+use Rattle.scans.specs.Items.{stepMarks}
 use Rattle.scans.specs.Kinds.{recording-whole, tableau-whole, word-whole}
 use Rattle.readers.specs.Narrowed.{narrowed-run}
 use Rattle.scans.specs.Scans.{Scanned, readWhole}
@@ -61,8 +62,8 @@ length-limit {v} k e q = let (size, t) = all-passing (lengthJudged k ∷ []) (en
 
 -- ---- a line that was scanned
 
-module _ {text : List ℕ} {reading : Read (ℕ × List (ℕ × ℕ))} {cells : List (ℕ × ℕ)} {old-letters old-marks xs ms : List ℕ} {r : Line}
-    (s : Scanned text reading cells old-letters old-marks xs ms r) where
+module _ {text : List ℕ} {steps : Bool} {reading : Read (ℕ × List (ℕ × ℕ))} {cells : List (ℕ × ℕ)} {old-letters old-marks xs ms : List ℕ} {r : Line}
+    (s : Scanned text steps reading cells old-letters old-marks xs ms r) where
   line-broken : {p : ℕ} → r ≡ line.Broken p → Told text reading (broken (drop p text)) p
   line-broken e = rw e at (s .told)
 
@@ -71,7 +72,7 @@ module _ {text : List ℕ} {reading : Read (ℕ × List (ℕ × ℕ))} {cells : 
   letters-room e = ap length (s .letters-are) ∙ length-kept (letters cells) old-letters ∙ e
 
   pub marks-room : length old-marks ≡ 1024 → length ms ≡ 1024
-  marks-room e = ap length (s .marks-are) ∙ length-kept (marks cells) old-marks ∙ e
+  marks-room e = ap length (s .marks-are) ∙ length-kept (stepMarks steps cells) old-marks ∙ e
 
   module _ {n k next : ℕ} (e : r ≡ line.Read n k next) where
     line-read : reading ≡ got (n, cells) (drop next text)
@@ -83,12 +84,9 @@ module _ {text : List ℕ} {reading : Read (ℕ × List (ℕ × ℕ))} {cells : 
     letters-long : length (letters cells) ≡ k
     letters-long = length-map cells (λ c. c .0) ∙ line-long
 
-    -- The letters and the marks in memory agree with the line's.
+    -- The letters in memory agree with the line's.
     letters-kept : Agree (letters cells) xs
     letters-kept = rw (s .letters-are) (kept-agrees (letters cells) old-letters)
-
-    marks-kept : Agree (marks cells) ms
-    marks-kept = rw (s .marks-are) (kept-agrees (marks cells) old-marks)
 
     -- What is kept of a line within the limits is all of it,
     kept-all : (f : ℕ × ℕ → ℕ) (ys : List ℕ) → Agree (map f cells) ys → k ≤ length ys → take (k - 0) ys ≡ map f cells
@@ -108,7 +106,7 @@ module _ {text : List ℕ} {reading : Read (ℕ × List (ℕ × ℕ))} {cells : 
 
 -- ---- W lines
 
-module _ {text old-letters old-marks xs ms : List ℕ} {cells : List (ℕ × ℕ)} {r : Line} (s : Scanned text (readWhole 87 true false text) cells old-letters old-marks xs ms r)
+module _ {text old-letters old-marks xs ms : List ℕ} {cells : List (ℕ × ℕ)} {r : Line} (s : Scanned text false (readWhole 87 true false text) cells old-letters old-marks xs ms r)
     (out : List ℕ) where
   pub word-broken : {p : ℕ} → r ≡ line.Broken p → (refused 14 p, out) ≡ readWRun text out
   unfolding readWRun
@@ -140,7 +138,7 @@ pub ruleset reading-words = (limit-part, limit-few, letters-room, word-broken, w
 
 -- ---- T lines
 
-module _ {text old-letters old-marks xs ms : List ℕ} {cells : List (ℕ × ℕ)} {r : Line} (s : Scanned text (readWhole 84 true true text) cells old-letters old-marks xs ms r)
+module _ {text old-letters old-marks xs ms : List ℕ} {cells : List (ℕ × ℕ)} {r : Line} (s : Scanned text true (readWhole 84 true true text) cells old-letters old-marks xs ms r)
     (out-letters out-marks : List ℕ) where
   pub tableau-broken : {p : ℕ} → r ≡ line.Broken p → (refused 14 p, (out-letters, out-marks)) ≡ readTRun text out-letters out-marks
   unfolding readTRun
@@ -150,6 +148,10 @@ module _ {text old-letters old-marks xs ms : List ℕ} {cells : List (ℕ × ℕ
     tableau-is : readTRun text out-letters out-marks ≡ tableauRead out-letters out-marks n (letters cells) (marks cells)
     unfolding readTRun
     tableau-is = rw (tableau-whole text, line-read s e)
+
+    -- The marks in memory agree with the line's.
+    marks-kept : Agree (marks cells) ms
+    marks-kept = rw (s .marks-are) (kept-agrees (marks cells) old-marks)
 
     module _ {v : Verdict} (h : saidVerdict v ≡ first (rankJudged n ∷ lengthJudged k ∷ []) passed) where
       pub tableau-stopped : {f : Refusal} → v ≡ Refused f → (saidRefusal f, (out-letters, out-marks)) ≡ readTRun text out-letters out-marks
@@ -168,7 +170,7 @@ module _ {text old-letters old-marks xs ms : List ℕ} {cells : List (ℕ × ℕ
       tableau-stored bytes q l o m a w =
           let is : take (k - 0) bytes ≡ map narrowed (letters cells) =
           bytes-all s e bytes a (limit-part n k h q xs (letters-room s l)) (limit-part n k h q bytes m) in
-          let steps : take (k - 0) ms ≡ marks cells = kept-all s e (λ c. c .1) ms (marks-kept s e) (limit-part n k h q ms (marks-room s o)) in
+          let steps : take (k - 0) ms ≡ marks cells = kept-all s e (λ c. c .1) ms marks-kept (limit-part n k h q ms (marks-room s o)) in
           w ∙ ap (λ (ws : List ℕ). tableauRead out-letters out-marks n ws (take (k - 0) ms)) is
           ∙ narrowed-run n (letters cells) (λ ws. rankJudged n ∷ lengthJudged (length ws) ∷ alikeJudged (length ws) (length (take (k - 0) ms) ∷ []) ∷ [])
           (λ ws. risingJudged ws ∷ marksJudged ws (take (k - 0) ms) ∷ roomJudged (length ws) (length out-letters) ∷ roomJudged (length ws) (length out-marks) ∷ [])
@@ -180,7 +182,7 @@ pub ruleset reading-tableaux = (limit-part, limit-few, letters-room, marks-room,
 
 -- ---- N lines
 
-module _ {text old-letters old-marks xs ms : List ℕ} {cells : List (ℕ × ℕ)} {r : Line} (s : Scanned text (readWhole 78 false false text) cells old-letters old-marks xs ms r)
+module _ {text old-letters old-marks xs ms : List ℕ} {cells : List (ℕ × ℕ)} {r : Line} (s : Scanned text false (readWhole 78 false false text) cells old-letters old-marks xs ms r)
     (out : List ℕ) where
   pub recording-broken : {p : ℕ} → r ≡ line.Broken p → (refused 14 p, out) ≡ readNRun text out
   unfolding readNRun

@@ -1,6 +1,5 @@
 // The reader of N lines: the recording ribbon of a line, judged alone, into lent entries.
 use crate::room::no_letters;
-use crate::room::no_marks;
 use refusals::answers::RecordingLine;
 use refusals::answers::Verdict;
 use refusals::chains::or_else;
@@ -51,7 +50,8 @@ pub fn read_recording_line(text: &[u8], entries: &mut [u16]) -> RecordingLine
     ensures { λ r. ⌜ (saidRecordingLine r, now (entries .exit)) ≡ readNRun (now (text .entry)) (now (entries .entry)) ⌝ }
 {
     let mut values = no_letters();
-    let mut marks = no_marks();
+    // An N line tells no marks, so none are lent.
+    let mut marks = [0u8; 0];
     let line = scan_line(text, b'N', false, false, &mut values, &mut marks);
     match line {
         Line::Broken(place) => RecordingLine::Refused(Refusal::Line(place)),

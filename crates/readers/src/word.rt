@@ -1,7 +1,6 @@
 // The reader of W lines: the word of a line into lent letters.
 use crate::letters::narrow_letters;
 use crate::room::no_letters;
-use crate::room::no_marks;
 use refusals::answers::Verdict;
 use refusals::answers::WordLine;
 use refusals::chains::check_limits;
@@ -46,7 +45,8 @@ pub fn read_word_line(text: &[u8], letters: &mut [u8]) -> WordLine
     ensures { λ r. ⌜ (saidWordLine r, now (letters .exit)) ≡ readWRun (now (text .entry)) (now (letters .entry)) ⌝ }
 {
     let mut values = no_letters();
-    let mut marks = no_marks();
+    // A W line tells no marks, so none are lent.
+    let mut marks = [0u8; 0];
     let line = scan_line(text, b'W', true, false, &mut values, &mut marks);
     match line {
         Line::Broken(place) => WordLine::Refused(Refusal::Line(place)),

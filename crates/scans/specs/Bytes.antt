@@ -1,4 +1,5 @@
 -- Single bytes at a place of the text: what is left there is the text without the bytes before it.
+--     le-or-lt                       order is decided
 --     startsWith k t                 the byte k stands first in t
 --     digitOf t                      the digit that stands first in t, 10 where none does
 --     starts-inside, digit-inside    where a byte or a digit stands is in the text
@@ -22,7 +23,7 @@ use borrow.Author.Tests.{le-leb, leb-false, leb-true, lt-leb}
 use Rattle.grammar.specs.Reading.{Read, after, broken, digit}
 
 -- Order is decided.
-le-or-lt : (a b : ℕ) → (a ≤ b) ⊎ (b < a)
+pub le-or-lt : (a b : ℕ) → (a ≤ b) ⊎ (b < a)
 le-or-lt a b = go (leb a b) refl
   where
     go : (t : Bool) → leb a b ≡ t → (a ≤ b) ⊎ (b < a)

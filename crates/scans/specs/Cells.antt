@@ -1,19 +1,22 @@
 -- Cells of a line, read at a place of the text.
 --     readMarked m                   a comma and a letter, with the mark m
 --     readItem stepped               an item, with or without a step before its letter
+--     markOf t                       the mark of the step that stands first in t, 2 where none does
 --     saidCell, cellPlace, Celled    what a cell that was read, or a break, says in the grammar's terms, and its place
 --     celling                        the ruleset of one cell
 -- Assumes nothing.
-use Prim.Native.Nat.{ℕ, _+_, _≤_}
+use Prim.Native.Nat.{ℕ, _+_, _≤_, _<_}
 use mathlib.Core.Path.{_≡_, refl, sym, _∙_}
-use mathlib.Core.Bool.{Bool, true, false}
+use mathlib.Core.Bool.{Bool, true, false, cond}
+use mathlib.Core.Logic.{⊎-elim}
 use mathlib.Core.List.{List, [], _∷_}
 use native.Mathlib.Omega.{arith}
-use lib.ListN.{length, drop}
+use lib.Dec.{eqb}
+use lib.ListN.{length, drop, drop-of-length-le}
 use lib.Seq.{drop-drop}
 use borrow.Author.Needs.{needs}
 use Rattle.grammar.specs.Reading.{Read, after, broken, got, onward, readCell, readField, readFirst, readStep, turned}
-use Rattle.scans.specs.Bytes.{after-none, after-there, starts-within, startsWith}
+use Rattle.scans.specs.Bytes.{after-none, after-there, le-or-lt, starts-within, startsWith}
 use Rattle.scans.specs.Numbers.{Numbered, Told, number-got, number-not}
 use Rattle.scans.specs.declared.numbers.Number.{Number}
 use Rattle.scans.specs.declared.numbers.Number.the-variants as number
@@ -53,7 +56,7 @@ module _ (text t : List ℕ) (m : ℕ) {r : Number} (h : Numbered text (readFiel
   unfolding readMarked
   marked-broken e = let f = number-not text (readField t) h e in record { says = rw (f .says); within = f .within }
 
--- The first cell is a letter with the mark 0,
+-- The first cell is a letter with the mark 0.
 first-marked : (t : List ℕ) → readFirst t ≡ readMarked 0 t
 unfolding readMarked
 first-marked t = go (readField t)
@@ -62,18 +65,37 @@ first-marked t = go (readField t)
     go (got x u) = refl
     go (broken u) = refl
 
--- The letter of a step.
-step-right : (t : List ℕ) → startsWith 114 t ≡ true → readStep t ≡ got 0 (drop 1 t)
-step-right [] e = let z : _≡_ {A = ℕ} 0 1 = cc in absurd (omega arith)
-step-right (b ∷ t) e = rw e
+-- The mark of the step that stands first, 2 for none: by whether it is the letter r or d.
+abbrev markBy : Bool → Bool → ℕ
+markBy r d = cond r 0 (cond d 1 2)
 
-step-down : (t : List ℕ) → startsWith 114 t ≡ false → startsWith 100 t ≡ true → readStep t ≡ got 1 (drop 1 t)
-step-down [] f e = let z : _≡_ {A = ℕ} 0 1 = cc in absurd (omega arith)
-step-down (b ∷ t) f e = rw (f, e)
+abbrev pub markOf : List ℕ → ℕ
+markOf t = markBy (startsWith 114 t) (startsWith 100 t)
 
-step-none : (t : List ℕ) → startsWith 114 t ≡ false → startsWith 100 t ≡ false → readStep t ≡ broken t
-step-none [] f e = refl
-step-none (b ∷ t) f e = rw (f, e)
+-- It is found by one test after another.
+module _ (t : List ℕ) {r : Bool} (right : r ≡ startsWith 114 t) where
+  pub mark-right : r ≡ true → 0 ≡ markOf t
+  mark-right e = rw (← right, e)
+
+  module _ {d : Bool} (e : r ≡ false) (down : d ≡ startsWith 100 t) where
+    pub mark-down : d ≡ true → 1 ≡ markOf t
+    mark-down f = rw (← right, e, ← down, f)
+
+    pub mark-none : d ≡ false → 2 ≡ markOf t
+    mark-none f = rw (← right, e, ← down, f)
+
+-- A step is read by its mark, and nothing else is a step.
+step-is : (t : List ℕ) → (markOf t < 2 → readStep t ≡ got (markOf t) (drop 1 t)) × (2 ≤ markOf t → readStep t ≡ broken t)
+step-is [] = (λ l. absurd (omega arith), λ l. refl)
+step-is (b ∷ t) = go (eqb b 114) (eqb b 100)
+  where
+    stepBy : Bool → Bool → Read ℕ
+    stepBy r d = cond r (got 0 t) (cond d (got 1 t) (broken (b ∷ t)))
+
+    go : (r d : Bool) → (markBy r d < 2 → stepBy r d ≡ got (markBy r d) t) × (2 ≤ markBy r d → stepBy r d ≡ broken (b ∷ t))
+    go true d = (λ l. refl, λ l. absurd (omega arith))
+    go false true = (λ l. refl, λ l. absurd (omega arith))
+    go false false = (λ l. absurd (omega arith), λ l. refl)
 
 -- A comma, and then the letter of a step at the next place.
 module _ (text : List ℕ) (at : ℕ) {b : Bool} (is : b ≡ startsWith 44 (drop at text)) where
@@ -90,25 +112,21 @@ module _ (text : List ℕ) (at : ℕ) {b : Bool} (is : b ≡ startsWith 44 (drop
     two-on : drop 1 (drop (at + 1) text) ≡ drop (at + 2) text
     two-on = let two : at + 1 + 1 ≡ at + 2 = omega arith in drop-drop 1 (at + 1) text ∙ rw two
 
-    module _ {c : Bool} (right : c ≡ startsWith 114 (drop (at + 1) text)) where
-      pub right-read : {s : Read (ℕ × ℕ)} {p : ℕ} → c ≡ true → Told text (readMarked 0 (drop (at + 2) text)) s p → Told text (readCell (drop at text)) s p
-      unfolding readMarked
-      right-read f t = record { says = rw (comma-there (step-right (drop (at + 1) text) (sym right ∙ f)), two-on) (t .says); within = t .within }
+    -- The letter after the step is read on,
+    pub step-read : {m p : ℕ} {s : Read (ℕ × ℕ)} → m ≡ markOf (drop (at + 1) text) → m < 2 → Told text (readMarked m (drop (at + 2) text)) s p
+        → Told text (readCell (drop at text)) s p
+    unfolding readMarked
+    step-read k l t = record { says = rw (comma-there (step-is (drop (at + 1) text) .0 (rw k at l)), two-on) (rw k at (t .says)); within = t .within }
 
-      module _ {d : Bool} (down : d ≡ startsWith 100 (drop (at + 1) text)) (f : c ≡ false) where
-        pub down-read : {s : Read (ℕ × ℕ)} {p : ℕ} → d ≡ true → Told text (readMarked 1 (drop (at + 2) text)) s p → Told text (readCell (drop at text)) s p
-        unfolding readMarked
-        down-read g t = record { says = rw (comma-there (step-down (drop (at + 1) text) (sym right ∙ f) (sym down ∙ g)), two-on) (t .says); within = t .within }
-
-        pub step-broken : d ≡ false → Told text (readCell (drop at text)) (broken (drop (at + 1) text)) (at + 1)
-        step-broken g = record {
-          says = rw (comma-there (step-none (drop (at + 1) text) (sym right ∙ f) (sym down ∙ g)));
-          within = starts-within text at 44 is e;
-        }
+    -- or no step stands there.
+    pub step-broken : {m : ℕ} → m ≡ markOf (drop (at + 1) text) → 2 ≤ m → Told text (readCell (drop at text)) (broken (drop (at + 1) text)) (at + 1)
+    step-broken k l = record { says = rw (comma-there (step-is (drop (at + 1) text) .1 (rw k at l))); within = starts-within text at 44 is e }
 
 -- A letter after a step stands in the text.
-pub step-within : (text : List ℕ) (at k : ℕ) {b : Bool} → b ≡ startsWith k (drop (at + 1) text) → b ≡ true → at + 2 ≤ length text
-step-within text at k is e = let l : at + 1 + 1 ≤ length text = starts-within text (at + 1) k is e in omega arith
+pub step-within : (text : List ℕ) (at : ℕ) {m : ℕ} → m ≡ markOf (drop (at + 1) text) → m < 2 → at + 2 ≤ length text
+step-within text at {m} k l =
+    ⊎-elim (λ h. let none : m ≡ 2 = rw (drop-of-length-le text {i = at + 1} h) at k in let z : ⊥ = omega arith in absurd z) (λ h. omega arith)
+    (le-or-lt (length text) (at + 1))
 
 -- An item with a step, and one without.
 module _ {text : List ℕ} (t : List ℕ) {stepped : Bool} {s : Read (ℕ × ℕ)} {p : ℕ} where
@@ -123,8 +141,10 @@ pub ruleset celling = (
   marked-broken,
   starts-within,
   comma-none,
-  right-read,
-  down-read,
+  mark-right,
+  mark-down,
+  mark-none,
+  step-read,
   step-broken,
   step-within,
   item-step,

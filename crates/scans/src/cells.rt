@@ -3,12 +3,13 @@ use crate::numbers::Number;
 use crate::numbers::field_at;
 use crate::numbers::stands;
 ghost use Prim.Native.Nat.{_≤_};
-ghost use mathlib.Core.Bool.{false};
+ghost use mathlib.Core.Bool.{true, false};
+ghost use mathlib.Core.List.{[]};
 ghost use mathlib.Core.Path.{_≡_};
 ghost use lib.ListN.{drop, length, set};
-ghost use Rattle.grammar.specs.Reading.{many, readCell, readFirst};
-ghost use Rattle.scans.specs.Cells.{Celled, readItem, readMarked};
-ghost use Rattle.scans.specs.Items.{Gathered, begun};
+ghost use Rattle.grammar.specs.Reading.{readCell};
+ghost use Rattle.scans.specs.Cells.{Celled, markOf, readItem, readMarked};
+ghost use Rattle.scans.specs.Items.{Gathered};
 
 // A cell and the place after it, or the place of the byte that breaks the grammar.
 pub enum Cell {
@@ -34,17 +35,28 @@ fn letter_at(text: &[u8], at: usize, mark: u8) -> Cell
     }
 }
 
+// The mark of the step at a place, or 2 where no step stands there.
+fn mark_at(text: &[u8], at: usize) -> u8
+    ensures { λ r. ⌜ r ≡ markOf (drop at (now (text .entry))) ⌝ }
+{
+    if stands(text, at, b'r') {
+        return 0;
+    }
+    if stands(text, at, b'd') {
+        return 1;
+    }
+    2
+}
+
 // A comma and a step, then a comma and a letter.
 fn step_at(text: &[u8], at: usize) -> Cell
     requires { ⌜ at ≤ length (now text) ⌝ }
     ensures { λ r. ⌜ Celled (now (text .entry)) (readCell (drop at (now (text .entry)))) r ⌝ }
 {
     if stands(text, at, b',') {
-        if stands(text, at + 1, b'r') {
-            return letter_at(text, at + 2, 0);
-        }
-        if stands(text, at + 1, b'd') {
-            return letter_at(text, at + 2, 1);
+        let mark = mark_at(text, at + 1);
+        if mark < 2 {
+            return letter_at(text, at + 2, mark);
         }
         return Cell::Broken(at + 1);
     }
@@ -80,19 +92,36 @@ fn keep_mark(marks: &mut [u8], place: usize, mark: u8)
     }
 }
 
-// So many items from a place on. All are read, and those that fit are kept: a line of too many items is refused for that only when all of it was read.
-pub(crate) fn cells_at(
-    text: &[u8],
-    from: usize,
-    count: usize,
-    steps: bool,
-    letters: &mut [u16],
-    marks: &mut [u8],
-) -> Items
+// Letters only, so many from a place on: no step stands before any, and no marks are lent. All are read, and those that fit are kept.
+fn letters_at(text: &[u8], from: usize, count: usize, letters: &mut [u16]) -> Items
     requires { ⌜ from ≤ length (now text) ⌝ }
     ensures { λ r. ⌜
-        Gathered (now (text .entry)) (many readFirst (readItem steps) count (drop from (now (text .entry))))
-        (begun false steps count (drop from (now (text .entry)))) count
+        Gathered (now (text .entry)) (drop from (now (text .entry))) false count
+        (now (letters .entry)) [] (now (letters .exit)) [] r
+        ⌝ }
+{
+    let mut at = from;
+    let mut i = 0;
+    while i < count {
+        let cell = letter_at(text, at, 0);
+        match cell {
+            Cell::Broken(place) => return Items::Broken(place),
+            Cell::Read(letter, _, next) => {
+                keep_letter(letters, i, letter);
+                at = next;
+                i += 1;
+            }
+        }
+    }
+    Items::Read(at)
+}
+
+// Letters with a step before each but the first, so many from a place on. All are read, and those that fit are kept with their marks. Past the first letter
+// `stepped` stays true, so the compiler takes the first turn out of the loop and tests nothing in it.
+fn ribbon_at(text: &[u8], from: usize, count: usize, letters: &mut [u16], marks: &mut [u8]) -> Items
+    requires { ⌜ from ≤ length (now text) ⌝ }
+    ensures { λ r. ⌜
+        Gathered (now (text .entry)) (drop from (now (text .entry))) true count
         (now (letters .entry)) (now (marks .entry)) (now (letters .exit)) (now (marks .exit)) r
         ⌝ }
 {
@@ -106,11 +135,32 @@ pub(crate) fn cells_at(
             Cell::Read(letter, mark, next) => {
                 keep_letter(letters, i, letter);
                 keep_mark(marks, i, mark);
-                stepped = steps;
+                stepped = true;
                 at = next;
                 i += 1;
             }
         }
     }
     Items::Read(at)
+}
+
+// So many items from a place on, with or without steps. A line of too many items is refused for that only when all of it was read.
+pub(crate) fn cells_at(
+    text: &[u8],
+    from: usize,
+    count: usize,
+    steps: bool,
+    letters: &mut [u16],
+    marks: &mut [u8],
+) -> Items
+    requires { ⌜ from ≤ length (now text) ⌝ }
+    ensures { λ r. ⌜
+        Gathered (now (text .entry)) (drop from (now (text .entry))) steps count
+        (now (letters .entry)) (now (marks .entry)) (now (letters .exit)) (now (marks .exit)) r
+        ⌝ }
+{
+    if steps {
+        return ribbon_at(text, from, count, letters, marks);
+    }
+    letters_at(text, from, count, letters)
 }

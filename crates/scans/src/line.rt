@@ -89,7 +89,7 @@ fn body_at(
 ) -> Line
     requires { ⌜ at ≤ length (now text) ⌝ }
     ensures { λ r. ⌜
-        Scanned (now (text .entry)) (readBody steps rank count (drop at (now (text .entry)))) (begun false steps count (drop at (now (text .entry))))
+        Scanned (now (text .entry)) steps (readBody steps rank count (drop at (now (text .entry)))) (begun false steps count (drop at (now (text .entry))))
         (now (letters .entry)) (now (marks .entry)) (now (letters .exit)) (now (marks .exit)) r
         ⌝ }
 {
@@ -100,7 +100,7 @@ fn body_at(
     }
 }
 
-// A whole line of a kind. The letters and marks that fit are kept.
+// A whole line of a kind. The letters that fit are kept, and on a line with steps the marks that fit; a line without steps leaves the marks as they were.
 pub fn scan_line(
     text: &[u8],
     kind: u8,
@@ -110,7 +110,7 @@ pub fn scan_line(
     marks: &mut [u8],
 ) -> Line
     ensures { λ r. ⌜
-        Scanned (now (text .entry)) (readWhole kind ranked steps (now (text .entry))) (wholeCells kind ranked steps (now (text .entry)))
+        Scanned (now (text .entry)) steps (readWhole kind ranked steps (now (text .entry))) (wholeCells kind ranked steps (now (text .entry)))
         (now (letters .entry)) (now (marks .entry)) (now (letters .exit)) (now (marks .exit)) r
         ⌝ }
 {

@@ -6,9 +6,9 @@ use Rattle.readers.proofs.recording.read_recording_line.Tie as tie
 pub read-recording-line-spec : {M : Type 1} → statement M
 read-recording-line-spec =
     tie.close
-    (tie.spec (λ c κs. search reading-recordings) (λ c κs. search reading-recordings) (λ c. search reading-recordings)
-    (λ c. search reading-recordings) (λ c κs. search reading-recordings) (λ c. search reading-recordings)
-    (λ c. search reading-recordings) (λ c κs. search reading-recordings) (λ c. search reading-recordings)
+    (tie.spec (λ c κs. search reading-recordings) (λ c. search reading-recordings) (λ c. search reading-recordings)
+    (λ c κs. search reading-recordings) (λ c. search reading-recordings) (λ c. search reading-recordings)
+    (λ c κs. search reading-recordings) (λ c. search reading-recordings) (λ c. search reading-recordings)
     (λ c. search reading-recordings) (λ c. search reading-recordings) (λ c. search reading-recordings)
-    (λ c. search reading-recordings) (λ c. search reading-recordings) (λ c κs. search reading-recordings)
-    (λ c. search reading-recordings) (λ c. search reading-recordings) (λ c. search reading-recordings))
+    (λ c. search reading-recordings) (λ c κs. search reading-recordings) (λ c. search reading-recordings)
+    (λ c. search reading-recordings) (λ c. search reading-recordings))

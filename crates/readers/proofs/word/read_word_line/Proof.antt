@@ -6,9 +6,10 @@ use Rattle.readers.proofs.word.read_word_line.Tie as tie
 pub read-word-line-spec : {M : Type 1} → statement M
 read-word-line-spec =
     tie.close
-    (tie.spec (λ c κs. search reading-words) (λ c κs. search reading-words) (λ c. search reading-words)
-    (λ c. search reading-words) (λ c κs. search reading-words) (λ c. search reading-words) (λ c. search reading-words)
-    (λ c κs. search reading-words) (λ c. search reading-words) (λ c. search reading-words) (λ c. search reading-words)
-    (λ c. search reading-words) (λ c. search reading-words) (λ c. search reading-words) (λ c κs. search reading-words)
-    (λ c. search reading-words) (λ c. search reading-words) (λ c. search reading-words) (λ c κs. search reading-words)
-    (λ c. search reading-words) (λ c. search reading-words) (λ c. search reading-words))
+    (tie.spec (λ c κs. search reading-words) (λ c. search reading-words) (λ c. search reading-words)
+    (λ c κs. search reading-words) (λ c. search reading-words) (λ c. search reading-words)
+    (λ c κs. search reading-words) (λ c. search reading-words) (λ c. search reading-words)
+    (λ c. search reading-words) (λ c. search reading-words) (λ c. search reading-words) (λ c. search reading-words)
+    (λ c κs. search reading-words) (λ c. search reading-words) (λ c. search reading-words)
+    (λ c. search reading-words) (λ c κs. search reading-words) (λ c. search reading-words)
+    (λ c. search reading-words) (λ c. search reading-words))

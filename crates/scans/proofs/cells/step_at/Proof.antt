@@ -7,6 +7,4 @@ pub step-at-spec : {M : Type 1} → statement M
 step-at-spec =
     tie.close
     (tie.spec (λ c κs. search celling) (λ c. search celling) (λ c κs. search celling) (λ c. search celling)
-    (λ c κs. search celling) (λ c. search celling) (λ c. search celling) (λ c κs. search celling)
-    (λ c. search celling) (λ c κs. search celling) (λ c. search celling) (λ c. search celling) (λ c. search celling)
-    (λ c. search celling))
+    (λ c κs. search celling) (λ c. search celling) (λ c. search celling) (λ c. search celling) (λ c. search celling))
