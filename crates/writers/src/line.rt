@@ -78,7 +78,14 @@ pub fn write_junction_line(rank: usize, word: &[u8], out: &mut [u8]) -> Written
     }
 }
 
-// The E line of a refusal, its place written whole whatever its size: only 13.
+// The E line of what was returned instead of a result, number and place, each written whole whatever its size: only 13.
+pub fn write_returned_line(returned: usize, at: usize, out: &mut [u8]) -> Written
+    ensures { λ r. ⌜ (saidWritten r, now (out .exit)) ≡ eLineRun returned at (now (out .entry)) ⌝ }
+{
+    write_numbers(69, returned, at, out)
+}
+
+// The E line of a refusal: only 13.
 pub fn write_refusal_line(refusal: Refusal, out: &mut [u8]) -> Written
     ensures { λ r. ⌜ (saidWritten r, now (out .exit)) ≡ eLineRun (number refusal) (place refusal) (now (out .entry)) ⌝ }
 {
