@@ -1,0 +1,9 @@
+-- `capi::on_lines::luchtrav_write_word_line` meets its contract, by the laws of specs/Handing. Assumes nothing.
+use Rattle.capi.specs.Handing.{replying}
+use Rattle.capi.proofs.on_lines.luchtrav_write_word_line.Statement.{statement}
+use Rattle.capi.proofs.on_lines.luchtrav_write_word_line.Tie as tie
+
+pub luchtrav-write-word-line-spec : {M : Type 1} → statement M
+luchtrav-write-word-line-spec =
+    tie.close
+    (tie.spec (λ c κs. search replying) (λ c κs. search replying) (λ c. search replying) (λ c. search replying))

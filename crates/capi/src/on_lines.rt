@@ -1,0 +1,125 @@
+// The C interface to lines: written, read, and the program's answer. Each function is one of the kernel's, its answer as a struct of numbers.
+use crate::converters::count_recording;
+use crate::converters::count_written;
+use crate::converters::tableau_line_reply;
+use crate::converters::word_line_reply;
+use crate::replies::CountReply;
+use crate::replies::LineReply;
+use lines::answer::answer;
+use lines::tableau::tableau_line_of_word;
+use readers::recording::read_recording_line;
+use readers::tableau::read_tableau_line;
+use readers::word::read_word_line;
+use writers::line::write_junction_line;
+use writers::line::write_recording_line;
+use writers::line::write_returned_line;
+use writers::line::write_tableau_line;
+use writers::line::write_word_line;
+ghost use mathlib.Core.Path.{_≡_};
+ghost use Rattle.hypoplactic.specs.LineOperations.{eLineRun, jLineRun, nLineRun, tLineRun, tableauLineRun, wLineRun};
+ghost use Rattle.hypoplactic.specs.LineReadings.{answerRun, readNRun, readTRun, readWRun};
+ghost use Rattle.capi.specs.Replies.{countOf, lineOf, replied};
+
+// The tableau line of a word.
+#[no_mangle]
+pub extern "C" fn luchtrav_tableau_line_of_word(
+    rank: usize,
+    word: &[u8],
+    out: &mut [u8],
+) -> CountReply
+    ensures { λ r. ⌜ (r, now (out .exit)) ≡ replied countOf (tableauLineRun rank (now (word .entry)) (now (out .entry))) ⌝ }
+{
+    count_written(tableau_line_of_word(rank, word, out))
+}
+
+// The W line of a word.
+#[no_mangle]
+pub extern "C" fn luchtrav_write_word_line(rank: usize, word: &[u8], out: &mut [u8]) -> CountReply
+    ensures { λ r. ⌜ (r, now (out .exit)) ≡ replied countOf (wLineRun rank (now (word .entry)) (now (out .entry))) ⌝ }
+{
+    count_written(write_word_line(rank, word, out))
+}
+
+// The T line of a tableau.
+#[no_mangle]
+pub extern "C" fn luchtrav_write_tableau_line(
+    rank: usize,
+    letters: &[u8],
+    marks: &[u8],
+    out: &mut [u8],
+) -> CountReply
+    ensures { λ r. ⌜ (r, now (out .exit)) ≡ replied countOf (tLineRun rank (now (letters .entry)) (now (marks .entry)) (now (out .entry))) ⌝ }
+{
+    count_written(write_tableau_line(rank, letters, marks, out))
+}
+
+// The N line of a recording ribbon.
+#[no_mangle]
+pub extern "C" fn luchtrav_write_recording_line(entries: &[u16], out: &mut [u8]) -> CountReply
+    ensures { λ r. ⌜ (r, now (out .exit)) ≡ replied countOf (nLineRun (now (entries .entry)) (now (out .entry))) ⌝ }
+{
+    count_written(write_recording_line(entries, out))
+}
+
+// The J line of a word.
+#[no_mangle]
+pub extern "C" fn luchtrav_write_junction_line(
+    rank: usize,
+    word: &[u8],
+    out: &mut [u8],
+) -> CountReply
+    ensures { λ r. ⌜ (r, now (out .exit)) ≡ replied countOf (jLineRun rank (now (word .entry)) (now (out .entry))) ⌝ }
+{
+    count_written(write_junction_line(rank, word, out))
+}
+
+// The E line of any number and place.
+#[no_mangle]
+pub extern "C" fn luchtrav_write_refusal_line(
+    number: usize,
+    place: usize,
+    out: &mut [u8],
+) -> CountReply
+    ensures { λ r. ⌜ (r, now (out .exit)) ≡ replied countOf (eLineRun number place (now (out .entry))) ⌝ }
+{
+    count_written(write_returned_line(number, place, out))
+}
+
+// A W line, into lent letters.
+#[no_mangle]
+pub extern "C" fn luchtrav_read_word_line(text: &[u8], letters: &mut [u8]) -> LineReply
+    ensures { λ r. ⌜ (r, now (letters .exit)) ≡ replied lineOf (readWRun (now (text .entry)) (now (letters .entry))) ⌝ }
+{
+    word_line_reply(read_word_line(text, letters))
+}
+
+// A T line, into lent letters and marks.
+#[no_mangle]
+pub extern "C" fn luchtrav_read_tableau_line(
+    text: &[u8],
+    letters: &mut [u8],
+    marks: &mut [u8],
+) -> LineReply
+    ensures { λ r. ⌜
+        (r, (now (letters .exit), now (marks .exit)))
+        ≡ replied lineOf (readTRun (now (text .entry)) (now (letters .entry)) (now (marks .entry)))
+        ⌝ }
+{
+    tableau_line_reply(read_tableau_line(text, letters, marks))
+}
+
+// An N line, into lent entries.
+#[no_mangle]
+pub extern "C" fn luchtrav_read_recording_line(text: &[u8], entries: &mut [u16]) -> CountReply
+    ensures { λ r. ⌜ (r, now (entries .exit)) ≡ replied countOf (readNRun (now (text .entry)) (now (entries .entry))) ⌝ }
+{
+    count_recording(read_recording_line(text, entries))
+}
+
+// What the program prints for a text.
+#[no_mangle]
+pub extern "C" fn luchtrav_answer(text: &[u8], out: &mut [u8]) -> CountReply
+    ensures { λ r. ⌜ (r, now (out .exit)) ≡ replied countOf (answerRun (now (text .entry)) (now (out .entry))) ⌝ }
+{
+    count_written(answer(text, out))
+}

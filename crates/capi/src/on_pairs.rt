@@ -1,0 +1,63 @@
+// The C interface to pairs of a tableau and a recording ribbon: checks, one letter inserted, the way back. Each function is one of the kernel's, its answer as a
+// struct of numbers.
+use crate::converters::count_inserted;
+use crate::converters::count_written;
+use crate::converters::done_verdict;
+use crate::replies::CountReply;
+use crate::replies::DoneReply;
+use pairs::insertion::insert_letter;
+use pairs::way_back::word_of_pair;
+use validity::tableau::check_pair;
+ghost use mathlib.Core.Path.{_≡_};
+ghost use Rattle.hypoplactic.specs.Judgements.{pairJudgements};
+ghost use Rattle.hypoplactic.specs.Replies.{first, passed};
+ghost use Rattle.hypoplactic.specs.TableauOperations.{insertRun, wordRun};
+ghost use Rattle.capi.specs.Replies.{countOf, doneOf, replied};
+
+// 1 to 8 of a pair.
+#[no_mangle]
+pub extern "C" fn luchtrav_check_pair(
+    rank: usize,
+    letters: &[u8],
+    marks: &[u8],
+    entries: &[u16],
+) -> DoneReply
+    ensures { λ r. ⌜ r ≡ doneOf (first (pairJudgements rank (now (letters .entry)) (now (marks .entry)) (now (entries .entry))) passed) ⌝ }
+{
+    done_verdict(check_pair(rank, letters, marks, entries))
+}
+
+// One letter into the pair in the first cells of three lent lists.
+#[no_mangle]
+pub extern "C" fn luchtrav_insert_letter(
+    rank: usize,
+    used: usize,
+    letter: usize,
+    letters: &mut [u8],
+    marks: &mut [u8],
+    entries: &mut [u16],
+) -> CountReply
+    ensures { λ r. ⌜
+        (r, record { letters = now (letters .exit); marks = now (marks .exit); recording = now (entries .exit) })
+        ≡ replied countOf (insertRun rank used letter (record { letters = now (letters .entry); marks = now (marks .entry); recording = now (entries .entry) }))
+        ⌝ }
+{
+    count_inserted(insert_letter(rank, used, letter, letters, marks, entries))
+}
+
+// The word of a pair, into a lent word.
+#[no_mangle]
+pub extern "C" fn luchtrav_word_of_pair(
+    rank: usize,
+    letters: &[u8],
+    marks: &[u8],
+    entries: &[u16],
+    word: &mut [u8],
+) -> CountReply
+    ensures { λ r. ⌜
+        (r, now (word .exit))
+        ≡ replied countOf (wordRun rank (now (letters .entry)) (now (marks .entry)) (now (entries .entry)) (now (word .entry)))
+        ⌝ }
+{
+    count_written(word_of_pair(rank, letters, marks, entries, word))
+}

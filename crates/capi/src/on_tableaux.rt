@@ -1,0 +1,123 @@
+// The C interface to tableaux: checks, column reading, moves, a look at a cell. Each function is one of the kernel's, its answer as a struct of numbers.
+use crate::converters::cell_reply;
+use crate::converters::count_repeat;
+use crate::converters::count_written;
+use crate::converters::done_move;
+use crate::converters::done_verdict;
+use crate::replies::CellReply;
+use crate::replies::CountReply;
+use crate::replies::DoneReply;
+use tableaux::moves::lower_count_tableau;
+use tableaux::moves::lower_tableau;
+use tableaux::moves::raise_count_tableau;
+use tableaux::moves::raise_tableau;
+use tableaux::reading::column_reading;
+use validity::tableau::check_tableau;
+use viewer::cells::cell_at;
+use viewer::viewers::look_once;
+ghost use mathlib.Core.Path.{_≡_};
+ghost use Rattle.hypoplactic.specs.Judgements.{tableauJudgements};
+ghost use Rattle.hypoplactic.specs.Moves.{lowering, raising};
+ghost use Rattle.hypoplactic.specs.Replies.{first, gives, passed};
+ghost use Rattle.hypoplactic.specs.TableauOperations.{cellAt, lookSays, moveTableauRun, readingRun, repeatTableauSays};
+ghost use Rattle.capi.specs.Replies.{cellOf, countOf, doneOf, replied};
+
+// 1 to 6 of a tableau: the making of a ribbon viewer.
+#[no_mangle]
+pub extern "C" fn luchtrav_check_tableau(rank: usize, letters: &[u8], marks: &[u8]) -> DoneReply
+    ensures { λ r. ⌜ r ≡ doneOf (first (tableauJudgements rank (now (letters .entry)) (now (marks .entry))) passed) ⌝ }
+{
+    done_verdict(check_tableau(rank, letters, marks))
+}
+
+// The column reading of a tableau, into a lent word.
+#[no_mangle]
+pub extern "C" fn luchtrav_column_reading(
+    rank: usize,
+    letters: &[u8],
+    marks: &[u8],
+    word: &mut [u8],
+) -> CountReply
+    ensures { λ r. ⌜ (r, now (word .exit)) ≡ replied countOf (readingRun rank (now (letters .entry)) (now (marks .entry)) (now (word .entry))) ⌝ }
+{
+    count_written(column_reading(rank, letters, marks, word))
+}
+
+// Raising, in the lent letters.
+#[no_mangle]
+pub extern "C" fn luchtrav_raise_tableau(
+    rank: usize,
+    index: usize,
+    letters: &mut [u8],
+    marks: &[u8],
+) -> DoneReply
+    ensures { λ r. ⌜
+        (r, now (letters .exit))
+        ≡ replied doneOf (moveTableauRun rank (record { side = raising; index = index }) (now (letters .entry)) (now (marks .entry)))
+        ⌝ }
+{
+    done_move(raise_tableau(rank, index, letters, marks))
+}
+
+// Lowering, in the lent letters.
+#[no_mangle]
+pub extern "C" fn luchtrav_lower_tableau(
+    rank: usize,
+    index: usize,
+    letters: &mut [u8],
+    marks: &[u8],
+) -> DoneReply
+    ensures { λ r. ⌜
+        (r, now (letters .exit))
+        ≡ replied doneOf (moveTableauRun rank (record { side = lowering; index = index }) (now (letters .entry)) (now (marks .entry)))
+        ⌝ }
+{
+    done_move(lower_tableau(rank, index, letters, marks))
+}
+
+// How often raising can be repeated.
+#[no_mangle]
+pub extern "C" fn luchtrav_raise_count_tableau(
+    rank: usize,
+    index: usize,
+    letters: &[u8],
+    marks: &[u8],
+) -> CountReply
+    ensures { λ r. ⌜ r ≡ countOf (repeatTableauSays rank (record { side = raising; index = index }) (now (letters .entry)) (now (marks .entry))) ⌝ }
+{
+    count_repeat(raise_count_tableau(rank, index, letters, marks))
+}
+
+// How often lowering can be repeated.
+#[no_mangle]
+pub extern "C" fn luchtrav_lower_count_tableau(
+    rank: usize,
+    index: usize,
+    letters: &[u8],
+    marks: &[u8],
+) -> CountReply
+    ensures { λ r. ⌜ r ≡ countOf (repeatTableauSays rank (record { side = lowering; index = index }) (now (letters .entry)) (now (marks .entry))) ⌝ }
+{
+    count_repeat(lower_count_tableau(rank, index, letters, marks))
+}
+
+// One look through a ribbon viewer that is made for it.
+#[no_mangle]
+pub extern "C" fn luchtrav_look(
+    rank: usize,
+    letters: &[u8],
+    marks: &[u8],
+    place: usize,
+) -> CellReply
+    ensures { λ r. ⌜ r ≡ cellOf (lookSays rank (now (letters .entry)) (now (marks .entry)) place) ⌝ }
+{
+    cell_reply(look_once(rank, letters, marks, place))
+}
+
+// A look at any two slices, of a tableau that was checked before.
+#[no_mangle]
+pub extern "C" fn luchtrav_cell_at(letters: &[u8], marks: &[u8], place: usize) -> CellReply
+    ensures { λ r. ⌜ r ≡ cellOf (gives (cellAt (now (letters .entry)) (now (marks .entry)) place)) ⌝ }
+{
+    cell_reply(cell_at(letters, marks, place))
+}

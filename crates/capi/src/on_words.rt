@@ -1,0 +1,133 @@
+// The C interface to words: checks, tableau, recording ribbon, junction set, moves, classes and weights. Each function is one of the kernel's, its answer as a
+// struct of numbers.
+use crate::converters::class_reply;
+use crate::converters::count_repeat;
+use crate::converters::count_written;
+use crate::converters::done_move;
+use crate::converters::done_verdict;
+use crate::converters::junction_reply;
+use crate::converters::order_reply;
+use crate::replies::ClassReply;
+use crate::replies::CountReply;
+use crate::replies::DoneReply;
+use crate::replies::JunctionReply;
+use crate::replies::OrderReply;
+use comparisons::classes::same_class;
+use comparisons::weights::compare_weights;
+use refusals::word::check_word;
+use ribbons::recording::recording_of_word;
+use ribbons::tableau::tableau_of_word;
+use words::junctions::junctions;
+use words::moves::lower_count_word;
+use words::moves::lower_word;
+use words::moves::raise_count_word;
+use words::moves::raise_word;
+ghost use mathlib.Core.Path.{_≡_};
+ghost use Rattle.hypoplactic.specs.Judgements.{wordJudgements};
+ghost use Rattle.hypoplactic.specs.Moves.{lowering, raising};
+ghost use Rattle.hypoplactic.specs.Replies.{first, passed};
+ghost use Rattle.hypoplactic.specs.TableauOperations.{recordingRun, tableauRun};
+ghost use Rattle.hypoplactic.specs.WordOperations.{junctionSays, moveWordRun, repeatWordSays, sameClassSays, weightsSays};
+ghost use Rattle.capi.specs.Replies.{classOf, countOf, doneOf, junctionOf, orderOf, replied};
+
+// 1, 2 and 4 of a word.
+#[no_mangle]
+pub extern "C" fn luchtrav_check_word(rank: usize, word: &[u8]) -> DoneReply
+    ensures { λ r. ⌜ r ≡ doneOf (first (wordJudgements rank (now (word .entry))) passed) ⌝ }
+{
+    done_verdict(check_word(rank, word))
+}
+
+// The quasi-ribbon tableau of a word, into lent letters and marks.
+#[no_mangle]
+pub extern "C" fn luchtrav_tableau_of_word(
+    rank: usize,
+    word: &[u8],
+    letters: &mut [u8],
+    marks: &mut [u8],
+) -> CountReply
+    ensures { λ r. ⌜
+        (r, (now (letters .exit), now (marks .exit)))
+        ≡ replied countOf (tableauRun rank (now (word .entry)) (now (letters .entry)) (now (marks .entry)))
+        ⌝ }
+{
+    count_written(tableau_of_word(rank, word, letters, marks))
+}
+
+// The recording ribbon of a word, into lent entries.
+#[no_mangle]
+pub extern "C" fn luchtrav_recording_of_word(
+    rank: usize,
+    word: &[u8],
+    entries: &mut [u16],
+) -> CountReply
+    ensures { λ r. ⌜ (r, now (entries .exit)) ≡ replied countOf (recordingRun rank (now (word .entry)) (now (entries .entry))) ⌝ }
+{
+    count_written(recording_of_word(rank, word, entries))
+}
+
+// The junction set of a word, and its rows.
+#[no_mangle]
+pub extern "C" fn luchtrav_junctions(rank: usize, word: &[u8]) -> JunctionReply
+    ensures { λ r. ⌜ r ≡ junctionOf (junctionSays rank (now (word .entry))) ⌝ }
+{
+    junction_reply(junctions(rank, word))
+}
+
+// Raising, in the lent word.
+#[no_mangle]
+pub extern "C" fn luchtrav_raise_word(rank: usize, index: usize, word: &mut [u8]) -> DoneReply
+    ensures { λ r. ⌜ (r, now (word .exit)) ≡ replied doneOf (moveWordRun rank (record { side = raising; index = index }) (now (word .entry))) ⌝ }
+{
+    done_move(raise_word(rank, index, word))
+}
+
+// Lowering, in the lent word.
+#[no_mangle]
+pub extern "C" fn luchtrav_lower_word(rank: usize, index: usize, word: &mut [u8]) -> DoneReply
+    ensures { λ r. ⌜ (r, now (word .exit)) ≡ replied doneOf (moveWordRun rank (record { side = lowering; index = index }) (now (word .entry))) ⌝ }
+{
+    done_move(lower_word(rank, index, word))
+}
+
+// How often raising can be repeated.
+#[no_mangle]
+pub extern "C" fn luchtrav_raise_count_word(rank: usize, index: usize, word: &[u8]) -> CountReply
+    ensures { λ r. ⌜ r ≡ countOf (repeatWordSays rank (record { side = raising; index = index }) (now (word .entry))) ⌝ }
+{
+    count_repeat(raise_count_word(rank, index, word))
+}
+
+// How often lowering can be repeated.
+#[no_mangle]
+pub extern "C" fn luchtrav_lower_count_word(rank: usize, index: usize, word: &[u8]) -> CountReply
+    ensures { λ r. ⌜ r ≡ countOf (repeatWordSays rank (record { side = lowering; index = index }) (now (word .entry))) ⌝ }
+{
+    count_repeat(lower_count_word(rank, index, word))
+}
+
+// Whether two words are in one class.
+#[no_mangle]
+pub extern "C" fn luchtrav_same_class(
+    first_rank: usize,
+    first: &[u8],
+    second_rank: usize,
+    second: &[u8],
+) -> ClassReply
+    ensures { λ r. ⌜ r ≡ classOf (sameClassSays «first_rank» (now (first .entry)) «second_rank» (now (second .entry))) ⌝ }
+{
+    class_reply(same_class(first_rank, first, second_rank, second))
+}
+
+// The weight of the first word against that of the second.
+#[no_mangle]
+pub extern "C" fn luchtrav_compare_weights(
+    first_rank: usize,
+    first: &[u8],
+    second_rank: usize,
+    second: &[u8],
+) -> OrderReply
+    ensures { λ r. ⌜ r ≡ orderOf (weightsSays «first_rank» (now (first .entry)) «second_rank» (now (second .entry))) ⌝ }
+{
+    order_reply(compare_weights(first_rank, first, second_rank, second))
+}

@@ -1,0 +1,62 @@
+// What the C interface replies: structs of numbers, since no enum crosses its boundary. Each begins with number and place; number 0 is success. What each field
+// holds, for what an answer says, is fixed in specs/Replies.antt.
+
+// A move that was made, a check that passed.
+#[repr(C)]
+pub struct DoneReply {
+    pub number: usize,
+    pub place: usize,
+}
+
+// Elements written, letters used, times a move can be repeated.
+#[repr(C)]
+pub struct CountReply {
+    pub number: usize,
+    pub place: usize,
+    pub count: usize,
+}
+
+// 1 for one class, 0 for two.
+#[repr(C)]
+pub struct ClassReply {
+    pub number: usize,
+    pub place: usize,
+    pub same: usize,
+}
+
+// 0 equal, 1 lower, 2 higher, 3 neither.
+#[repr(C)]
+pub struct OrderReply {
+    pub number: usize,
+    pub place: usize,
+    pub order: usize,
+}
+
+// The junction set, and the rows.
+#[repr(C)]
+pub struct JunctionReply {
+    pub number: usize,
+    pub place: usize,
+    pub set: u64,
+    pub rows: usize,
+}
+
+// What a line says: its rank, and the number of its letters or cells.
+#[repr(C)]
+pub struct LineReply {
+    pub number: usize,
+    pub place: usize,
+    pub rank: usize,
+    pub count: usize,
+}
+
+// A cell, or 0 for found where there is no such cell.
+#[repr(C)]
+pub struct CellReply {
+    pub number: usize,
+    pub place: usize,
+    pub found: usize,
+    pub letter: usize,
+    pub row: usize,
+    pub column: usize,
+}
