@@ -1,0 +1,86 @@
+"""What a caller hands over, as what the library takes: sequences as arrays of 8 or 16 bits, numbers as size_t.
+
+No number is cut. One that does not fit is handed on as a number that the library refuses in its stead, at the same place.
+"""
+from array import array
+from operator import index
+from typing import List, Sequence, Union
+
+LARGEST = 2**64 - 1
+
+# Bytes that hold a line.
+Text = Union[bytes, bytearray, memoryview]
+
+
+def elements(values: Sequence[int]) -> Sequence[int]:
+    """A sequence as one that bytes() and array() take by its elements. TypeError for what is none."""
+    if isinstance(values, (bytes, bytearray, list, tuple)):
+        return values
+    if isinstance(values, str):
+        raise TypeError("a sequence of integers is needed, not str")
+    len(values)
+    return list(values)
+
+
+def fitting(limit: int, stand_in: int, values: Sequence[int]) -> List[int]:
+    """The values, the stand-in for each that is not 0 to limit. TypeError for one that is no integer."""
+    return [value if 0 <= value <= limit else stand_in for value in map(index, values)]
+
+
+def as_bytes(stand_in: int, values: Sequence[int]) -> array:
+    taken = elements(values)
+    try:
+        return array("B", bytes(taken))
+    except ValueError:
+        return array("B", fitting(255, stand_in, taken))
+
+
+def as_letters(values: Sequence[int]) -> array:
+    """Letters: 0 for one that fits no byte, so that 4 falls at its place."""
+    return as_bytes(0, values)
+
+
+def as_marks(values: Sequence[int]) -> array:
+    """Marks: 255 for one that fits no byte, so that 6 falls at its place."""
+    return as_bytes(255, values)
+
+
+def as_entries(values: Sequence[int]) -> array:
+    """Entries: 0 for one that does not fit 16 bits, so that 7 falls at its place."""
+    taken = list(elements(values))
+    try:
+        return array("H", taken)
+    except OverflowError:
+        return array("H", fitting(65535, 0, taken))
+
+
+def as_number(value: int) -> int:
+    """A rank, a move's index or a letter to be inserted: 0 for one that fits no size_t, so that 1, 9 or 4 falls."""
+    number = index(value)
+    return number if 0 <= number <= LARGEST else 0
+
+
+def as_place(value: int) -> int:
+    """A place: the largest for one that fits no size_t, so that there is no such cell."""
+    place = index(value)
+    return place if 0 <= place <= LARGEST else LARGEST
+
+
+def as_told(value: int) -> int:
+    """A number that is only told, in an E line: ValueError for one that fits no size_t."""
+    number = index(value)
+    if not 0 <= number <= LARGEST:
+        raise ValueError("%d is not 0 to 2**64 - 1" % number)
+    return number
+
+
+def as_text(text: Text) -> array:
+    """The bytes of a line. A str has no bytes, and is a TypeError."""
+    if not isinstance(text, (bytes, bytearray, memoryview)):
+        raise TypeError("a line is bytes, not %s" % type(text).__name__)
+    return array("B", bytes(text))
+
+
+def room(code: str, count: int) -> array:
+    """Memory to lend for an output of so many elements."""
+    return array(code, [0]) * count
