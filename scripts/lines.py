@@ -176,6 +176,10 @@ def write_junction_line(rank, word, out):
     return write(junction_line(word), out)
 
 
+def write_refusal_line(number, place, out):
+    return write(refusal_line(number, place), out)
+
+
 def tableau_line_of_word(rank, word, out):
     check_word(rank, word)
     letters, marks, _ = pair_of(word)
@@ -198,3 +202,7 @@ def program(text):
     return (
         tableau_line(rank, letters, marks) + recording_line(entries) + word_line(rank, reading(letters, marks)) + junction_line(word)
     )
+
+
+def answer(text, out):
+    return write(program(text), out)

@@ -1,0 +1,168 @@
+"""Breaks by chance: each spoils one thing of an input, a dict from the names of the header's parameters to numbers and lists.
+
+A break may leave an input valid where there is nothing to break (no letter in an empty word); the plain Python says what the reply is in every case.
+"""
+from drawn_values import FAR
+
+PARTS = ("word", "first", "second", "letters", "marks", "entries")
+
+
+def lists_of(input, names=PARTS):
+    return [name for name in names if input.get(name) is not None]
+
+
+def break_rank(draw, input):
+    """0, or above 64."""
+    name = draw.one_of([name for name in ("rank", "first_rank", "second_rank") if name in input])
+    input[name] = draw.one_of((0, 65, 66, draw.one_of(FAR)))
+
+
+def break_length(draw, input):
+    """More than 1,024 letters; all parts of a ribbon alike, the cells after the first ones as the last."""
+    if "used" in input:
+        input["used"] = draw.one_of((1025, 1026, 1025 + draw.below(2000), draw.one_of([number for number in FAR if number > 1024])))
+    names = lists_of(input)
+    if "first" in names:
+        names = [draw.one_of(names)]
+    length = draw.one_of((1025, 1025, 1026, 1025 + draw.below(1000)))
+    for name in names:
+        input[name] = input[name] + [input[name][-1] if input[name] else 1] * (length - len(input[name]))
+
+
+def break_parts(draw, input):
+    """One part of a tableau or pair shorter or longer than the others; in insertion, a used count above one of them."""
+    name = draw.one_of(lists_of(input, ("letters", "marks", "entries")))
+    values = input[name]
+    if "used" in input:
+        if draw.below(2) and values:
+            del values[draw.below(len(values)) :]
+        else:
+            input["used"] += 1 + draw.below(4) if draw.below(4) else draw.below(1025)
+    elif draw.below(2) and values:
+        del values[-1 - draw.below(min(3, len(values))) :]
+    elif draw.below(20):
+        values += [draw.one_of((0, 1, min(255, len(values) + 1)))] * (1 + draw.below(3))
+    else:
+        values += [1] * 1100
+
+
+def break_letter(draw, input):
+    """A letter 0 or above the rank; in insertion also the new one."""
+    name = draw.one_of(lists_of(input, ("word", "first", "second", "letters")))
+    rank = input.get(name + "_rank", input.get("rank", 64))
+    if "letter" in input and draw.below(2):
+        input["letter"] = draw.one_of((0, rank + 1, 256 + rank, draw.one_of(FAR)))
+    elif input[name]:
+        input[name][draw.below(len(input[name]))] = draw.one_of((0, min(255, rank + 1), 255, 128 + draw.below(128)))
+
+
+def break_rising(draw, input):
+    """A letter smaller than the one before it."""
+    letters = input["letters"]
+    places = [place for place in range(1, len(letters)) if letters[place - 1] > 1]
+    if places:
+        place = draw.one_of(places)
+        letters[place] = 1 + draw.below(letters[place - 1] - 1)
+
+
+def break_mark(draw, input):
+    """A mark that is none, a step down into the first cell, or one between equals."""
+    letters, marks = input["letters"], input["marks"]
+    if not marks:
+        return
+    equals = [place for place in range(1, min(len(letters), len(marks))) if letters[place] == letters[place - 1]]
+    kind = draw.below(3)
+    if kind == 0 and equals:
+        marks[draw.one_of(equals)] = 1
+    elif kind == 1:
+        marks[0] = 1
+    else:
+        marks[draw.below(len(marks))] = draw.one_of((2, 3, 255, 128, 2 + draw.below(254)))
+
+
+def break_entry(draw, input):
+    """An entry 0, above the number of cells, or met before."""
+    entries = input["entries"]
+    if entries:
+        entries[draw.below(len(entries))] = draw.one_of((0, len(entries) + 1, 65535, 256, draw.one_of(entries), draw.one_of(entries), draw.below(65536)))
+
+
+def break_step(draw, input):
+    """Two entries exchanged, or one step turned, where letters rise."""
+    letters, marks, entries = input["letters"], input["marks"], input["entries"]
+    count = min(len(letters), len(marks), len(entries))
+    if count < 2:
+        return
+    place = 1 + draw.below(count - 1)
+    if draw.below(2) and letters[place] > letters[place - 1]:
+        marks[place] = 1 - min(marks[place], 1)
+    else:
+        other = place - 1 if draw.below(2) else draw.below(count)
+        entries[place], entries[other] = entries[other], entries[place]
+
+
+def break_index(draw, input):
+    """An index 0, the rank, or above it."""
+    input["index"] = draw.one_of((0, input["rank"], input["rank"] + 1, 256 + input["index"], draw.one_of(FAR))) % 2**64
+
+
+def break_full(draw, input):
+    """Insertion into 1,024 cells."""
+    rank = min(64, max(1, input["rank"]))
+    input["letters"], input["marks"], input["entries"] = draw.pair(rank, 1024)
+    input["used"] = 1024
+
+
+BREAKS = {
+    "rank": break_rank, "length": break_length, "parts": break_parts, "letter": break_letter, "falling letter": break_rising, "mark": break_mark,
+    "entry": break_entry, "step": break_step, "index": break_index, "full": break_full,
+}
+
+# ---- breaks of a text
+
+# What a field may be exchanged for.
+FIELDS = ["", "0", "00", "03", "1", "2", "9", "64", "65", "255", "256", "257", "1024", "1025", "9999", "10000", "12345", " 3", "3 ", "+3", "-3", "r", "d", "x"]
+BYTES = b"WTNJEwtnrd,,,00123456789\n\n\r \0;\"-+.\xff"
+
+
+def change_byte(draw, text):
+    if text:
+        text[draw.below(len(text))] = draw.one_of(BYTES)
+
+
+def delete_byte(draw, text):
+    if text:
+        del text[draw.below(len(text))]
+
+
+def insert_byte(draw, text):
+    text.insert(draw.below(len(text) + 1), draw.one_of(BYTES))
+
+
+def cut_text(draw, text):
+    """The text ends early, or goes on after its end."""
+    if draw.below(3):
+        del text[draw.below(len(text) + 1) :]
+    else:
+        text += draw.one_of((b"\n", b"0", b",", b"\0", bytes(text)))
+
+
+def change_field(draw, text):
+    """One field becomes another text."""
+    end = text[-1:] if text[-1:] == b"\n" else b""
+    fields = bytes(text[: len(text) - len(end)]).split(b",")
+    fields[draw.below(len(fields))] = draw.one_of(FIELDS).encode()
+    text[:] = b",".join(fields) + end
+
+
+def lengthen_text(draw, text):
+    """About as many bytes as the program reads, or many more."""
+    length = draw.one_of((4095, 4096, 4097, 4098, 10001))
+    text += draw.one_of((b"\n", b"0", b"W,1,")) * length
+    del text[length:]
+
+
+TEXT_BREAKS = {
+    "byte changed": change_byte, "byte deleted": delete_byte, "byte inserted": insert_byte, "text cut": cut_text, "field changed": change_field,
+    "text long": lengthen_text,
+}

@@ -1,0 +1,192 @@
+"""Whole inputs by chance, for every function of the header: valid, broken at one place or at two, or nothing but random bytes.
+
+Outputs are a little longer than needed, exactly as long, or (the break called "room") too short: what is needed says the plain Python's 13.
+"""
+from drawn_breaks import BREAKS, BYTES, TEXT_BREAKS
+from drawn_values import FAR
+from lines import line, recording_line, word_line
+from replies import plain_reply
+
+# ---- valid inputs, by the names of the header's parameters
+
+
+def draw_word(draw):
+    rank = draw.rank()
+    return {"rank": rank, "word": draw.word(rank, draw.length())}
+
+
+def draw_word_move(draw):
+    input = draw_word(draw)
+    return {"index": draw.index(input["rank"], input["word"]), **input}
+
+
+def draw_words(draw):
+    rank = draw.rank()
+    first, second_rank = draw.word(rank, draw.length()), rank if draw.below(5) else draw.rank()
+    second = draw.second_word(second_rank, [letter for letter in first if letter <= second_rank])
+    return {"first_rank": rank, "first": first, "second_rank": second_rank, "second": second}
+
+
+def draw_tableau(draw):
+    rank = draw.rank()
+    letters, marks = draw.tableau(rank, draw.length())
+    return {"rank": rank, "letters": letters, "marks": marks}
+
+
+def draw_tableau_move(draw):
+    input = draw_tableau(draw)
+    return {"index": draw.index(input["rank"], input["letters"]), **input}
+
+
+def draw_look(draw):
+    input = draw_tableau(draw)
+    return {"place": draw.place(len(input["letters"])), **input}
+
+
+def draw_pair(draw):
+    rank = draw.rank()
+    letters, marks, entries = draw.pair(rank, draw.length())
+    return {"rank": rank, "letters": letters, "marks": marks, "entries": entries}
+
+
+def draw_insertion(draw):
+    input = draw_pair(draw)
+    return {"used": len(input["letters"]), "letter": 1 + draw.below(input["rank"]), **input}
+
+
+def draw_recording(draw):
+    return {"entries": draw.recording(draw.length())}
+
+
+def draw_refusal(draw):
+    return {"number": draw.one_of((draw.below(15), draw.below(15), draw.one_of(FAR))), "place": draw.place(draw.one_of((12, 1024, 99999)))}
+
+
+# ---- lines, of values that may be broken
+
+
+def tableau_text(input):
+    """A T line of any letters and marks; a mark that is none is a step down."""
+    cells = [value for letter, mark in zip(input["letters"], input["marks"]) for value in ("d" if mark else "r", letter)]
+    return line("T", [input["rank"], len(cells) // 2] + cells[1:])
+
+
+TEXTS = {
+    "read_word_line": lambda input: word_line(input["rank"], input["word"]),
+    "read_tableau_line": tableau_text,
+    "read_recording_line": lambda input: recording_line(input["entries"]),
+    "answer": lambda input: word_line(input["rank"], input["word"]),
+}
+
+# ---- by function: how a valid input is drawn, and what can be broken in it
+
+WORD = ["rank", "length", "letter"]
+TABLEAU = WORD + ["parts", "falling letter", "mark"]
+PAIR = TABLEAU + ["entry", "step"]
+RECORDING = ["length", "entry", "entry"]
+TEXT = list(TEXT_BREAKS)
+
+INPUTS = {
+    "check_word": (draw_word, WORD),
+    "tableau_of_word": (draw_word, WORD + ["room"]),
+    "recording_of_word": (draw_word, WORD + ["room"]),
+    "junctions": (draw_word, WORD),
+    "raise_word": (draw_word_move, WORD + ["index"]),
+    "lower_word": (draw_word_move, WORD + ["index"]),
+    "raise_count_word": (draw_word_move, WORD + ["index"]),
+    "lower_count_word": (draw_word_move, WORD + ["index"]),
+    "same_class": (draw_words, WORD),
+    "compare_weights": (draw_words, WORD),
+    "check_tableau": (draw_tableau, TABLEAU),
+    "column_reading": (draw_tableau, TABLEAU + ["room"]),
+    "raise_tableau": (draw_tableau_move, TABLEAU + ["index"]),
+    "lower_tableau": (draw_tableau_move, TABLEAU + ["index"]),
+    "raise_count_tableau": (draw_tableau_move, TABLEAU + ["index"]),
+    "lower_count_tableau": (draw_tableau_move, TABLEAU + ["index"]),
+    "look": (draw_look, TABLEAU),
+    "cell_at": (draw_look, ["length", "letter", "parts", "falling letter", "mark"]),
+    "check_pair": (draw_pair, PAIR),
+    "insert_letter": (draw_insertion, PAIR + ["full", "room"]),
+    "word_of_pair": (draw_pair, PAIR + ["room"]),
+    "tableau_line_of_word": (draw_word, WORD + ["room"]),
+    "write_word_line": (draw_word, WORD + ["room"]),
+    "write_tableau_line": (draw_tableau, TABLEAU + ["room"]),
+    "write_recording_line": (draw_recording, RECORDING + ["room"]),
+    "write_junction_line": (draw_word, WORD + ["room"]),
+    "write_refusal_line": (draw_refusal, ["room"]),
+    "read_word_line": (draw_word, WORD + ["room"] + TEXT),
+    "read_tableau_line": (draw_tableau, WORD + ["falling letter", "mark", "room"] + TEXT),
+    "read_recording_line": (draw_recording, RECORDING + ["room"] + TEXT),
+    "answer": (draw_word, WORD + ["room"] + TEXT),
+}
+
+
+# ---- whole inputs
+
+
+def random_values(draw, parameter):
+    """Any number, any elements: few of them, of all values or of small ones."""
+    if not parameter.size:
+        return draw.one_of((draw.below(6), draw.below(70), draw.one_of(FAR)))
+    count = draw.below(9)
+    if parameter.name == "text":
+        return [draw.one_of(BYTES) for _ in range(3 * count)] if draw.below(2) else list(draw.bytes(3 * count))
+    top = draw.one_of((2, 4, 256 if parameter.size == 1 else 65536))
+    return [draw.below(top) for _ in range(count)]
+
+
+def output(draw, parameter, count):
+    """Memory for an output, with whatever it holds."""
+    return [draw.below(256) if parameter.size == 1 else draw.below(65536) for _ in range(count)] if count < 64 else [draw.below(256)] * count
+
+
+def longer(draw, needed):
+    """Room enough: exactly as much, or some more."""
+    return needed + draw.one_of((0, 0, 1, 1 + draw.below(6), 1 + draw.below(6), draw.one_of((1, 70, 1000))))
+
+
+def with_outputs(draw, function, arguments, short):
+    """The arguments, with memory for the outputs that are missing in them."""
+    outputs = [at for at, argument in enumerate(arguments) if argument is None]
+    if not outputs:
+        return arguments
+    said = plain_reply(function, [[] if argument is None else argument for argument in arguments])
+    needed = said[1] if said[0] == 13 else 0 if said[0] == 0 else draw.below(20)
+    counts = [longer(draw, needed) for _ in outputs]
+    if short and needed:
+        counts[draw.below(len(counts))] = needed - 1 if draw.below(2) else draw.below(needed)
+    for at, count in zip(outputs, counts):
+        arguments[at] = output(draw, function.parameters[at], count)
+    return arguments
+
+
+def with_cells_beyond(draw, function, input, short):
+    """In insertion: the three buffers go on after the used cells, each by itself."""
+    counts = [longer(draw, 1) for _ in range(3)]
+    if short:
+        counts[draw.below(3)] = 0
+    for parameter, count in zip(function.parameters[3:], counts):
+        if len(input[parameter.name]) >= input["used"]:
+            input[parameter.name] += output(draw, parameter, count)
+
+
+def drawn_input(draw, function):
+    """What was drawn, as a list of breaks, and the arguments in the header's order."""
+    if draw.below(20) == 0:
+        return ["random"], [random_values(draw, parameter) for parameter in function.parameters]
+    make, breaks = INPUTS[function.name]
+    input = make(draw)
+    chosen = [draw.one_of(breaks) for _ in range(draw.one_of((0, 0, 0, 1, 1, 1, 1, 1, 2)))]
+    for name in chosen:
+        if name in BREAKS:
+            BREAKS[name](draw, input)
+    if function.name in TEXTS:
+        text = bytearray(TEXTS[function.name](input))
+        for name in chosen:
+            if name in TEXT_BREAKS:
+                TEXT_BREAKS[name](draw, text)
+        input = {"text": list(text)}
+    if function.name == "insert_letter":
+        with_cells_beyond(draw, function, input, "room" in chosen)
+    arguments = [input.get(parameter.name) for parameter in function.parameters]
+    return chosen or ["none"], with_outputs(draw, function, [a % 2**64 if isinstance(a, int) else a for a in arguments], "room" in chosen)

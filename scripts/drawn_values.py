@@ -1,0 +1,116 @@
+"""Values by chance: ranks, lengths, words, tableaux and pairs. All are valid; drawn_breaks.py breaks them."""
+import random
+
+# Ranks and other numbers that are out of bounds, some of them good ones that a cut to 8, 16 or 32 bits would leave.
+FAR = [65, 66, 128, 255, 256, 257, 260, 65535, 65540, 2**32, 2**32 + 1, 2**32 + 4, 2**63, 2**63 + 4, 2**64 - 4, 2**64 - 1]
+
+
+class Draw:
+    """Where chance comes from: the same seed draws the same values."""
+
+    def __init__(self, seed):
+        self.random = random.Random(seed)
+
+    def below(self, limit):
+        """0 to limit - 1."""
+        return int(self.random.random() * limit)
+
+    def one_of(self, values):
+        return values[int(self.random.random() * len(values))]
+
+    def bytes(self, count):
+        return self.random.getrandbits(8 * count).to_bytes(count, "little") if count else b""
+
+    # ---- numbers
+
+    def rank(self):
+        return self.one_of((1 + self.below(6), 1 + self.below(6), 2 + self.below(11), 1 + self.below(64), self.one_of((1, 2, 63, 64))))
+
+    def length(self):
+        """Mostly 0 to 12; about one in 100 is long."""
+        if self.below(100):
+            return self.below(13)
+        return self.one_of((1024, 1023, self.below(1025), 13 + self.below(200), 13 + self.below(200)))
+
+    def place(self, count):
+        """A place, most often one of the first `count` or not far behind them."""
+        return self.below(count + 3) if self.below(8) else self.one_of((count, count + self.below(2000), self.one_of(FAR)))
+
+    def index(self, rank, letters):
+        """A good index, most often one that a letter has to do with. There is none at rank 1."""
+        if letters and self.below(4):
+            letter = self.one_of(letters) - self.below(2)
+            if 1 <= letter < rank:
+                return letter
+        return 1 + self.below(rank - 1) if rank > 1 else 1
+
+    # ---- words and ribbons
+
+    def word(self, rank, length):
+        """Letters of the whole rank, of a few neighbours or of two letters; in any order, rising or falling."""
+        kind = self.below(4)
+        if kind == 0:
+            letters = range(1, rank + 1)
+        elif kind == 1:
+            letters = (1 + self.below(rank), 1 + self.below(rank))
+        else:
+            least = 1 + self.below(rank)
+            letters = range(least, min(rank, least + 1 + self.below(4)) + 1)
+        word = self.random.choices(letters, k=length)
+        order = self.below(6)
+        return sorted(word, reverse=order == 1) if order < 2 else word
+
+    def tableau(self, rank, length):
+        """Rising letters, and a step down at some of the places where they rise."""
+        letters = sorted(self.word(rank, length))
+        of_four = self.below(5)
+        marks = [int(place > 0 and letter > letters[place - 1] and self.below(4) < of_four) for place, letter in enumerate(letters)]
+        return letters, marks
+
+    def pair(self, rank, length):
+        """The pair of a word: its letters sorted, equal ones as they stand; each entry a place from 1; a step down where the entry falls."""
+        word = self.word(rank, length)
+        places = sorted(range(length), key=word.__getitem__)
+        marks = [int(cell > 0 and place < places[cell - 1]) for cell, place in enumerate(places)]
+        return [word[place] for place in places], marks, [place + 1 for place in places]
+
+    def recording(self, length):
+        """1 to length in any order."""
+        entries = list(range(1, length + 1))
+        self.random.shuffle(entries)
+        return entries
+
+    def second_word(self, rank, word):
+        """A word for comparison with another: itself, its column reading, its letters shuffled, one letter away from it, or any."""
+        kind = self.below(8)
+        if kind == 0:
+            return list(word)
+        if kind == 1:
+            return self.read(word)
+        if kind == 2:
+            return self.random.sample(word, len(word))
+        if kind > 5:
+            return self.word(rank, len(word) if kind == 6 else self.length())
+        return self.near(rank, word)
+
+    def near(self, rank, word):
+        """A word with two neighbours exchanged, or with one letter less, more or changed; a new one is often the largest."""
+        place = self.below(len(word) + 1)
+        front, back = word[:place], word[place:]
+        kind = self.below(4)
+        if kind == 0:
+            return front[:-1] + back[:1] + front[-1:] + back[1:]
+        if kind == 1:
+            return front + back[1:]
+        return front + [rank if self.below(2) else 1 + self.below(rank)] + back[kind - 2 :]
+
+    def read(self, word):
+        """A word of the same class: its cells, each column turned round."""
+        places = sorted(range(len(word)), key=word.__getitem__)
+        columns = []
+        for cell, place in enumerate(places):
+            if cell > 0 and place < places[cell - 1]:
+                columns[-1].insert(0, word[place])
+            else:
+                columns.append([word[place]])
+        return [letter for column in columns for letter in column]

@@ -1,0 +1,59 @@
+"""include/luchtrav.h as data: each function with its parameters and the fields of its reply, read from the header's own text, and the library opened by it.
+
+A buffer of the header is two parameters, a pointer and `.._count`; here it is one, with the bytes of an element and whether it is `const`.
+"""
+import ctypes
+import os
+import re
+from collections import namedtuple
+
+ROOT = os.path.dirname(os.path.dirname(os.path.abspath(__file__)))
+HEADER = os.path.join(ROOT, "include", "luchtrav.h")
+LIBRARY = os.path.join(ROOT, "target", "library", "libluchtrav.so")
+
+# size: bytes of an element, 0 for a number. lent: whether the memory is lent for writing.
+Parameter = namedtuple("Parameter", "name size lent")
+Function = namedtuple("Function", "name parameters fields call")
+
+SIZES = {"uint8_t": 1, "uint16_t": 2}
+
+
+def fields_of(text):
+    """The fields of each struct. All have 64 bits."""
+    structs = {}
+    for body, name in re.findall(r"typedef struct \{(.*?)\} (\w+);", text, re.S):
+        declared = re.findall(r"(?:size_t|uint64_t) ([\w, ]+);", body)
+        structs[name] = [field for names in declared for field in names.split(", ")]
+    return structs
+
+
+def parameters_of(text):
+    """The parameters of one function."""
+    parameters, parts = [], [" ".join(part.split()) for part in text.split(",")]
+    while parts:
+        part = parts.pop(0)
+        buffer = re.fullmatch(r"(const )?(\w+) \*(\w+)", part)
+        if buffer:
+            const, element, name = buffer.groups()
+            assert parts.pop(0) == "size_t %s_count" % name, part
+            parameters.append(Parameter(name, SIZES[element], not const))
+        else:
+            parameters.append(Parameter(re.fullmatch(r"size_t (\w+)", part)[1], 0, False))
+    return parameters
+
+
+def functions_of(library):
+    """The header's functions by name, each to be called in the library: a path, or nothing for a header without its library."""
+    with open(HEADER) as file:
+        text = re.sub(r"/\*.*?\*/", "", file.read(), flags=re.S)
+    structs = fields_of(text)
+    opened = ctypes.CDLL(library) if library else None
+    functions = {}
+    for struct, name, inside in re.findall(r"(luchtrav_\w+) luchtrav_(\w+)\(([^)]*)\);", text):
+        parameters, call = parameters_of(inside), None
+        if opened:
+            call = getattr(opened, "luchtrav_" + name)
+            call.restype = type(struct, (ctypes.Structure,), {"_fields_": [(field, ctypes.c_uint64) for field in structs[struct]]})
+            call.argtypes = [kind for p in parameters for kind in ([ctypes.c_void_p, ctypes.c_size_t] if p.size else [ctypes.c_size_t])]
+        functions[name] = Function(name, parameters, structs[struct], call)
+    return functions

@@ -1,0 +1,148 @@
+"""The edits of wrong_kernels.py: what goes wrong, the module, and the text that is exchanged, which stands there once."""
+
+CHECKS = [
+    ("rank 65 passes", "meaning", "1 <= rank <= 64:", "1 <= rank <= 65:"),
+    ("rank 64 refused", "meaning", "1 <= rank <= 64:", "1 <= rank <= 63:"),
+    ("rank 0 passes", "meaning", "1 <= rank <= 64:", "0 <= rank <= 64:"),
+    ("a rank cut to 32 bits", "meaning", "1 <= rank <= 64:", "1 <= rank % 2**32 <= 64:"),
+    ("a rank cut to a byte", "meaning", "1 <= rank <= 64:", "1 <= rank % 256 <= 64:"),
+    ("1,025 letters pass", "meaning", "length > 1024", "length > 1025"),
+    ("1,024 letters refused", "meaning", "length > 1024", "length > 1023"),
+    ("a longer part passes", "meaning", "any(len(part) != len(letters)", "any(len(part) < len(letters)"),
+    ("a shorter part passes", "meaning", "any(len(part) != len(letters)", "any(len(part) > len(letters)"),
+    ("the letter 0 passes", "meaning", "1 <= letter <= rank:", "0 <= letter <= rank:"),
+    ("a letter above the rank passes", "meaning", "1 <= letter <= rank:", "1 <= letter <= rank + 1:"),
+    ("places in the second word not counted on", "meaning", "Refused(4, before + place)", "Refused(4, place)"),
+    ("the second word judged by the first's rank", "meaning", "check_letters(second_rank, second,", "check_letters(first_rank, second,"),
+    ("equal letters of a ribbon refused", "meaning", "letters[place] < letters[place - 1]", "letters[place] <= letters[place - 1]"),
+    (
+        "a fall at place 1 overlooked", "meaning",
+        "for place in range(1, len(letters)):\n        if letters[place] <",
+        "for place in range(2, len(letters)):\n        if letters[place] <",
+    ),
+    ("a first mark 1 passes", "meaning", "(place == 0 and mark != 0) or ", ""),
+    ("a step down between equals passes", "meaning", " or (mark == 1 and letters[place] == letters[place - 1])", ""),
+    ("the mark 2 passes", "meaning", "mark not in (0, 1)", "mark not in (0, 1, 2)"),
+    ("the mark 255 passes", "meaning", "mark not in (0, 1)", "mark not in (0, 1, 255)"),
+    ("an entry met before passes", "meaning", " or entry in met", ""),
+    ("the entry 0 passes", "meaning", "1 <= entry <= len(entries)", "0 <= entry <= len(entries)"),
+    ("an entry above the cells passes", "meaning", "1 <= entry <= len(entries)", "1 <= entry <= len(entries) + 1"),
+    ("a fall at a step right passes", "meaning", "rises == (marks[place] == 1)", "rises and (marks[place] == 1)"),
+    ("a rise at a step down passes", "meaning", "rises == (marks[place] == 1)", "not rises and not (marks[place] == 1)"),
+    ("the rank is an index", "meaning", "1 <= index <= rank - 1", "1 <= index <= rank"),
+    ("0 is an index", "meaning", "1 <= index <= rank - 1", "0 <= index <= rank - 1"),
+    ("an index cut to a byte", "meaning", "1 <= index <= rank - 1", "1 <= index % 256 <= rank - 1"),
+    ("an output one short passes", "meaning", "len(output) < needed", "len(output) + 1 < needed"),
+    ("an output exactly long enough refused", "meaning", "len(output) < needed", "len(output) <= needed"),
+    (
+        "2 of the first word before 1 of the second", "meaning",
+        "    check_rank(second_rank)\n    check_length(len(first))\n",
+        "    check_length(len(first))\n    check_rank(second_rank)\n",
+    ),
+    (
+        "4 of the first word before 2 of the second", "meaning",
+        "    check_length(len(second))\n    check_letters(first_rank, first)\n",
+        "    check_letters(first_rank, first)\n    check_length(len(second))\n",
+    ),
+]
+
+RIBBONS = [
+    ("a letter laid before its equals", "meaning", "other <= letter", "other < letter"),
+    ("the mark after a new cell left as it was", "meaning", "marks[at + 1] = 1", "pass"),
+    ("an entry one off", "meaning", "[len(entries) + 1]", "[len(entries)]"),
+    ("columns read downwards", "meaning", "if mark == 0:\n            word", "if mark == 1:\n            word"),
+    (
+        "elements beyond the needed ones cleared", "meaning",
+        "output[: len(values)] = values\n",
+        "output[:] = values + [0] * (len(output) - len(values))\n",
+    ),
+    ("insertion: buffers above 1,024 refused", "meaning", "    check_length(used)\n", "    check_length(max(used, len(letters)))\n"),
+    (
+        "insertion: the new letter judged after 5", "meaning",
+        "    check_letters(rank, letters[:used] + [letter])\n    check_rising(letters[:used])\n",
+        "    check_letters(rank, letters[:used])\n    check_rising(letters[:used])\n    check_letters(rank, letters[:used] + [letter])\n",
+    ),
+    ("insertion: the new letter cut to a byte", "meaning", "[:used] + [letter])", "[:used] + [letter % 256])"),
+    (
+        "insertion: 13 before 12", "meaning",
+        "    if used == 1024:\n        raise Refused(12, 1024)\n    check_room(used + 1, letters, marks, entries)\n",
+        "    check_room(used + 1, letters, marks, entries)\n    if used == 1024:\n        raise Refused(12, 1024)\n",
+    ),
+    (
+        "insertion: 13 with the used count as its place", "meaning",
+        "    check_room(used + 1, letters, marks, entries)\n",
+        "    if used >= min(len(letters), len(marks), len(entries)):\n        raise Refused(13, used)\n",
+    ),
+    (
+        "insertion: entries not judged in 1,024 cells", "meaning",
+        "    check_entries(entries[:used])\n",
+        "    if used < 1024:\n        check_entries(entries[:used])\n",
+    ),
+    (
+        "insertion: a used count above the entries passes", "meaning",
+        "used > min(len(letters), len(marks), len(entries))",
+        "used > min(len(letters), len(marks))",
+    ),
+    (
+        "insertion: a used count that equals a length refused", "meaning",
+        "used > min(len(letters), len(marks), len(entries))",
+        "used >= min(len(letters), len(marks), len(entries))",
+    ),
+    ("a place cut to 32 bits", "meaning", "if place >= len(letters)", "place %= 2**32\n    if place >= len(letters)"),
+    ("no cell where there is no mark", "meaning", "if place >= len(letters)", "if place >= min(len(letters), len(marks))"),
+    ("the column by the place", "meaning", "steps.count(0)]", "place - steps.count(1)]"),
+    ("row and column exchanged", "meaning", "steps.count(1), steps.count(0)", "steps.count(0), steps.count(1)"),
+]
+
+MOVES = [
+    ("an inversion of neighbours only", "meaning", "index in word[place:]", "index in word[place : place + 2]"),
+    ("an inversion at any step down into i+1", "meaning", " and letters[p - 1] == index", ""),
+    ("an inversion beside, not below", "meaning", "marks[p] == 1 and letters[p] == index + 1", "letters[p] == index + 1"),
+    ("leftmost and rightmost exchanged", "meaning", "places[0] if raising else places[-1]", "places[-1] if raising else places[0]"),
+    ("always the leftmost", "meaning", "places[0] if raising else places[-1]", "places[0]"),
+    ("11 for 10", "meaning", "raise Refused(10, 0)", "raise Refused(11, 0)"),
+    ("a count under an inversion", "meaning", "0 if inversion else letters.count", "letters.count"),
+    ("a row of the empty word", "meaning", "return 0 if not word else bin", "return bin"),
+    (
+        "junctions of neighbouring letters only", "meaning",
+        "if a in word[word.index(larger):]:",
+        "if larger == a + 1 and a in word[word.index(larger):]:",
+    ),
+    ("one class whatever the rank", "meaning", "first_rank == second_rank and ", ""),
+    ("one class by counts alone", "meaning", " and junction_set(first) == junction_set(second)", ""),
+    ("one class by length and junctions", "meaning", "sorted(first) == sorted(second)", "len(first) == len(second)"),
+    ("lower and higher exchanged", "meaning", "(True, False): 1, (False, True): 2", "(True, False): 2, (False, True): 1"),
+    ("weights without the letter 64", "meaning", "range(1, 65)]", "range(1, 64)]"),
+    ("weights to the first word's rank", "meaning", "range(1, 65)]", "range(1, first_rank + 1)]"),
+]
+
+LINES = [
+    ("a leading zero passes", "lines", 'digits != "0" and ', ""),
+    ("a fifth digit passes", "lines", "len(digits) < 4", "len(digits) < 5"),
+    ("a fourth digit refused", "lines", "len(digits) < 4", "len(digits) < 3"),
+    ("bytes after the line feed pass", "lines", "        if self.at < len(self.text):\n            raise Refused(14, self.at)\n", ""),
+    ("a letter of a line cut to a byte", "lines", "    letters = [scanner.field() for _", "    letters = [scanner.field() % 256 for _"),
+    (
+        "N read: 13 before 7", "lines",
+        "    check_recording(new_entries)\n    check_room(len(new_entries), entries)\n",
+        "    check_room(len(new_entries), entries)\n    check_recording(new_entries)\n",
+    ),
+    (
+        "T read: 13 before 1", "lines",
+        "    check_tableau(rank, new_letters, new_marks)\n    check_room(len(new_letters), letters, marks)\n",
+        "    check_room(len(new_letters), letters, marks)\n    check_tableau(rank, new_letters, new_marks)\n",
+    ),
+    (
+        "7 before 2", "lines",
+        "    check_length(len(entries))\n    check_entries(entries)\n",
+        "    check_entries(entries)\n    check_length(len(entries))\n",
+    ),
+    ("r and d exchanged", "lines", '"rd"[marks[place]]', '"dr"[marks[place]]'),
+    ("a place of an E line cut to four digits", "lines", 'line("E", [number, place])', 'line("E", [number, place % 10000])'),
+    ("a number of an E line cut to four bits", "lines", 'line("E", [number, place])', 'line("E", [number % 16, place])'),
+    ("4,097 bytes judged", "lines", "len(text) > 4096", "len(text) > 4097"),
+    ("4,096 bytes refused", "lines", "len(text) > 4096", "len(text) > 4095"),
+    ("the length as the place of a long input", "lines", "Refused(14, 4096)", "Refused(14, len(text))"),
+]
+
+EDITS = CHECKS + RIBBONS + MOVES + LINES
