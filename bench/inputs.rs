@@ -1,0 +1,151 @@
+//! What is measured on: words drawn by a repeatable generator, with all that belongs to them, and the memory that is lent.
+
+use crate::plain::insertion;
+use crate::plain::tableaux::column_reading;
+use crate::plain::writers::{write_recording_line, write_tableau_line, write_word_line};
+
+/// Xorshift, 64 bits.
+struct Draws(u64);
+
+impl Draws {
+    /// A number from 0 to below - 1.
+    fn below(&mut self, below: usize) -> usize {
+        self.0 ^= self.0 << 13;
+        self.0 ^= self.0 >> 7;
+        self.0 ^= self.0 << 17;
+        (self.0 >> 33) as usize % below
+    }
+
+    /// So many letters from `least` to `largest`.
+    fn word(&mut self, count: usize, least: usize, largest: usize) -> Vec<u8> {
+        (0..count)
+            .map(|_| (least + self.below(largest - least + 1)) as u8)
+            .collect()
+    }
+}
+
+/// A word with its tableau and its recording ribbon.
+pub struct Pair {
+    pub word: Vec<u8>,
+    pub letters: Vec<u8>,
+    pub marks: Vec<u8>,
+    pub entries: Vec<u16>,
+}
+
+impl Pair {
+    fn new(rank: usize, word: Vec<u8>) -> Pair {
+        let mut letters = vec![0; word.len()];
+        let mut marks = vec![0; word.len()];
+        let mut entries = vec![0; word.len()];
+        let tableau = insertion::tableau_of_word(rank, &word, &mut letters, &mut marks);
+        let recording = insertion::recording_of_word(rank, &word, &mut entries);
+        assert!(tableau.is_ok() && recording.is_ok(), "drawn word refused");
+        Pair {
+            word,
+            letters,
+            marks,
+            entries,
+        }
+    }
+}
+
+/// All inputs of one rank and number of letters.
+pub struct Input {
+    pub rank: usize,
+    pub count: usize,
+    pub word: Vec<u8>,
+    pub letters: Vec<u8>,
+    pub marks: Vec<u8>,
+    pub entries: Vec<u16>,
+    /// Another word of the same class, so that both its counts and its junction set must be looked at.
+    pub other: Vec<u8>,
+    /// The pair of all letters of the word but the last.
+    pub shorter: Pair,
+    /// Raising is defined at rank - 1 and changes the last letter, so that every scan goes to the end.
+    pub raising: Pair,
+    /// Lowering is defined at 1 and changes the first letter, likewise.
+    pub lowering: Pair,
+    pub word_line: Vec<u8>,
+    pub tableau_line: Vec<u8>,
+    pub recording_line: Vec<u8>,
+}
+
+/// What a writer of a line writes.
+fn line(write: impl Fn(&mut [u8]) -> Option<usize>) -> Vec<u8> {
+    let mut bytes = vec![0; 8192];
+    let count = write(&mut bytes).expect("a line of a drawn word");
+    bytes.truncate(count);
+    bytes
+}
+
+impl Input {
+    pub fn new(rank: usize, count: usize) -> Input {
+        let mut draws = Draws(0x9e37_79b9_7f4a_7c15 ^ (rank * 65_536 + count) as u64);
+        let Pair {
+            word,
+            letters,
+            marks,
+            entries,
+        } = Pair::new(rank, draws.word(count, 1, rank));
+        let shorter = Pair::new(rank, word[..count - 1].to_vec());
+        let mut other = vec![0; count];
+        let read = column_reading(rank, &letters, &marks, &mut other);
+        assert!(read.is_ok(), "tableau of a drawn word refused");
+        let mut raised = draws.word(count, 1, rank - 2);
+        raised[count - 1] = rank as u8;
+        let mut lowered = draws.word(count, 3, rank);
+        lowered[0] = 1;
+        Input {
+            rank,
+            count,
+            other,
+            shorter,
+            raising: Pair::new(rank, raised),
+            lowering: Pair::new(rank, lowered),
+            word_line: line(|out| write_word_line(rank, &word, out).ok()),
+            tableau_line: line(|out| write_tableau_line(rank, &letters, &marks, out).ok()),
+            recording_line: line(|out| write_recording_line(&entries, out).ok()),
+            word,
+            letters,
+            marks,
+            entries,
+        }
+    }
+}
+
+/// The memory that operations write into, longer than any of them needs.
+#[derive(Clone, PartialEq)]
+pub struct Lent {
+    pub letters: Vec<u8>,
+    pub marks: Vec<u8>,
+    pub entries: Vec<u16>,
+    pub text: Vec<u8>,
+}
+
+impl Lent {
+    pub fn new() -> Lent {
+        Lent {
+            letters: vec![170; 1100],
+            marks: vec![170; 1100],
+            entries: vec![43_690; 1100],
+            text: vec![170; 16_500],
+        }
+    }
+
+    /// A pair in the first cells.
+    pub fn holding(pair: &Pair) -> Lent {
+        let mut lent = Lent::new();
+        let count = pair.word.len();
+        lent.letters[..count].copy_from_slice(&pair.letters);
+        lent.marks[..count].copy_from_slice(&pair.marks);
+        lent.entries[..count].copy_from_slice(&pair.entries);
+        lent
+    }
+
+    /// A word in the first letters.
+    pub fn holding_word(pair: &Pair) -> Lent {
+        let mut lent = Lent::new();
+        lent.letters[..pair.word.len()].copy_from_slice(&pair.word);
+        lent
+    }
+}

@@ -1,0 +1,167 @@
+//! The checks, in rising number. As in the kernel, 4, 5, 6 and 8 make one pass over all places that leaves at none, and
+//! look for the first fault only where that pass saw one.
+
+/// The refusal of an input: its number and place.
+#[derive(Clone, Copy)]
+pub struct Refusal {
+    pub number: usize,
+    pub place: usize,
+}
+
+/// What an operation answers.
+pub type Answer<T> = Result<T, Refusal>;
+
+pub fn refuse_if(wrong: bool, number: usize, place: usize) -> Answer<()> {
+    if wrong {
+        Err(Refusal { number, place })
+    } else {
+        Ok(())
+    }
+}
+
+/// The refusal at the first place of a fault, if there is one.
+fn refuse_at(fault: Option<usize>, number: usize) -> Answer<()> {
+    fault.map_or(Ok(()), |place| Err(Refusal { number, place }))
+}
+
+pub fn check_rank(rank: usize) -> Answer<()> {
+    refuse_if(!(1..=64).contains(&rank), 1, 0)
+}
+
+pub fn check_length(length: usize) -> Answer<()> {
+    refuse_if(length > 1024, 2, 0)
+}
+
+/// 1 and 2.
+pub fn check_limits(rank: usize, length: usize) -> Answer<()> {
+    check_rank(rank)?;
+    check_length(length)
+}
+
+/// 4, its places counted on from `before`.
+pub fn check_letters(rank: usize, letters: &[u8], before: usize) -> Answer<()> {
+    let (least, largest) = letters
+        .iter()
+        .fold((u8::MAX, 0), |(least, largest): (u8, u8), &x| {
+            (least.min(x), largest.max(x))
+        });
+    if least >= 1 && usize::from(largest) <= rank {
+        return Ok(());
+    }
+    let outside = |&x: &u8| x < 1 || usize::from(x) > rank;
+    refuse_at(letters.iter().position(outside).map(|p| before + p), 4)
+}
+
+/// 5.
+fn check_rising(letters: &[u8]) -> Answer<()> {
+    let steps = || letters.iter().zip(letters.iter().skip(1));
+    if !steps().fold(false, |wrong, (before, here)| wrong | (here < before)) {
+        return Ok(());
+    }
+    let fault = steps().position(|(before, here)| here < before);
+    refuse_at(fault.map(|p| p + 1), 5)
+}
+
+/// 6, of as many marks as letters.
+fn check_marks(letters: &[u8], marks: &[u8]) -> Answer<()> {
+    refuse_if(marks.first().is_some_and(|&mark| mark > 0), 6, 0)?;
+    let steps = || {
+        let letters = letters.iter().zip(letters.iter().skip(1));
+        letters.zip(marks.iter().skip(1))
+    };
+    let wrong = |((before, here), &mark): ((&u8, &u8), &u8)| mark > u8::from(before != here);
+    if !steps().fold(false, |seen, step| seen | wrong(step)) {
+        return Ok(());
+    }
+    refuse_at(steps().position(wrong).map(|p| p + 1), 6)
+}
+
+/// 7: a table of bits, one for each entry.
+pub fn check_entries(entries: &[u16]) -> Answer<()> {
+    let mut seen = [0u64; 16];
+    for (place, &entry) in entries.iter().enumerate() {
+        let number = usize::from(entry);
+        refuse_if(number < 1 || number > entries.len(), 7, place)?;
+        let bit = 1 << ((number - 1) % 64);
+        let part = &mut seen[(number - 1) / 64];
+        refuse_if(*part & bit != 0, 7, place)?;
+        *part |= bit;
+    }
+    Ok(())
+}
+
+/// 8, of as many marks as entries.
+fn check_steps(entries: &[u16], marks: &[u8]) -> Answer<()> {
+    let steps = || {
+        let entries = entries.iter().zip(entries.iter().skip(1));
+        entries.zip(marks.iter().skip(1))
+    };
+    let broken = |((before, here), &mark): ((&u16, &u16), &u8)| {
+        (mark == 0) & (here < before) | (mark != 0) & (before < here)
+    };
+    if !steps().fold(false, |seen, step| seen | broken(step)) {
+        return Ok(());
+    }
+    refuse_at(steps().position(broken).map(|p| p + 1), 8)
+}
+
+/// 13.
+pub fn check_room(need: usize, have: usize) -> Answer<()> {
+    refuse_if(have < need, 13, need)
+}
+
+/// 1, 2 and 4 of a word.
+pub fn check_word(rank: usize, word: &[u8]) -> Answer<()> {
+    check_limits(rank, word.len())?;
+    check_letters(rank, word, 0)
+}
+
+/// 1, 2 and 4 of two words, each check over both.
+pub fn check_words(rank: usize, word: &[u8], other_rank: usize, other: &[u8]) -> Answer<()> {
+    check_rank(rank)?;
+    check_rank(other_rank)?;
+    check_length(word.len())?;
+    check_length(other.len())?;
+    check_letters(rank, word, 0)?;
+    check_letters(other_rank, other, word.len())
+}
+
+/// 4, 5 and 6.
+fn check_cells(rank: usize, letters: &[u8], marks: &[u8]) -> Answer<()> {
+    check_letters(rank, letters, 0)?;
+    check_rising(letters)?;
+    check_marks(letters, marks)
+}
+
+/// 1 to 6 of a tableau.
+pub fn check_tableau(rank: usize, letters: &[u8], marks: &[u8]) -> Answer<()> {
+    check_limits(rank, letters.len())?;
+    refuse_if(marks.len() != letters.len(), 3, 0)?;
+    check_cells(rank, letters, marks)
+}
+
+/// 1 to 8 of a pair.
+pub fn check_pair(rank: usize, letters: &[u8], marks: &[u8], entries: &[u16]) -> Answer<()> {
+    check_limits(rank, letters.len())?;
+    let alike = marks.len() == letters.len() && entries.len() == letters.len();
+    refuse_if(!alike, 3, 0)?;
+    check_cells(rank, letters, marks)?;
+    check_entries(entries)?;
+    check_steps(entries, marks)
+}
+
+/// 4 to 8 of the cells of a pair and of a letter to be inserted.
+pub fn check_used(
+    rank: usize,
+    letter: usize,
+    letters: &[u8],
+    marks: &[u8],
+    entries: &[u16],
+) -> Answer<()> {
+    check_letters(rank, letters, 0)?;
+    refuse_if(letter < 1 || letter > rank, 4, letters.len())?;
+    check_rising(letters)?;
+    check_marks(letters, marks)?;
+    check_entries(entries)?;
+    check_steps(entries, marks)
+}

@@ -1,0 +1,11 @@
+//! The operations in plain safe Rust: what the kernel is measured against. Each takes the kernel's own steps, but judges an
+//! input once and makes each table once; `insertion` is the textbook way beside them.
+
+pub mod checks;
+pub mod insertion;
+pub mod lines;
+pub mod pairs;
+pub mod readers;
+pub mod tableaux;
+pub mod words;
+pub mod writers;

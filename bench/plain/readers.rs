@@ -1,0 +1,153 @@
+//! The readers of W, T and N lines. A line is read into local memory, judged, and only then copied to the caller.
+
+use super::checks::{
+    check_entries, check_length, check_limits, check_room, check_tableau, check_word, Answer,
+    Refusal,
+};
+
+/// A line, read from the left: its bytes, and the place of the next.
+struct Reader<'a> {
+    text: &'a [u8],
+    at: usize,
+}
+
+impl Reader<'_> {
+    /// The refusal 14 at the next byte.
+    fn broken<T>(&self) -> Answer<T> {
+        Err(Refusal {
+            number: 14,
+            place: self.at,
+        })
+    }
+
+    /// One given byte.
+    fn byte(&mut self, byte: u8) -> Answer<()> {
+        if self.text.get(self.at) != Some(&byte) {
+            return self.broken();
+        }
+        self.at += 1;
+        Ok(())
+    }
+
+    /// The digit that stands next, if one does.
+    fn digit(&self) -> Option<u16> {
+        let byte = self.text.get(self.at)?;
+        byte.is_ascii_digit().then(|| u16::from(byte - b'0'))
+    }
+
+    /// A comma and a number: one to four digits, and after a leading 0 nothing more.
+    fn field(&mut self) -> Answer<u16> {
+        self.byte(b',')?;
+        let Some(mut value) = self.digit() else {
+            return self.broken();
+        };
+        self.at += 1;
+        if value == 0 {
+            return Ok(0);
+        }
+        for _ in 0..3 {
+            let Some(digit) = self.digit() else {
+                break;
+            };
+            value = value * 10 + digit;
+            self.at += 1;
+        }
+        Ok(value)
+    }
+
+    /// A comma and the letter of a step, as a mark.
+    fn step(&mut self) -> Answer<u8> {
+        self.byte(b',')?;
+        let mark = match self.text.get(self.at) {
+            Some(b'r') => 0,
+            Some(b'd') => 1,
+            _ => return self.broken(),
+        };
+        self.at += 1;
+        Ok(mark)
+    }
+
+    /// The line feed, and nothing after it.
+    fn end(&mut self) -> Answer<()> {
+        self.byte(b'\n')?;
+        if self.at < self.text.len() {
+            return self.broken();
+        }
+        Ok(())
+    }
+}
+
+/// A number as a letter: one that no byte holds becomes 0, which is no letter either.
+fn narrow(number: u16) -> u8 {
+    u8::try_from(number).unwrap_or(0)
+}
+
+/// Keeps a value where there is room for it.
+fn keep<T>(values: &mut [T], place: usize, value: T) {
+    if let Some(kept) = values.get_mut(place) {
+        *kept = value;
+    }
+}
+
+pub fn read_word_line(text: &[u8], letters: &mut [u8]) -> Answer<(usize, usize)> {
+    let mut line = Reader { text, at: 0 };
+    let mut word = [0; 1024];
+    line.byte(b'W')?;
+    let rank = usize::from(line.field()?);
+    let count = usize::from(line.field()?);
+    for i in 0..count {
+        keep(&mut word, i, narrow(line.field()?));
+    }
+    line.end()?;
+    check_limits(rank, count)?;
+    let word = &word[..count];
+    check_word(rank, word)?;
+    check_room(count, letters.len())?;
+    letters[..count].copy_from_slice(word);
+    Ok((rank, count))
+}
+
+pub fn read_tableau_line(
+    text: &[u8],
+    letters: &mut [u8],
+    marks: &mut [u8],
+) -> Answer<(usize, usize)> {
+    let mut line = Reader { text, at: 0 };
+    let mut cells = [0; 1024];
+    let mut steps = [0; 1024];
+    line.byte(b'T')?;
+    let rank = usize::from(line.field()?);
+    let count = usize::from(line.field()?);
+    for i in 0..count {
+        let mark = if i == 0 { 0 } else { line.step()? };
+        keep(&mut cells, i, narrow(line.field()?));
+        keep(&mut steps, i, mark);
+    }
+    line.end()?;
+    check_limits(rank, count)?;
+    let cells = &cells[..count];
+    let steps = &steps[..count];
+    check_tableau(rank, cells, steps)?;
+    check_room(count, letters.len())?;
+    check_room(count, marks.len())?;
+    letters[..count].copy_from_slice(cells);
+    marks[..count].copy_from_slice(steps);
+    Ok((rank, count))
+}
+
+pub fn read_recording_line(text: &[u8], entries: &mut [u16]) -> Answer<usize> {
+    let mut line = Reader { text, at: 0 };
+    let mut ribbon = [0; 1024];
+    line.byte(b'N')?;
+    let count = usize::from(line.field()?);
+    for i in 0..count {
+        keep(&mut ribbon, i, line.field()?);
+    }
+    line.end()?;
+    check_length(count)?;
+    let ribbon = &ribbon[..count];
+    check_entries(ribbon)?;
+    check_room(count, entries.len())?;
+    entries[..count].copy_from_slice(ribbon);
+    Ok(count)
+}

@@ -1,0 +1,129 @@
+#!/usr/bin/env python3
+"""What a call from Python costs, in microseconds, as Markdown: the binding, the bare call through ctypes, the call from Rust.
+
+    bench/python_call.py
+
+It needs what bench/run.py needs, and target/library/libluchtrav.so or the path of another in LUCHTRAV_LIBRARY.
+"""
+
+import os
+import random
+import subprocess
+import sys
+from ctypes import CDLL, Structure, c_size_t, c_void_p, create_string_buffer
+from time import perf_counter_ns
+
+sys.dont_write_bytecode = True
+from run import ROOT, build, table
+
+sys.path.insert(0, str(ROOT / "bindings" / "python"))
+import luchtrav
+
+RANK = 16
+LETTERS = (256, 1024)
+ROUNDS = 3000
+CALLS_A_ROUND = 10
+
+SHARED = os.environ.get("LUCHTRAV_LIBRARY") or ROOT / "target/library/libluchtrav.so"
+LIBRARY = CDLL(str(SHARED))
+
+
+class Reply(Structure):
+    """luchtrav_count and luchtrav_class, which are alike."""
+
+    _fields_ = [("number", c_size_t), ("place", c_size_t), ("value", c_size_t)]
+
+
+def bare(name, types):
+    """A function of the library without the binding."""
+    function = getattr(LIBRARY, "luchtrav_" + name)
+    function.restype = Reply
+    function.argtypes = types
+    return function
+
+
+def buffers(*values):
+    return [create_string_buffer(value, len(value)) for value in values]
+
+
+def ways(operation, words, call, bare_call):
+    """The operation on words of equal length: the binding from lists and from bytes, and the bare call."""
+    assert bare_call().number == 0
+    lists = [list(word) for word in words]
+    calls = [lambda: call(*lists), lambda: call(*words), bare_call]
+    return operation, len(words[0]), calls
+
+
+def tableau_ways(word):
+    letters = len(word)
+    first, cells, marks = buffers(word, word, word)
+    buffer = [c_void_p, c_size_t]
+    function = bare("tableau_of_word", [c_size_t, *buffer, *buffer, *buffer])
+    return ways(
+        "tableau_of_word",
+        [word],
+        lambda given: luchtrav.tableau_of_word(RANK, given),
+        lambda: function(RANK, first, letters, cells, letters, marks, letters),
+    )
+
+
+def class_ways(word, other):
+    letters = len(word)
+    first, second = buffers(word, other)
+    function = bare("same_class", 2 * [c_size_t, c_void_p, c_size_t])
+    return ways(
+        "same_class",
+        [word, other],
+        lambda given, beside: luchtrav.same_class(RANK, given, RANK, beside),
+        lambda: function(RANK, first, letters, RANK, second, letters),
+    )
+
+
+def operations():
+    """What is measured: a drawn word, and beside it another of its class."""
+    draws = random.Random(1)
+    for letters in LETTERS:
+        word = bytes(draws.randint(1, RANK) for _ in range(letters))
+        tableau = luchtrav.tableau_of_word(RANK, word)
+        other = bytes(luchtrav.column_reading(RANK, *tableau))
+        yield tableau_ways(word)
+        yield class_ways(word, other)
+
+
+def microseconds(calls):
+    """The best of many short rounds for each call, in turns, so that a busy spell of the machine meets all alike."""
+    best = [None] * len(calls)
+    for _ in range(ROUNDS):
+        for i, call in enumerate(calls):
+            start = perf_counter_ns()
+            for _ in range(CALLS_A_ROUND):
+                call()
+            spent = perf_counter_ns() - start
+            if best[i] is None or spent < best[i]:
+                best[i] = spent
+    return [spent / CALLS_A_ROUND / 1000 for spent in best]
+
+
+def from_rust(program, operation, letters):
+    """The same operation on a word of the same rank and length."""
+    command = [program, operation, str(RANK), str(letters)]
+    told = [subprocess.check_output(command, text=True) for _ in range(20)]
+    return min(int(nanoseconds) for nanoseconds in told) / 1000
+
+
+def main():
+    program = build()
+    measured = list(operations())
+    spent = iter(microseconds([call for *_, calls in measured for call in calls]))
+    rows = []
+    for operation, letters, calls in measured:
+        costs = [next(spent) for _ in calls]
+        costs.append(from_rust(program, operation, letters))
+        cells = [f"{cost:.1f}" for cost in costs]
+        rows.append([f"`{operation}`", f"{letters:,}", *cells])
+    head = ["operation", "letters", "lists", "bytes", "bare ctypes call", "Rust"]
+    table(head, rows)
+
+
+if __name__ == "__main__":
+    main()

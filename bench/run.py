@@ -1,0 +1,211 @@
+#!/usr/bin/env python3
+"""Builds the benchmark, runs it under callgrind and prints instructions a letter as Markdown.
+
+    bench/run.py            prints
+    bench/run.py write      writes the same into docs/SPEED.md, from its mark on
+
+It needs rustc, valgrind and target/library/libluchtrav.a; its own files go to target/bench/.
+"""
+
+import subprocess
+import sys
+from contextlib import redirect_stdout
+from pathlib import Path
+
+ROOT = Path(__file__).resolve().parent.parent
+LIBRARY = ROOT / "target" / "library" / "libluchtrav.a"
+PLACE = ROOT / "target" / "bench"
+PAGE = ROOT / "docs" / "SPEED.md"
+MARK = "<!-- From here on as `bench/run.py write` writes it. -->\n\n"
+FLAGS = ["--edition=2021", "-Copt-level=3", "-Ccodegen-units=1"]
+
+RANKS = (4, 16, 64)
+LETTERS = (256, 512, 1024)
+TOLERANCE = 0.1
+LARGE = 1.2
+
+
+def run(command):
+    """Runs a command, and ends with it where it fails: it has said why."""
+    if subprocess.run(command).returncode:
+        sys.exit(1)
+
+
+def build():
+    """The benchmark's program."""
+    if not LIBRARY.exists():
+        sys.exit(f"no {LIBRARY}: scripts/library makes it")
+    PLACE.mkdir(parents=True, exist_ok=True)
+    program = PLACE / "bench"
+    source = ROOT / "bench" / "bench.rs"
+    run(["rustc", *FLAGS, f"-Clink-arg={LIBRARY}", "-o", program, source])
+    return program
+
+
+def measure(program):
+    """The instructions of each call, without those of counting itself."""
+    out = PLACE / "callgrind.out"
+    run(
+        [
+            "valgrind",
+            "--tool=callgrind",
+            f"--callgrind-out-file={out}",
+            "--combine-dumps=yes",
+            f"--log-file={PLACE / 'callgrind.log'}",
+            program,
+        ]
+    )
+    found, units, name = {}, {}, None
+    for line in out.read_text().splitlines():
+        if line.startswith("desc: Trigger: Client Request: "):
+            name = line.rsplit(" ", 1)[1].split(",")
+        elif line.startswith("totals: ") and name:
+            operation, rank, letters, per, kind = name
+            found[operation, int(rank), int(letters), kind] = int(line.split()[1])
+            units[operation, int(letters)] = int(per)
+            name = None
+    itself = found.pop(("nothing", 0, 0, "nothing"))
+    return Counts({key: count - itself for key, count in found.items()}, units)
+
+
+def table(head, rows):
+    """A Markdown table; every column but the first is of numbers."""
+    print("| " + " | ".join(head) + " |")
+    print("|---|" + "---:|" * (len(head) - 1))
+    for cells in rows:
+        print("| " + " | ".join(str(cell) for cell in cells) + " |")
+    print()
+
+
+def sizes(kind):
+    return [f"{kind} {letters:,}" for letters in LETTERS]
+
+
+class Counts:
+    """The counts of one run, in the order of the operations."""
+
+    def __init__(self, found, units):
+        self.found = found
+        self.units = units
+        self.operations = list(dict.fromkeys(key[0] for key in found))
+
+    def has(self, operation, kind):
+        return (operation, RANKS[0], LETTERS[0], kind) in self.found
+
+    def totals(self, operation, rank, kind):
+        return [self.found[operation, rank, n, kind] for n in LETTERS]
+
+    def costs(self, operation, rank, kind):
+        """Instructions for each unit."""
+        totals = self.totals(operation, rank, kind)
+        return [
+            total / self.units[operation, n] for total, n in zip(totals, LETTERS)
+        ]
+
+    def ratios(self, operation, rank, kind, base):
+        totals = self.totals(operation, rank, kind)
+        return [a / b for a, b in zip(totals, self.totals(operation, rank, base))]
+
+
+def cells(values, digits=2):
+    return [f"{value:,.{digits}f}" for value in values]
+
+
+def print_costs(counts):
+    """Kernel and plain Rust, and the ratio."""
+    rows = [
+        [
+            f"`{operation}`",
+            rank,
+            *cells(counts.costs(operation, rank, "kernel")),
+            *cells(counts.costs(operation, rank, "plain")),
+            *cells(counts.ratios(operation, rank, "kernel", "plain")),
+        ]
+        for operation in counts.operations
+        for rank in RANKS
+    ]
+    print("## Instructions a letter\n")
+    head = [*sizes("kernel"), *sizes("Rust"), *sizes("ratio")]
+    table(["operation", "rank", *head], rows)
+    print(
+        "`same_class` and `compare_weights`: for each letter of both words. `insert_letter`: for each cell of the pair"
+        " before the insertion. `write_refusal_line`: for the whole call.\n"
+    )
+
+
+def print_insertion(counts):
+    """Plain insertion, where it exists."""
+    rows = [
+        [
+            f"`{operation}`",
+            rank,
+            *cells(counts.costs(operation, rank, "insertion"), 0),
+            *cells(counts.ratios(operation, rank, "insertion", "kernel"), 0),
+        ]
+        for operation in counts.operations
+        for rank in RANKS
+        if counts.has(operation, "insertion")
+    ]
+    print("## Plain insertion\n")
+    head = [*sizes("insertion"), *sizes("ratio to kernel")]
+    table(["operation", "rank", *head], rows)
+
+
+def print_growth(counts):
+    """Where the kernel's instructions do not grow as the letters do."""
+    rows = []
+    for operation in counts.operations:
+        if counts.units[operation, LETTERS[0]] == counts.units[operation, LETTERS[-1]]:
+            continue
+        for rank in RANKS:
+            few, some, many = counts.totals(operation, rank, "kernel")
+            growth = (many - some) / (some - few)
+            if abs(growth / 2 - 1) > TOLERANCE:
+                totals = cells([few, some, many], 0)
+                rows.append([f"`{operation}`", rank, *totals, f"{growth:.2f}"])
+    print("## Growth\n")
+    print(
+        "What 512 more letters cost, over what 256 more cost before them, is 2"
+        f" within {TOLERANCE:.0%}{', except:' if rows else ' everywhere.'}\n"
+    )
+    if rows:
+        table(["operation", "rank", *sizes("kernel"), "growth"], rows)
+
+
+def print_large(counts):
+    """The operations to be looked into."""
+    print(f"## Above {LARGE} times plain Rust\n")
+    largest = {
+        operation: max(
+            ratio
+            for rank in RANKS
+            for ratio in counts.ratios(operation, rank, "kernel", "plain")
+        )
+        for operation in counts.operations
+    }
+    large = {operation: ratio for operation, ratio in largest.items() if ratio > LARGE}
+    for operation, ratio in large.items():
+        print(f"- `{operation}`: up to {ratio:.2f}")
+    if not large:
+        print("None.")
+
+
+def print_all(counts):
+    print_costs(counts)
+    print_insertion(counts)
+    print_growth(counts)
+    print_large(counts)
+
+
+def main():
+    counts = measure(build())
+    if sys.argv[1:] != ["write"]:
+        return print_all(counts)
+    prose = PAGE.read_text().split(MARK)[0]
+    with PAGE.open("w") as page, redirect_stdout(page):
+        print(prose, MARK, sep="", end="")
+        print_all(counts)
+
+
+if __name__ == "__main__":
+    main()
