@@ -58,9 +58,6 @@ module _ {s t : Said} (e : s ≡ t) where
   pub junction-said : {r : JunctionReply} → r ≡ junctionOf s → r ≡ junctionOf t
   junction-said h = rw (← e) h
 
-  pub line-said : {r : LineReply} → r ≡ lineOf s → r ≡ lineOf t
-  line-said h = rw (← e) h
-
   pub cell-said : {r : CellReply} → r ≡ cellOf s → r ≡ cellOf t
   cell-said h = rw (← e) h
 
@@ -139,13 +136,47 @@ abbrev pub refusedRecording : RecordingLine → Refusal
 refusedRecording (recordingLine.Recording l) = Line 0
 refusedRecording (recordingLine.Refused q) = q
 
-pub word-refused-told : {a : WordLine} {q p : Refusal} {r : LineReply} → a ≡ wordLine.Refused q → p ≡ refusedWord a → r ≡ lineOf (saidRefusal p) → r ≡ lineOf (saidWordLine a)
-word-refused-told e f h = rw (e) (h ∙ rw (f, e))
+pub word-refused-told : {a : WordLine} {q p : Refusal} {r : LineReply} → a ≡ wordLine.Refused q → p ≡ refusedWord a
+    → r ≡ lineOf (saidRefusal p) → r ≡ lineOf (saidWordLine a)
+word-refused-told e f h = rw e (h ∙ rw (f, e))
 
-pub tableau-refused-told : {a : TableauLine} {q p : Refusal} {r : LineReply} → a ≡ tableauLine.Refused q → p ≡ refusedTableau a → r ≡ lineOf (saidRefusal p) → r ≡ lineOf (saidTableauLine a)
-tableau-refused-told e f h = rw (e) (h ∙ rw (f, e))
+pub tableau-refused-told : {a : TableauLine} {q p : Refusal} {r : LineReply} → a ≡ tableauLine.Refused q → p ≡ refusedTableau a
+    → r ≡ lineOf (saidRefusal p) → r ≡ lineOf (saidTableauLine a)
+tableau-refused-told e f h = rw e (h ∙ rw (f, e))
 
-pub recording-refused-told : {a : RecordingLine} {q p : Refusal} {r : CountReply} → a ≡ recordingLine.Refused q → p ≡ refusedRecording a → r ≡ countOf (saidRefusal p) → r ≡ countOf (saidRecordingLine a)
-recording-refused-told e f h = rw (e) (h ∙ rw (f, e))
+pub recording-refused-told : {a : RecordingLine} {q p : Refusal} {r : CountReply} → a ≡ recordingLine.Refused q → p ≡ refusedRecording a
+    → r ≡ countOf (saidRefusal p) → r ≡ countOf (saidRecordingLine a)
+recording-refused-told e f h = rw e (h ∙ rw (f, e))
 
-pub ruleset replying = (passed-on, done-said, count-said, class-said, order-said, junction-said, line-said, cell-said, done-refused, count-refused, class-refused, order-refused, junction-refused, line-refused, cell-refused, verdict-case, move-case, written-case, inserted-case, repeat-case, recording-line-case, class-case, weights-case, junctions-case, word-line-case, tableau-line-case, cell-case, word-refused-told, tableau-refused-told, recording-refused-told, needs)
+pub ruleset replying = (
+  passed-on,
+  done-said,
+  count-said,
+  class-said,
+  order-said,
+  junction-said,
+  cell-said,
+  done-refused,
+  count-refused,
+  class-refused,
+  order-refused,
+  junction-refused,
+  line-refused,
+  cell-refused,
+  verdict-case,
+  move-case,
+  written-case,
+  inserted-case,
+  repeat-case,
+  recording-line-case,
+  class-case,
+  weights-case,
+  junctions-case,
+  word-line-case,
+  tableau-line-case,
+  cell-case,
+  word-refused-told,
+  tableau-refused-told,
+  recording-refused-told,
+  needs,
+)
