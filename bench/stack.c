@@ -1,0 +1,91 @@
+/* How much stack each function of the C interface takes, with words of 1,024 letters at rank 64.
+ *
+ * Each is called on a stack of its own that was painted before; what is no longer painted was used, the start of the
+ * call among it. Fails where a call was refused, or took more than include/luchtrav.h says.
+ */
+#include <stdio.h>
+#include <string.h>
+#include <ucontext.h>
+
+#include "luchtrav.h"
+
+enum { RANK = LUCHTRAV_RANKS, L = LUCHTRAV_LETTERS, STACK = 1 << 18, PAINT = 0xA5, SAID = 40000 };
+
+/* A word with its pair, its lines, one tableau of equal letters for moves, and a pair with one cell left for insertion. */
+static uint8_t word[L], letters[L], marks[L], same[L], level[L], first[L], steps[L];
+static uint16_t entries[L], places[L];
+static uint8_t w_line[LUCHTRAV_LINE_BYTES], t_line[LUCHTRAV_LINE_BYTES], n_line[LUCHTRAV_LINE_BYTES];
+static size_t w_count, t_count, n_count;
+static uint8_t bytes[LUCHTRAV_ANSWER_BYTES], more[L];
+static uint16_t wide[L];
+static size_t refused;
+
+static void prepare(void) {
+    for (size_t i = 0; i < L; i++) word[i] = (uint8_t)(1 + (i * 37 + i / 5) % RANK);
+    memset(same, 2, L);
+    luchtrav_tableau_of_word(RANK, word, L, letters, L, marks, L);
+    luchtrav_recording_of_word(RANK, word, L, entries, L);
+    luchtrav_tableau_of_word(RANK, word, L - 1, first, L, steps, L);
+    luchtrav_recording_of_word(RANK, word, L - 1, places, L);
+    w_count = luchtrav_write_word_line(RANK, word, L, w_line, sizeof w_line).count;
+    t_count = luchtrav_write_tableau_line(RANK, letters, L, marks, L, t_line, sizeof t_line).count;
+    n_count = luchtrav_write_recording_line(entries, L, n_line, sizeof n_line).count;
+}
+
+#define WORD RANK, word, L
+#define TABLEAU RANK, letters, L, marks, L
+#define OUT bytes, sizeof bytes
+#define CALLS(call) \
+    call(check_word, WORD) call(tableau_of_word, WORD, bytes, L, more, L) call(recording_of_word, WORD, wide, L) \
+    call(junctions, WORD) call(raise_word, RANK, 1, same, L) call(lower_word, RANK, 2, same, L) \
+    call(raise_count_word, RANK, 1, word, L) call(lower_count_word, RANK, 1, word, L) \
+    call(same_class, WORD, WORD) call(compare_weights, WORD, WORD) \
+    call(check_tableau, TABLEAU) call(column_reading, TABLEAU, OUT) \
+    call(raise_tableau, RANK, 2, same, L, level, L) call(lower_tableau, RANK, 2, same, L, level, L) \
+    call(raise_count_tableau, RANK, 1, letters, L, marks, L) call(lower_count_tableau, RANK, 1, letters, L, marks, L) \
+    call(look, TABLEAU, L - 1) call(cell_at, letters, L, marks, L, L - 1) \
+    call(check_pair, TABLEAU, entries, L) call(insert_letter, RANK, L - 1, 1, first, L, steps, L, places, L) \
+    call(word_of_pair, TABLEAU, entries, L, OUT) call(tableau_line_of_word, WORD, OUT) \
+    call(write_word_line, WORD, OUT) call(write_tableau_line, TABLEAU, OUT) \
+    call(write_recording_line, entries, L, OUT) call(write_junction_line, WORD, OUT) \
+    call(write_refusal_line, 14, 4096, OUT) call(read_word_line, w_line, w_count, more, L) \
+    call(read_tableau_line, t_line, t_count, bytes, L, more, L) call(read_recording_line, n_line, n_count, wide, L) \
+    call(answer, w_line, w_count, OUT)
+
+#define DEFINE(name, ...) \
+    static void name(void) { refused = luchtrav_##name(__VA_ARGS__).number; }
+#define ENTRY(name, ...) {#name, name},
+
+CALLS(DEFINE)
+
+static const struct {
+    const char *name;
+    void (*call)(void);
+} calls[] = {CALLS(ENTRY)};
+
+/* The bytes of a painted stack that a call no longer leaves painted. */
+static size_t used_by(void (*call)(void)) {
+    static uint8_t stack[STACK];
+    ucontext_t here, there;
+    size_t painted = 0;
+    memset(stack, PAINT, STACK);
+    getcontext(&there);
+    there.uc_stack.ss_sp = stack;
+    there.uc_stack.ss_size = STACK;
+    there.uc_link = &here;
+    makecontext(&there, call, 0);
+    swapcontext(&here, &there);
+    while (painted < STACK && stack[painted] == PAINT) painted++;
+    return STACK - painted;
+}
+
+int main(void) {
+    size_t wrong = 0;
+    prepare();
+    for (size_t i = 0; i < sizeof calls / sizeof *calls; i++) {
+        size_t bytes_used = used_by(calls[i].call);
+        printf("%-22s %6zu%s\n", calls[i].name, bytes_used, refused ? " refused" : "");
+        wrong += refused != 0 || bytes_used > SAID;
+    }
+    return wrong != 0;
+}
