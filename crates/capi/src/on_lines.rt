@@ -1,15 +1,15 @@
 // The C interface to lines: written, read, and the program's answer. Each function is one of the kernel's, its answer as a struct of numbers.
-use crate::converters::count_recording;
-use crate::converters::count_written;
-use crate::converters::tableau_line_reply;
-use crate::converters::word_line_reply;
-use crate::replies::CountReply;
-use crate::replies::LineReply;
 use lines::answer::answer;
 use lines::tableau::tableau_line_of_word;
 use readers::recording::read_recording_line;
 use readers::tableau::read_tableau_line;
 use readers::word::read_word_line;
+use structs::converters::count_recording;
+use structs::converters::count_written;
+use structs::converters::tableau_line_reply;
+use structs::converters::word_line_reply;
+use structs::replies::CountReply;
+use structs::replies::LineReply;
 use writers::line::write_junction_line;
 use writers::line::write_recording_line;
 use writers::line::write_returned_line;
@@ -18,7 +18,7 @@ use writers::line::write_word_line;
 ghost use mathlib.Core.Path.{_≡_};
 ghost use Rattle.hypoplactic.specs.LineOperations.{eLineRun, jLineRun, nLineRun, tLineRun, tableauLineRun, wLineRun};
 ghost use Rattle.hypoplactic.specs.LineReadings.{answerRun, readNRun, readTRun, readWRun};
-ghost use Rattle.capi.specs.Replies.{countOf, lineOf, replied};
+ghost use Rattle.structs.specs.Replies.{countOf, lineOf, replied};
 
 // The tableau line of a word.
 #[no_mangle]

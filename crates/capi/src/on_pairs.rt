@@ -1,18 +1,18 @@
 // The C interface to pairs of a tableau and a recording ribbon: checks, one letter inserted, the way back. Each function is one of the kernel's, its answer as a
 // struct of numbers.
-use crate::converters::count_inserted;
-use crate::converters::count_written;
-use crate::converters::done_verdict;
-use crate::replies::CountReply;
-use crate::replies::DoneReply;
+use inverses::way_back::word_of_pair;
 use pairs::insertion::insert_letter;
-use pairs::way_back::word_of_pair;
+use structs::converters::count_inserted;
+use structs::converters::count_written;
+use structs::converters::done_verdict;
+use structs::replies::CountReply;
+use structs::replies::DoneReply;
 use validity::tableau::check_pair;
 ghost use mathlib.Core.Path.{_≡_};
 ghost use Rattle.hypoplactic.specs.Judgements.{pairJudgements};
 ghost use Rattle.hypoplactic.specs.Replies.{first, passed};
 ghost use Rattle.hypoplactic.specs.TableauOperations.{insertRun, wordRun};
-ghost use Rattle.capi.specs.Replies.{countOf, doneOf, replied};
+ghost use Rattle.structs.specs.Replies.{countOf, doneOf, replied};
 
 // 1 to 8 of a pair.
 #[no_mangle]

@@ -1,17 +1,17 @@
 // The C interface to tableaux: checks, column reading, moves, a look at a cell. Each function is one of the kernel's, its answer as a struct of numbers.
-use crate::converters::cell_reply;
-use crate::converters::count_repeat;
-use crate::converters::count_written;
-use crate::converters::done_move;
-use crate::converters::done_verdict;
-use crate::replies::CellReply;
-use crate::replies::CountReply;
-use crate::replies::DoneReply;
+use columns::reading::column_reading;
+use structs::converters::cell_reply;
+use structs::converters::count_repeat;
+use structs::converters::count_written;
+use structs::converters::done_move;
+use structs::converters::done_verdict;
+use structs::replies::CellReply;
+use structs::replies::CountReply;
+use structs::replies::DoneReply;
 use tableaux::moves::lower_count_tableau;
 use tableaux::moves::lower_tableau;
 use tableaux::moves::raise_count_tableau;
 use tableaux::moves::raise_tableau;
-use tableaux::reading::column_reading;
 use validity::tableau::check_tableau;
 use viewer::cells::cell_at;
 use viewer::viewers::look_once;
@@ -20,7 +20,7 @@ ghost use Rattle.hypoplactic.specs.Judgements.{tableauJudgements};
 ghost use Rattle.hypoplactic.specs.Moves.{lowering, raising};
 ghost use Rattle.hypoplactic.specs.Replies.{first, gives, passed};
 ghost use Rattle.hypoplactic.specs.TableauOperations.{cellAt, lookSays, moveTableauRun, readingRun, repeatTableauSays};
-ghost use Rattle.capi.specs.Replies.{cellOf, countOf, doneOf, replied};
+ghost use Rattle.structs.specs.Replies.{cellOf, countOf, doneOf, replied};
 
 // 1 to 6 of a tableau: the making of a ribbon viewer.
 #[no_mangle]

@@ -1,34 +1,34 @@
 // The C interface to words: checks, tableau, recording ribbon, junction set, moves, classes and weights. Each function is one of the kernel's, its answer as a
 // struct of numbers.
-use crate::converters::class_reply;
-use crate::converters::count_repeat;
-use crate::converters::count_written;
-use crate::converters::done_move;
-use crate::converters::done_verdict;
-use crate::converters::junction_reply;
-use crate::converters::order_reply;
-use crate::replies::ClassReply;
-use crate::replies::CountReply;
-use crate::replies::DoneReply;
-use crate::replies::JunctionReply;
-use crate::replies::OrderReply;
+use acceptance::word::check_word;
 use comparisons::classes::same_class;
 use comparisons::weights::compare_weights;
-use refusals::word::check_word;
+use operators::moves::lower_count_word;
+use operators::moves::lower_word;
+use operators::moves::raise_count_word;
+use operators::moves::raise_word;
 use ribbons::recording::recording_of_word;
 use ribbons::tableau::tableau_of_word;
+use structs::converters::class_reply;
+use structs::converters::count_repeat;
+use structs::converters::count_written;
+use structs::converters::done_move;
+use structs::converters::done_verdict;
+use structs::converters::junction_reply;
+use structs::converters::order_reply;
+use structs::replies::ClassReply;
+use structs::replies::CountReply;
+use structs::replies::DoneReply;
+use structs::replies::JunctionReply;
+use structs::replies::OrderReply;
 use words::junctions::junctions;
-use words::moves::lower_count_word;
-use words::moves::lower_word;
-use words::moves::raise_count_word;
-use words::moves::raise_word;
 ghost use mathlib.Core.Path.{_≡_};
 ghost use Rattle.hypoplactic.specs.Judgements.{wordJudgements};
 ghost use Rattle.hypoplactic.specs.Moves.{lowering, raising};
 ghost use Rattle.hypoplactic.specs.Replies.{first, passed};
 ghost use Rattle.hypoplactic.specs.TableauOperations.{recordingRun, tableauRun};
 ghost use Rattle.hypoplactic.specs.WordOperations.{junctionSays, moveWordRun, repeatWordSays, sameClassSays, weightsSays};
-ghost use Rattle.capi.specs.Replies.{classOf, countOf, doneOf, junctionOf, orderOf, replied};
+ghost use Rattle.structs.specs.Replies.{classOf, countOf, doneOf, junctionOf, orderOf, replied};
 
 // 1, 2 and 4 of a word.
 #[no_mangle]

@@ -30,7 +30,7 @@ use Rattle.hypoplactic.proofs.Theory.Limits.{accepted-within, count-outside}
 use Rattle.words.specs.Given.{accepted-counts, countGiven}
 use Rattle.words.specs.Tables.{Table}
 use Rattle.hypoplactic.proofs.Theory.Passing.{first-else}
-use Rattle.refusals.specs.Passed.{judging}
+use Rattle.acceptance.specs.Passed.{judging}
 
 -- ---- on tables
 

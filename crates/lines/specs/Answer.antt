@@ -19,7 +19,7 @@ use Rattle.hypoplactic.proofs.Theory.Judgements.{room-judged}
 use Rattle.hypoplactic.proofs.Theory.LineResults.{e-line-result}
 use Rattle.hypoplactic.proofs.Theory.Memory.{written-length, written-needed}
 use Rattle.refusals.specs.Chains.{ends}
-use Rattle.refusals.specs.Copies.{copied, copied-all}
+use Rattle.buffers.specs.Copies.{copied, copied-all}
 use Rattle.refusals.specs.Running.{checksThen, run-passed, run-refused, then-passing}
 use Rattle.refusals.specs.Said.{number, place, saidRefusal, saidVerdict, saidWordLine, saidWritten}
 use Rattle.refusals.specs.declared.refusal.Refusal.{Refusal}

@@ -1,9 +1,9 @@
 // The four lines of an accepted word, each printed straight after the one before it.
 use crate::tableau::tableau_line_of_word;
+use columns::reading::column_reading;
 use refusals::answers::Written;
 use ribbons::recording::recording_of_word;
 use ribbons::tableau::tableau_of_word;
-use tableaux::reading::column_reading;
 use writers::line::write_junction_line;
 use writers::line::write_recording_line;
 use writers::line::write_word_line;

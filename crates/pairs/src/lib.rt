@@ -1,7 +1,4 @@
-// Operations on a pair, a tableau with its recording ribbon: one letter inserted, and the way back to the word. Every public function takes whatever it is
-// given; an operation answers a result or the exact refusal.
-mod checks;
+// A pair, a tableau with its recording ribbon, in lent memory: one letter inserted. The operation takes whatever it is given and answers a result or the
+// exact refusal.
 pub mod insertion;
 mod seats;
-mod shifts;
-pub mod way_back;

@@ -25,7 +25,7 @@ use Rattle.refusals.specs.Said.{saidRefusal, saidVerdict}
 use Rattle.refusals.specs.declared.refusal.Refusal.{Refusal}
 use Rattle.refusals.specs.declared.answers.Verdict.{Verdict}
 use Rattle.refusals.specs.declared.answers.Verdict.the-variants.{Passed, Refused}
-use Rattle.scans.specs.Numbers.{Told}
+use Rattle.numerals.specs.Numbers.{Told}
 use Rattle.scans.specs.Kept.{Agree, agree-take, kept-agrees, length-kept}
 use Rattle.readers.specs.Letters.{narrowed}
 use Rattle.scans.specs.Items.{stepMarks}

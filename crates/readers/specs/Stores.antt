@@ -15,7 +15,7 @@ use Rattle.hypoplactic.specs.Judgements.{entriesJudged, lengthJudged, roomJudge
 use Rattle.hypoplactic.specs.LineReadings.{recordingRead, tableauRead, wordRead}
 use Rattle.hypoplactic.specs.Replies.{gives}
 use Rattle.hypoplactic.proofs.Theory.Judgements.{alike-judged, room-judged}
-use Rattle.refusals.specs.Copies.{copied, copied-all}
+use Rattle.buffers.specs.Copies.{copied, copied-all}
 use Rattle.refusals.specs.Running.{checksThen, run-passed, run-refused, then-passing}
 use Rattle.refusals.specs.Said.{saidRefusal, saidVerdict}
 use Rattle.refusals.specs.declared.refusal.Refusal.{Refusal}

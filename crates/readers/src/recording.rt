@@ -1,15 +1,15 @@
 // The reader of N lines: the recording ribbon of a line, judged alone, into lent entries.
 use crate::room::no_letters;
+use buffers::copies::copy_entries;
+use recordings::recording::check_entries;
 use refusals::answers::RecordingLine;
 use refusals::answers::Verdict;
 use refusals::chains::or_else;
-use refusals::copies::copy_entries;
 use refusals::numbers::check_length;
 use refusals::numbers::check_room;
 use refusals::refusal::Refusal;
 use scans::line::Line;
 use scans::line::scan_line;
-use validity::recording::check_entries;
 ghost use mathlib.Core.List.{[], _∷_};
 ghost use mathlib.Core.Path.{_≡_};
 ghost use lib.ListN.{length};

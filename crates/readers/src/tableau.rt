@@ -2,11 +2,11 @@
 use crate::letters::narrow_letters;
 use crate::room::no_letters;
 use crate::room::no_marks;
+use buffers::copies::copy_bytes;
 use refusals::answers::TableauLine;
 use refusals::answers::Verdict;
 use refusals::chains::check_limits;
 use refusals::chains::or_else;
-use refusals::copies::copy_bytes;
 use refusals::numbers::check_room;
 use refusals::refusal::Refusal;
 use scans::line::Line;

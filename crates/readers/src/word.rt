@@ -1,14 +1,14 @@
 // The reader of W lines: the word of a line into lent letters.
 use crate::letters::narrow_letters;
 use crate::room::no_letters;
+use acceptance::word::check_word;
+use buffers::copies::copy_bytes;
 use refusals::answers::Verdict;
 use refusals::answers::WordLine;
 use refusals::chains::check_limits;
 use refusals::chains::or_else;
-use refusals::copies::copy_bytes;
 use refusals::numbers::check_room;
 use refusals::refusal::Refusal;
-use refusals::word::check_word;
 use scans::line::Line;
 use scans::line::scan_line;
 ghost use mathlib.Core.List.{[], _∷_};

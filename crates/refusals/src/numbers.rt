@@ -1,12 +1,20 @@
 // The checks on numbers alone: 1, 2, 3, 9, 12 and 13. Each is one test and the refusal that it leads to.
 use crate::answers::Verdict;
 use crate::refusal::Refusal;
+ghost use Prim.Native.Nat.{min};
 ghost use mathlib.Core.Path.{_≡_};
 ghost use mathlib.Core.Bool.{_||_};
 ghost use mathlib.Core.List.{[], _∷_};
 ghost use Rattle.hypoplactic.specs.Replies.{passed, refuseIf};
 ghost use Rattle.hypoplactic.specs.Judgements.{rankJudged, lengthJudged, alikeJudged, usedJudged, indexJudged, fullJudged, roomJudged};
 ghost use Rattle.refusals.specs.Said.{number, place, saidVerdict};
+
+// The smaller of two numbers: of two lengths, how many places both lists have.
+pub fn least(a: usize, b: usize) -> usize
+    ensures { λ r. ⌜ r ≡ min a b ⌝ }
+{
+    if a < b { a } else { b }
+}
 
 // A refusal where something is wrong.
 pub fn refuse_if(wrong: bool, refusal: Refusal) -> Verdict

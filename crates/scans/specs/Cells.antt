@@ -16,10 +16,10 @@ use lib.ListN.{length, drop, drop-of-length-le}
 use lib.Seq.{drop-drop}
 use borrow.Author.Needs.{needs}
 use Rattle.grammar.specs.Reading.{Read, after, broken, got, onward, readCell, readField, readFirst, readStep, turned}
-use Rattle.scans.specs.Bytes.{after-none, after-there, le-or-lt, starts-within, startsWith}
-use Rattle.scans.specs.Numbers.{Numbered, Told, number-got, number-not}
-use Rattle.scans.specs.declared.numbers.Number.{Number}
-use Rattle.scans.specs.declared.numbers.Number.the-variants as number
+use Rattle.numerals.specs.Bytes.{after-none, after-there, le-or-lt, starts-within, startsWith}
+use Rattle.numerals.specs.Numbers.{Numbered, Told, number-got, number-not}
+use Rattle.numerals.specs.declared.numbers.Number.{Number}
+use Rattle.numerals.specs.declared.numbers.Number.the-variants as number
 use Rattle.scans.specs.declared.cells.Cell.{Cell}
 use Rattle.scans.specs.declared.cells.Cell.the-variants as cell
 

@@ -13,10 +13,10 @@ use lib.ListN.{length, drop, drop-of-length-le}
 use lib.Seq.{drop-cons}
 use borrow.Author.Needs.{needs}
 use Rattle.grammar.specs.Reading.{Read, after, broken, ended, got, readField, turned}
-use Rattle.scans.specs.Bytes.{after-none, after-there, starts-within, startsWith}
-use Rattle.scans.specs.Numbers.{Numbered, Told, number-got, number-not}
-use Rattle.scans.specs.declared.numbers.Number.{Number}
-use Rattle.scans.specs.declared.numbers.Number.the-variants as number
+use Rattle.numerals.specs.Bytes.{after-none, after-there, starts-within, startsWith}
+use Rattle.numerals.specs.Numbers.{Numbered, Told, number-got, number-not}
+use Rattle.numerals.specs.declared.numbers.Number.{Number}
+use Rattle.numerals.specs.declared.numbers.Number.the-variants as number
 use Rattle.scans.specs.declared.line.Line.{Line}
 use Rattle.scans.specs.declared.line.Line.the-variants as line
 

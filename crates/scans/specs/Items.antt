@@ -16,7 +16,7 @@ use lib.ListN.{length, drop, set, length-append, length-map}
 use lib.Seq.{append-snoc, set-out}
 use borrow.Author.Needs.{needs}
 use Rattle.grammar.specs.Reading.{Read, broken, got, letters, many, marks, onward, readFirst, turned}
-use Rattle.scans.specs.Numbers.{Told}
+use Rattle.numerals.specs.Numbers.{Told}
 use Rattle.scans.specs.Kept.{kept, kept-next, length-kept}
 use Rattle.scans.specs.Cells.{Celled, item-first, readItem}
 use Rattle.scans.specs.declared.cells.Cell.{Cell}

@@ -1,5 +1,3 @@
-pub mod Bytes
-pub mod Numbers
 pub mod Kept
 pub mod Cells
 pub mod Items

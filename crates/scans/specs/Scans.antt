@@ -12,7 +12,7 @@ use native.Mathlib.Omega.{arith}
 use lib.ListN.{length, drop}
 use borrow.Author.Needs.{needs}
 use Rattle.grammar.specs.Reading.{Read, after, broken, ended, got, letters, turned}
-use Rattle.scans.specs.Numbers.{Told}
+use Rattle.numerals.specs.Numbers.{Told}
 use Rattle.scans.specs.Kept.{kept}
 use Rattle.scans.specs.Items.{Gathered, begun, marks-none, readItems, stepMarks}
 use Rattle.scans.specs.Heads.{Lined, andThen, linePlace, readEnd, readHead, saidLine}

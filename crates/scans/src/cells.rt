@@ -1,7 +1,7 @@
 // The items of a line, read as cells: a letter and the mark of the step into it, 0 where the line tells no step.
-use crate::numbers::Number;
-use crate::numbers::field_at;
-use crate::numbers::stands;
+use numerals::numbers::Number;
+use numerals::numbers::field_at;
+use numerals::numbers::stands;
 ghost use Prim.Native.Nat.{_≤_};
 ghost use mathlib.Core.Bool.{true, false};
 ghost use mathlib.Core.List.{[]};

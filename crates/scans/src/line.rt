@@ -1,13 +1,13 @@
 // Whole lines, read by the grammar alone: the letter of the kind, the rank where the kind has one, how many items, the items, the line feed, nothing after it.
 use crate::cells::Items;
 use crate::cells::cells_at;
-use crate::numbers::Number;
-use crate::numbers::field_at;
-use crate::numbers::stands;
+use numerals::numbers::Number;
+use numerals::numbers::field_at;
+use numerals::numbers::stands;
 ghost use Prim.Native.Nat.{_≤_};
 ghost use mathlib.Core.Path.{_≡_};
 ghost use lib.ListN.{drop, length};
-ghost use Rattle.scans.specs.Numbers.{Numbered};
+ghost use Rattle.numerals.specs.Numbers.{Numbered};
 ghost use Rattle.scans.specs.Heads.{Lined, readCounted, readEnd, readHead, readRank};
 ghost use Rattle.scans.specs.Scans.{Scanned, readBody, readWhole, wholeCells};
 ghost use Rattle.scans.specs.Items.{begun};

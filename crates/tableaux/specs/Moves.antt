@@ -4,7 +4,7 @@
 --     stepping, walking           the rulesets of one step and of the scan
 --     moving, repeating           the rulesets of moves and of repeat counts
 -- What follows the checks and the inversion is in Changes of words. Assumes nothing.
-use Prim.Native.Nat.{ℕ, suc, _+_, _-_, _≤_, _<_}
+use Prim.Native.Nat.{ℕ, suc, _+_, _-_, _≤_, _<_, min}
 use mathlib.Core.Path.{_≡_, refl, sym, _∙_}
 use mathlib.Core.Logic.{_⊎_, inl, inr}
 use mathlib.Core.List.{List, [], _∷_}
@@ -31,10 +31,9 @@ use Rattle.refusals.specs.Said.{saidRefusal, saidVerdict}
 use Rattle.refusals.specs.declared.refusal.Refusal.{Refusal}
 use Rattle.refusals.specs.declared.answers.Verdict.{Verdict}
 use Rattle.refusals.specs.declared.answers.Verdict.the-variants.{Passed, Refused}
-use Rattle.validity.specs.Faults.{Shorter}
-use Rattle.words.specs.Changes.{moveLettersRun, repeatLettersSays, move-on, repeat-on}
-use Rattle.words.specs.Targets.{moveOf}
-use Rattle.words.specs.declared.changes.Side.{Side as Chosen}
+use Rattle.operators.specs.Changes.{moveLettersRun, repeatLettersSays, move-on, repeat-on}
+use Rattle.operators.specs.Targets.{moveOf}
+use Rattle.operators.specs.declared.changes.Side.{Side as Chosen}
 
 -- ---- one step
 
@@ -67,13 +66,13 @@ walk-start i xs ms = record { low = omega arith; whole = go xs ms }
 module _ {i : ℕ} {xs ms : List ℕ} {p size : ℕ} {found : Bool} where
   -- Where a cell follows, what is left begins with the step into it.
   pub walk-turn : {b next : Bool} → next ≡ (found || b) → Walking i xs ms p found
-      → b ≡ (fromTo i (getD xs (p - 1) 0) (getD xs p 0) && eqb (getD ms p 0) 1) → Shorter (length xs) (length ms) size → p < size
+      → b ≡ (fromTo i (getD xs (p - 1) 0) (getD xs p 0) && eqb (getD ms p 0) 1) → size ≡ min (length xs) (length ms) → p < size
       → Walking i xs ms (p + 1) next
   walk-turn {b} f s e h l = record {
     low = omega arith;
     whole =
-        let k : p < length xs = omega (arith, h .first) in
-        let j : p < length ms = omega (arith, h .second) in
+        let k : p < length xs = omega arith in
+        let j : p < length ms = omega arith in
         let z : p + 1 - 1 ≡ p = omega arith in
         s .whole
         ∙ rw (drop-cons xs p 0 k, drop-cons ms p 0 j, ← e, f, z, add-one p)
@@ -81,14 +80,14 @@ module _ {i : ℕ} {xs ms : List ℕ} {p size : ℕ} {found : Bool} where
   }
 
   -- Past the last cell nothing is left.
-  pub walk-end : Walking i xs ms p found → Shorter (length xs) (length ms) size → size ≤ p → found ≡ below i xs ms
+  pub walk-end : Walking i xs ms p found → size ≡ min (length xs) (length ms) → size ≤ p → found ≡ below i xs ms
   walk-end s h l = sym (s .whole ∙ rw (go (le-or-lt (length xs) p) (le-or-lt (length ms) p)) (or-false found))
     where
       go : (length xs ≤ p) ⊎ (p < length xs) → (length ms ≤ p) ⊎ (p < length ms)
           → downAfter (fromTo i) (getD xs (p - 1) 0) (drop p xs) (drop p ms) ≡ false
       go (inl k) j = rw (drop-of-length-le xs k)
       go (inr k) (inl j) = rw (drop-of-length-le ms j) (no-marks (fromTo i) (getD xs (p - 1) 0) (drop p xs))
-      go (inr k) (inr j) = let z : ⊥ = omega (arith, h .whole p k j) in absurd z
+      go (inr k) (inr j) = let z : ⊥ = omega arith in absurd z
 
 -- Where i+1 is no byte, it is no letter, and stands below nothing.
 none-after : (i x : ℕ) (xs ms : List ℕ) → 254 < i → ((k : ℕ) → Fits w8 (getD xs k 0)) → downAfter (fromTo i) x xs ms ≡ false

@@ -1,14 +1,14 @@
 // Moves and repeat counts on a tableau (document 01, "Moves"). The tableau is judged, one scan of its down steps tells whether there is an inversion, and what
 // follows is shared with words. A move changes letters in place; the marks are lent for reading only.
+use operators::changes::Side;
+use operators::changes::move_letters;
+use operators::changes::repeat_letters;
 use refusals::answers::Move;
 use refusals::answers::Repeat;
 use refusals::answers::Verdict;
 use refusals::numbers::either;
-use validity::marks::shorter;
+use refusals::numbers::least;
 use validity::tableau::check_tableau;
-use words::changes::Side;
-use words::changes::move_letters;
-use words::changes::repeat_letters;
 ghost use mathlib.Core.Path.{_≡_};
 ghost use Prim.Native.Nat.{_+_, _<_};
 ghost use mathlib.Core.Bool.{_&&_};
@@ -16,7 +16,7 @@ ghost use lib.Dec.{eqb};
 ghost use Rattle.hypoplactic.specs.Moves.{below, fromTo, lowering, raising};
 ghost use Rattle.hypoplactic.specs.TableauOperations.{moveTableauRun, repeatTableauSays};
 ghost use Rattle.refusals.specs.Said.{saidMove, saidRepeat};
-ghost use Rattle.words.specs.Targets.{moveOf};
+ghost use Rattle.operators.specs.Targets.{moveOf};
 
 // Whether both of two tests pass. Each is made before either is looked at.
 fn both(one: bool, other: bool) -> bool
@@ -39,7 +39,7 @@ fn some_step_below(here: u8, letters: &[u8], marks: &[u8]) -> bool
     requires { ⌜ here < 255 ⌝ }
     ensures { λ r. ⌜ r ≡ below here (now (letters .entry)) (now (marks .entry)) ⌝ }
 {
-    let size = shorter(letters.len(), marks.len());
+    let size = least(letters.len(), marks.len());
     let next = here + 1;
     let mut found = false;
     let mut i = 1;

@@ -1,15 +1,15 @@
 // The checks of a tableau and of a pair, in rising number, each over the whole input. Every check is total and linear, so all of them are made and the first
 // refusal counts.
-use crate::marks::check_marks;
-use crate::recording::check_entries;
-use crate::recording::check_recording;
-use crate::rising::check_rising;
+use acceptance::letters::check_letters;
+use recordings::recording::check_entries;
+use recordings::recording::check_recording;
 use refusals::answers::Verdict;
 use refusals::chains::check_limits;
 use refusals::chains::or_else;
-use refusals::letters::check_letters;
 use refusals::numbers::check_marks_alike;
 use refusals::numbers::check_parts_alike;
+use shapes::marks::check_marks;
+use shapes::rising::check_rising;
 ghost use mathlib.Core.Path.{_≡_};
 ghost use mathlib.Core.List.{[], _∷_};
 ghost use Rattle.hypoplactic.specs.Replies.{first, passed};

@@ -1,7 +1,7 @@
 // A cell by its place, over any two slices: they may be of unequal lengths, and need be no tableau.
+use occurrences::places::count_letters;
 use refusals::answers::Cell;
 use refusals::answers::Verdict;
-use words::places::count_letters;
 ghost use mathlib.Core.Path.{_≡_};
 ghost use Rattle.hypoplactic.specs.Replies.{gives};
 ghost use Rattle.hypoplactic.specs.Ribbons.{stepsTo};

@@ -21,7 +21,7 @@ use Rattle.refusals.specs.declared.refusal.Refusal.{Refusal}
 use Rattle.refusals.specs.declared.answers.Verdict.{Verdict}
 use Rattle.refusals.specs.declared.answers.Verdict.the-variants.{Passed, Refused}
 use Rattle.refusals.specs.Said.{saidVerdict}
-use Rattle.refusals.specs.Passed.{accepted-word}
+use Rattle.acceptance.specs.Passed.{accepted-word}
 use Rattle.words.specs.Tables.{Table}
 
 -- A number of an accepted word, 0 of a refused one.

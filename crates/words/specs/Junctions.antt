@@ -36,7 +36,7 @@ use Rattle.hypoplactic.proofs.Theory.NextLarger.{Next, next-larger, next-is}
 use Rattle.hypoplactic.proofs.Theory.Occurrences.{occurs-count}
 use Rattle.hypoplactic.proofs.Theory.Places.{places-absent, first-bounds, last-bound, before-places}
 use Rattle.hypoplactic.proofs.Theory.Passing.{first-else}
-use Rattle.refusals.specs.Passed.{judging}
+use Rattle.acceptance.specs.Passed.{judging}
 use Rattle.words.specs.Bits.{number-digit, number-none, number-more, under-power, or-bit, ones-fit, ones-more-fit}
 use Rattle.words.specs.Tables.{Placed, tabling, or-place-first}
 

@@ -2,9 +2,3 @@ pub mod Bits
 pub mod Tables
 pub mod Given
 pub mod Junctions
-pub mod Places
-pub mod Counting
-pub mod Targets
-pub mod Changes
-pub mod Moves
-pub mod Parts

@@ -1,9 +1,9 @@
 // The junction set of a word, built and tested by shifts and masks, and the rows that it gives.
 use crate::tables::or_place;
 use crate::tables::places_of;
+use acceptance::word::check_word;
 use refusals::answers::Junctions;
 use refusals::answers::Verdict;
-use refusals::word::check_word;
 ghost use mathlib.Core.Path.{_≡_};
 ghost use lib.Dec.{ltb};
 ghost use Rattle.hypoplactic.specs.Words.{Accepted, tick};

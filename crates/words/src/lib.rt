@@ -1,7 +1,4 @@
-// Operations on one word: junction set and rows, moves and repeat counts, letter counts. Every public function takes whatever it is given; an operation
-// answers a result or the exact refusal.
-pub mod changes;
+// One word: how often each letter stands in it, its junction set and its rows. Every public function takes whatever it is given; an operation answers a
+// result or the exact refusal.
 pub mod junctions;
-pub mod moves;
-pub mod places;
 pub mod tables;

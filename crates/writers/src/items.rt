@@ -1,7 +1,7 @@
 // The items of a line, one after the other: letters, recording entries, cells. How many bytes they take, and their bytes.
 use crate::fields::field_size;
 use crate::fields::write_field;
-use refusals::letters::wide;
+use acceptance::letters::wide;
 ghost use Prim.Native.Nat.{_+_, _<_, _≤_};
 ghost use mathlib.Core.Path.{_≡_};
 ghost use lib.ListN.{length};

@@ -1,6 +1,7 @@
 -- Counts, occurrences and precedence in two words written one after the other.
 --     count-append, occurs-append, before-append     count, occurs and before of u ++ v, from those of u and v
 --     count-tail           a list has each letter at least as often as its tail
+--     count-length         no letter stands in a list more often than the list has letters
 --     before-snoc          before of w with one letter more at its end
 --     occurs-count         a letter occurs where its count is not 0
 --     before-absent        no absent letter stands left of another
@@ -11,6 +12,7 @@ use mathlib.Core.List.{List, [], _∷_, _++_}
 use mathlib.Core.Bool.{Bool, true, false, _&&_, _||_, and-false, or-assoc, or-false}
 use native.Mathlib.Omega.{arith}
 use lib.Dec.{eqb, ltb}
+use lib.ListN.{length}
 use borrow.Author.Tests.{lt-ltb}
 use Rattle.hypoplactic.specs.Words.{tick, count, occurs, before}
 
@@ -29,6 +31,15 @@ count-tail a x w = go (eqb x a)
     go : (t : Bool) → count a w ≤ tick t (count a w)
     go true = omega arith
     go false = omega arith
+
+-- No letter stands in a list more often than the list has letters.
+pub count-length : (a : ℕ) (w : List ℕ) → count a w ≤ length w
+count-length a [] = omega arith
+count-length a (x ∷ w) = go (eqb x a) (count-length a w)
+  where
+    go : (b : Bool) → count a w ≤ length w → tick b (count a w) ≤ suc (length w)
+    go true h = omega arith
+    go false h = omega arith
 
 pub occurs-append : (a : ℕ) (u v : List ℕ) → occurs a (u ++ v) ≡ (occurs a u || occurs a v)
 occurs-append a [] v = refl

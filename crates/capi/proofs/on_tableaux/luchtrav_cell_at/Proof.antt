@@ -1,5 +1,5 @@
 -- `capi::on_tableaux::luchtrav_cell_at` meets its contract, by the laws of specs/Handing. Assumes nothing.
-use Rattle.capi.specs.Handing.{replying}
+use Rattle.structs.specs.Handing.{replying}
 use Rattle.capi.proofs.on_tableaux.luchtrav_cell_at.Statement.{statement}
 use Rattle.capi.proofs.on_tableaux.luchtrav_cell_at.Tie as tie
 

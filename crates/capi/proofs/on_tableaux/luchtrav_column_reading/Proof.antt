@@ -1,5 +1,5 @@
 -- `capi::on_tableaux::luchtrav_column_reading` meets its contract, by the laws of specs/Handing. Assumes nothing.
-use Rattle.capi.specs.Handing.{replying}
+use Rattle.structs.specs.Handing.{replying}
 use Rattle.capi.proofs.on_tableaux.luchtrav_column_reading.Statement.{statement}
 use Rattle.capi.proofs.on_tableaux.luchtrav_column_reading.Tie as tie
 

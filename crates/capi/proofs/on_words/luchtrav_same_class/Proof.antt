@@ -1,5 +1,5 @@
 -- `capi::on_words::luchtrav_same_class` meets its contract, by the laws of specs/Handing. Assumes nothing.
-use Rattle.capi.specs.Handing.{replying}
+use Rattle.structs.specs.Handing.{replying}
 use Rattle.capi.proofs.on_words.luchtrav_same_class.Statement.{statement}
 use Rattle.capi.proofs.on_words.luchtrav_same_class.Tie as tie
 

@@ -2,7 +2,7 @@
 use Prim.Native.Nat.{_-_}
 use lib.ListN.{length}
 use Rattle.hypoplactic.proofs.Theory.Pairs.{countUpTo}
-use Rattle.words.specs.Counting.{Counting}
+use Rattle.occurrences.specs.Counting.{Counting}
 use Rattle.pairs.specs.Seats.{seating}
 use Rattle.pairs.proofs.seats.seat_of.Statement.{statement}
 use Rattle.pairs.proofs.seats.seat_of.Tie as tie

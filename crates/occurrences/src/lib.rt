@@ -1,0 +1,2 @@
+// Where a letter stands in a word, and how often. Every public function takes whatever it is given.
+pub mod places;

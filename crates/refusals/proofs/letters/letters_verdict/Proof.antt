@@ -1,8 +1,0 @@
--- `refusals::letters::letters_verdict` meets its contract, by the laws of specs/Letters. Assumes nothing.
-use Rattle.refusals.specs.Letters.{bounding}
-use Rattle.refusals.proofs.letters.letters_verdict.Statement.{statement}
-use Rattle.refusals.proofs.letters.letters_verdict.Tie as tie
-
-pub letters-verdict-spec : {M : Type 1} → statement M
-letters-verdict-spec = tie.close
-    (tie.spec (λ c. search bounding) (λ c. search bounding) (λ c. search bounding) (λ c. search bounding))

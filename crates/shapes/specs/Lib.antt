@@ -1,0 +1,2 @@
+pub mod Clear
+pub mod Faults

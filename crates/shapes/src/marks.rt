@@ -1,0 +1,64 @@
+// The check on marks, 6. It scans for the first place with any of its three faults only where a pass over all places saw one.
+use refusals::answers::Verdict;
+use refusals::numbers::either;
+use refusals::numbers::least;
+use refusals::refusal::Refusal;
+ghost use Prim.Native.Nat.{_<_, min};
+ghost use mathlib.Core.Path.{_≡_};
+ghost use lib.ListN.{length};
+ghost use Rattle.hypoplactic.specs.Judgements.{marksJudged};
+ghost use Rattle.shapes.specs.Clear.{Cleared};
+ghost use Rattle.shapes.specs.Faults.{largestMark};
+ghost use Rattle.hypoplactic.proofs.Theory.FirstPlaces.{markFault};
+ghost use Rattle.refusals.specs.Said.{saidVerdict};
+
+// The largest mark of a step between two letters: none goes down between equals.
+fn largest_mark(before: u8, here: u8) -> u8
+    ensures { λ r. ⌜ r ≡ largestMark before here ⌝ }
+{
+    if before == here { 0 } else { 1 }
+}
+
+// Whether the mark at a place is not 0 or 1, not 0 at the first place, or down between equals.
+fn mark_wrong(letters: &[u8], marks: &[u8], place: usize) -> bool
+    requires { ⌜ (place < length (now letters)) × (place < length (now marks)) ⌝ }
+    ensures { λ r. ⌜ r ≡ markFault (now (letters .entry)) (now (marks .entry)) place ⌝ }
+{
+    let mark = marks[place];
+    if place == 0 {
+        return 0 < mark;
+    }
+    largest_mark(letters[place - 1], letters[place]) < mark
+}
+
+// Whether a mark is wrong at any of the places that both lists have. The loop leaves at no place, so that the compiled code takes many marks at once.
+fn some_mark_wrong(letters: &[u8], marks: &[u8], size: usize) -> bool
+    requires { ⌜ size ≡ min (length (now letters)) (length (now marks)) ⌝ }
+    ensures { λ r. ⌜ Cleared (marksJudged (now (letters .entry)) (now (marks .entry))) r ⌝ }
+{
+    let mut wrong = false;
+    let mut place = 0;
+    while place < size {
+        wrong = either(wrong, mark_wrong(letters, marks, place));
+        place += 1;
+    }
+    wrong
+}
+
+// 6: the first mark is 0, each other one 0 or 1, and none goes down between equals.
+pub fn check_marks(letters: &[u8], marks: &[u8]) -> Verdict
+    ensures { λ r. ⌜ saidVerdict r ≡ marksJudged (now (letters .entry)) (now (marks .entry)) ⌝ }
+{
+    let size = least(letters.len(), marks.len());
+    if !some_mark_wrong(letters, marks, size) {
+        return Verdict::Passed;
+    }
+    let mut i = 0;
+    while i < size {
+        if mark_wrong(letters, marks, i) {
+            return Verdict::Refused(Refusal::Mark(i));
+        }
+        i += 1;
+    }
+    Verdict::Passed
+}

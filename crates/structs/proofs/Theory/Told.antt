@@ -1,0 +1,168 @@
+-- Nothing of an answer is lost at the C interface: a struct, read as the C header says, says what the answer says, so no two answers share a struct. By
+-- refusals' Theory/Apart what is said fixes the answer.
+--     tells k p vs                     the reading: number 0 gives the values, any other number refuses
+--     refusal-numbers                  a refusal's number is 1 to 14, never 0
+--     verdict-told, move-told, written-told, inserted-told, repeat-told, recording-line-told, class-told, weights-told, junctions-told, word-line-told,
+--     tableau-line-told, cell-told     the answers
+-- Assumes nothing.
+use Prim.Native.Nat.{ℕ, zero, suc, _≤_}
+use mathlib.Core.Path.{_≡_, refl}
+use mathlib.Core.List.{List, [], _∷_}
+use native.Mathlib.Omega.{arith}
+use Rattle.hypoplactic.specs.Replies.{Said, gives, refused}
+use Rattle.refusals.specs.Said.{number, place, saidRefusal, saidVerdict, saidMove, saidWritten, saidInserted, saidRepeat, saidRecordingLine, saidClass, saidWeights, saidJunctions, saidWordLine, saidTableauLine, saidCell}
+use Rattle.refusals.specs.declared.refusal.Refusal.{Refusal}
+use Rattle.refusals.specs.declared.refusal.Refusal.the-variants.{Rank, Length, Parts, Letter, Falling, Mark, Entry, Step, Index, Inversion, NoLetter, Full, Room, Line}
+use Rattle.refusals.specs.declared.answers.Verdict.{Verdict}
+use Rattle.refusals.specs.declared.answers.Verdict.the-variants as verdict
+use Rattle.refusals.specs.declared.answers.Move.{Move}
+use Rattle.refusals.specs.declared.answers.Move.the-variants as move
+use Rattle.refusals.specs.declared.answers.Written.{Written}
+use Rattle.refusals.specs.declared.answers.Written.the-variants as written
+use Rattle.refusals.specs.declared.answers.Inserted.{Inserted}
+use Rattle.refusals.specs.declared.answers.Inserted.the-variants as inserted
+use Rattle.refusals.specs.declared.answers.Repeat.{Repeat}
+use Rattle.refusals.specs.declared.answers.Repeat.the-variants as repeat
+use Rattle.refusals.specs.declared.answers.RecordingLine.{RecordingLine}
+use Rattle.refusals.specs.declared.answers.RecordingLine.the-variants as recordingLine
+use Rattle.refusals.specs.declared.answers.Class.{Class}
+use Rattle.refusals.specs.declared.answers.Class.the-variants as class
+use Rattle.refusals.specs.declared.answers.Weights.{Weights}
+use Rattle.refusals.specs.declared.answers.Weights.the-variants as weights
+use Rattle.refusals.specs.declared.answers.Junctions.{Junctions}
+use Rattle.refusals.specs.declared.answers.Junctions.the-variants as junctions
+use Rattle.refusals.specs.declared.answers.WordLine.{WordLine}
+use Rattle.refusals.specs.declared.answers.WordLine.the-variants as wordLine
+use Rattle.refusals.specs.declared.answers.TableauLine.{TableauLine}
+use Rattle.refusals.specs.declared.answers.TableauLine.the-variants as tableauLine
+use Rattle.refusals.specs.declared.answers.Cell.{Cell}
+use Rattle.refusals.specs.declared.answers.Cell.the-variants as cell
+use Rattle.structs.specs.declared.replies.DoneReply.{DoneReply}
+use Rattle.structs.specs.declared.replies.CountReply.{CountReply}
+use Rattle.structs.specs.declared.replies.ClassReply.{ClassReply}
+use Rattle.structs.specs.declared.replies.OrderReply.{OrderReply}
+use Rattle.structs.specs.declared.replies.JunctionReply.{JunctionReply}
+use Rattle.structs.specs.declared.replies.LineReply.{LineReply}
+use Rattle.structs.specs.declared.replies.CellReply.{CellReply}
+use Rattle.structs.specs.Replies.{doneOf, countOf, classOf, orderOf, junctionOf, lineOf, cellOf}
+
+abbrev pub tells : ℕ → ℕ → List ℕ → Said
+tells zero p vs = gives vs
+tells (suc k) p vs = refused (suc k) p
+
+-- ---- the structs
+
+abbrev pub doneTells : DoneReply → Said
+doneTells r = tells (r .number) (r .place) []
+
+abbrev pub countTells : CountReply → Said
+countTells r = tells (r .number) (r .place) (r .count ∷ [])
+
+abbrev pub classTells : ClassReply → Said
+classTells r = tells (r .number) (r .place) (r .same ∷ [])
+
+abbrev pub orderTells : OrderReply → Said
+orderTells r = tells (r .number) (r .place) (r .order ∷ [])
+
+abbrev pub junctionTells : JunctionReply → Said
+junctionTells r = tells (r .number) (r .place) (r .set ∷ r .rows ∷ [])
+
+abbrev pub lineTells : LineReply → Said
+lineTells r = tells (r .number) (r .place) (r .rank ∷ r .count ∷ [])
+
+-- A cell was found, or there is none.
+abbrev pub cellValues : ℕ → List ℕ → List ℕ
+cellValues zero vs = []
+cellValues (suc k) vs = vs
+
+abbrev pub cellTells : CellReply → Said
+cellTells r = tells (r .number) (r .place) (cellValues (r .found) (r .letter ∷ r .row ∷ r .column ∷ []))
+
+-- ---- refusals
+
+refused-told : (r : Refusal) (vs : List ℕ) → tells (number r) (place r) vs ≡ saidRefusal r
+refused-told Rank vs = refl
+refused-told Length vs = refl
+refused-told Parts vs = refl
+refused-told (Letter p) vs = refl
+refused-told (Falling p) vs = refl
+refused-told (Mark p) vs = refl
+refused-told (Entry p) vs = refl
+refused-told (Step p) vs = refl
+refused-told Index vs = refl
+refused-told Inversion vs = refl
+refused-told NoLetter vs = refl
+refused-told Full vs = refl
+refused-told (Room p) vs = refl
+refused-told (Line p) vs = refl
+
+pub refusal-numbers : (r : Refusal) → (1 ≤ number r) × (number r ≤ 14)
+refusal-numbers Rank = (omega arith, omega arith)
+refusal-numbers Length = (omega arith, omega arith)
+refusal-numbers Parts = (omega arith, omega arith)
+refusal-numbers (Letter p) = (omega arith, omega arith)
+refusal-numbers (Falling p) = (omega arith, omega arith)
+refusal-numbers (Mark p) = (omega arith, omega arith)
+refusal-numbers (Entry p) = (omega arith, omega arith)
+refusal-numbers (Step p) = (omega arith, omega arith)
+refusal-numbers Index = (omega arith, omega arith)
+refusal-numbers Inversion = (omega arith, omega arith)
+refusal-numbers NoLetter = (omega arith, omega arith)
+refusal-numbers Full = (omega arith, omega arith)
+refusal-numbers (Room p) = (omega arith, omega arith)
+refusal-numbers (Line p) = (omega arith, omega arith)
+
+-- ---- answers
+
+pub verdict-told : (a : Verdict) → doneTells (doneOf (saidVerdict a)) ≡ saidVerdict a
+verdict-told verdict.Passed = refl
+verdict-told (verdict.Refused r) = refused-told r _
+
+pub move-told : (a : Move) → doneTells (doneOf (saidMove a)) ≡ saidMove a
+move-told move.Made = refl
+move-told (move.Refused r) = refused-told r _
+
+pub written-told : (a : Written) → countTells (countOf (saidWritten a)) ≡ saidWritten a
+written-told (written.Elements n) = refl
+written-told (written.Refused r) = refused-told r _
+
+pub inserted-told : (a : Inserted) → countTells (countOf (saidInserted a)) ≡ saidInserted a
+inserted-told (inserted.Used n) = refl
+inserted-told (inserted.Refused r) = refused-told r _
+
+pub repeat-told : (a : Repeat) → countTells (countOf (saidRepeat a)) ≡ saidRepeat a
+repeat-told (repeat.Times n) = refl
+repeat-told (repeat.Refused r) = refused-told r _
+
+pub recording-line-told : (a : RecordingLine) → countTells (countOf (saidRecordingLine a)) ≡ saidRecordingLine a
+recording-line-told (recordingLine.Recording n) = refl
+recording-line-told (recordingLine.Refused r) = refused-told r _
+
+pub class-told : (a : Class) → classTells (classOf (saidClass a)) ≡ saidClass a
+class-told class.Same = refl
+class-told class.Different = refl
+class-told (class.Refused r) = refused-told r _
+
+pub weights-told : (a : Weights) → orderTells (orderOf (saidWeights a)) ≡ saidWeights a
+weights-told weights.Equal = refl
+weights-told weights.Lower = refl
+weights-told weights.Higher = refl
+weights-told weights.Neither = refl
+weights-told (weights.Refused r) = refused-told r _
+
+pub junctions-told : (a : Junctions) → junctionTells (junctionOf (saidJunctions a)) ≡ saidJunctions a
+junctions-told (junctions.Found set rows) = refl
+junctions-told (junctions.Refused r) = refused-told r _
+
+pub word-line-told : (a : WordLine) → lineTells (lineOf (saidWordLine a)) ≡ saidWordLine a
+word-line-told (wordLine.Word n l) = refl
+word-line-told (wordLine.Refused r) = refused-told r _
+
+pub tableau-line-told : (a : TableauLine) → lineTells (lineOf (saidTableauLine a)) ≡ saidTableauLine a
+tableau-line-told (tableauLine.Tableau n l) = refl
+tableau-line-told (tableauLine.Refused r) = refused-told r _
+
+pub cell-told : (a : Cell) → cellTells (cellOf (saidCell a)) ≡ saidCell a
+cell-told (cell.Found a r c) = refl
+cell-told cell.NoSuchCell = refl
+cell-told (cell.Refused r) = refused-told r _

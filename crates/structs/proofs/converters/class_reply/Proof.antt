@@ -1,0 +1,11 @@
+-- `structs::converters::class_reply` meets its contract, by the laws of specs/Handing. Assumes nothing.
+use Rattle.structs.specs.Handing.{replying}
+use Rattle.structs.proofs.converters.class_reply.Statement.{statement}
+use Rattle.structs.proofs.converters.class_reply.Tie as tie
+
+pub class-reply-spec : {M : Type 1} → statement M
+class-reply-spec =
+    tie.close
+    (tie.spec (λ c. search replying) (λ c κs. search replying) (λ c. search replying) (λ c κs. search replying)
+    (λ c. search replying) (λ c κs. search replying) (λ c. search replying) (λ c. search replying)
+    (λ c. search replying))

@@ -1,0 +1,182 @@
+-- The kernel's answers handed on as structs: the laws that every function of src/ cites.
+--     passed-on           an answer's struct beside the memory that the operation leaves
+--     done-said, ..       the same said, the same replied
+--     done-refused, ..    a refusal told by its number and place
+--     verdict-case, ..    an answer by its case
+--     refusedWord, ..     the refusal that a reader's answer passes on; word-refused-told, ..: that it is what the answer says
+--     replying            the ruleset of all of them
+-- Assumes nothing.
+use Prim.Native.Nat.{ℕ}
+use mathlib.Core.Path.{_≡_, _∙_}
+use borrow.Author.Needs.{needs}
+use Rattle.hypoplactic.specs.Replies.{Said, refused}
+use Rattle.refusals.specs.Said.{number, place, saidRefusal, saidVerdict, saidMove, saidWritten, saidInserted, saidRepeat, saidRecordingLine, saidClass, saidWeights, saidJunctions, saidWordLine, saidTableauLine, saidCell}
+use Rattle.refusals.specs.declared.refusal.Refusal.{Refusal}
+use Rattle.refusals.specs.declared.refusal.Refusal.the-variants.{Line}
+use Rattle.refusals.specs.declared.answers.Verdict.{Verdict}
+use Rattle.refusals.specs.declared.answers.Move.{Move}
+use Rattle.refusals.specs.declared.answers.Written.{Written}
+use Rattle.refusals.specs.declared.answers.Inserted.{Inserted}
+use Rattle.refusals.specs.declared.answers.Repeat.{Repeat}
+use Rattle.refusals.specs.declared.answers.RecordingLine.{RecordingLine}
+use Rattle.refusals.specs.declared.answers.RecordingLine.the-variants as recordingLine
+use Rattle.refusals.specs.declared.answers.Class.{Class}
+use Rattle.refusals.specs.declared.answers.Weights.{Weights}
+use Rattle.refusals.specs.declared.answers.Junctions.{Junctions}
+use Rattle.refusals.specs.declared.answers.WordLine.{WordLine}
+use Rattle.refusals.specs.declared.answers.WordLine.the-variants as wordLine
+use Rattle.refusals.specs.declared.answers.TableauLine.{TableauLine}
+use Rattle.refusals.specs.declared.answers.TableauLine.the-variants as tableauLine
+use Rattle.refusals.specs.declared.answers.Cell.{Cell}
+use Rattle.structs.specs.declared.replies.DoneReply.{DoneReply}
+use Rattle.structs.specs.declared.replies.CountReply.{CountReply}
+use Rattle.structs.specs.declared.replies.ClassReply.{ClassReply}
+use Rattle.structs.specs.declared.replies.OrderReply.{OrderReply}
+use Rattle.structs.specs.declared.replies.JunctionReply.{JunctionReply}
+use Rattle.structs.specs.declared.replies.LineReply.{LineReply}
+use Rattle.structs.specs.declared.replies.CellReply.{CellReply}
+use Rattle.structs.specs.Replies.{doneOf, countOf, classOf, orderOf, junctionOf, lineOf, cellOf, replied}
+
+pub passed-on : {R A : Type 0} (f : Said → R) (r : R) (s : Said) (m : A) (run : Said × A) → r ≡ f s → (s, m) ≡ run → (r, m) ≡ replied f run
+unfolding replied
+passed-on f r s m run e h = rw (e, ← h)
+
+-- The same said, the same replied.
+module _ {s t : Said} (e : s ≡ t) where
+  pub done-said : {r : DoneReply} → r ≡ doneOf s → r ≡ doneOf t
+  done-said h = rw (← e) h
+
+  pub count-said : {r : CountReply} → r ≡ countOf s → r ≡ countOf t
+  count-said h = rw (← e) h
+
+  pub class-said : {r : ClassReply} → r ≡ classOf s → r ≡ classOf t
+  class-said h = rw (← e) h
+
+  pub order-said : {r : OrderReply} → r ≡ orderOf s → r ≡ orderOf t
+  order-said h = rw (← e) h
+
+  pub junction-said : {r : JunctionReply} → r ≡ junctionOf s → r ≡ junctionOf t
+  junction-said h = rw (← e) h
+
+  pub cell-said : {r : CellReply} → r ≡ cellOf s → r ≡ cellOf t
+  cell-said h = rw (← e) h
+
+-- A refusal told by its number and place.
+module _ {k p : ℕ} (r : Refusal) (e : k ≡ number r) (h : p ≡ place r) where
+  pub done-refused : doneOf (refused k p) ≡ doneOf (saidRefusal r)
+  done-refused = rw (e, h)
+
+  pub count-refused : countOf (refused k p) ≡ countOf (saidRefusal r)
+  count-refused = rw (e, h)
+
+  pub class-refused : classOf (refused k p) ≡ classOf (saidRefusal r)
+  class-refused = rw (e, h)
+
+  pub order-refused : orderOf (refused k p) ≡ orderOf (saidRefusal r)
+  order-refused = rw (e, h)
+
+  pub junction-refused : junctionOf (refused k p) ≡ junctionOf (saidRefusal r)
+  junction-refused = rw (e, h)
+
+  pub line-refused : lineOf (refused k p) ≡ lineOf (saidRefusal r)
+  line-refused = rw (e, h)
+
+  pub cell-refused : cellOf (refused k p) ≡ cellOf (saidRefusal r)
+  cell-refused = rw (e, h)
+
+-- An answer by its case.
+pub verdict-case : {a b : Verdict} {r : DoneReply} → a ≡ b → r ≡ doneOf (saidVerdict b) → r ≡ doneOf (saidVerdict a)
+verdict-case e h = rw e h
+
+pub move-case : {a b : Move} {r : DoneReply} → a ≡ b → r ≡ doneOf (saidMove b) → r ≡ doneOf (saidMove a)
+move-case e h = rw e h
+
+pub written-case : {a b : Written} {r : CountReply} → a ≡ b → r ≡ countOf (saidWritten b) → r ≡ countOf (saidWritten a)
+written-case e h = rw e h
+
+pub inserted-case : {a b : Inserted} {r : CountReply} → a ≡ b → r ≡ countOf (saidInserted b) → r ≡ countOf (saidInserted a)
+inserted-case e h = rw e h
+
+pub repeat-case : {a b : Repeat} {r : CountReply} → a ≡ b → r ≡ countOf (saidRepeat b) → r ≡ countOf (saidRepeat a)
+repeat-case e h = rw e h
+
+pub recording-line-case : {a b : RecordingLine} {r : CountReply} → a ≡ b → r ≡ countOf (saidRecordingLine b) → r ≡ countOf (saidRecordingLine a)
+recording-line-case e h = rw e h
+
+pub class-case : {a b : Class} {r : ClassReply} → a ≡ b → r ≡ classOf (saidClass b) → r ≡ classOf (saidClass a)
+class-case e h = rw e h
+
+pub weights-case : {a b : Weights} {r : OrderReply} → a ≡ b → r ≡ orderOf (saidWeights b) → r ≡ orderOf (saidWeights a)
+weights-case e h = rw e h
+
+pub junctions-case : {a b : Junctions} {r : JunctionReply} → a ≡ b → r ≡ junctionOf (saidJunctions b) → r ≡ junctionOf (saidJunctions a)
+junctions-case e h = rw e h
+
+pub word-line-case : {a b : WordLine} {r : LineReply} → a ≡ b → r ≡ lineOf (saidWordLine b) → r ≡ lineOf (saidWordLine a)
+word-line-case e h = rw e h
+
+pub tableau-line-case : {a b : TableauLine} {r : LineReply} → a ≡ b → r ≡ lineOf (saidTableauLine b) → r ≡ lineOf (saidTableauLine a)
+tableau-line-case e h = rw e h
+
+pub cell-case : {a b : Cell} {r : CellReply} → a ≡ b → r ≡ cellOf (saidCell b) → r ≡ cellOf (saidCell a)
+cell-case e h = rw e h
+
+-- ---- readers' answers
+
+-- The refusal that a reader's answer passes on. Where it passes none on, the code that asks is never reached, and any would do.
+abbrev pub refusedWord : WordLine → Refusal
+refusedWord (wordLine.Word n l) = Line 0
+refusedWord (wordLine.Refused q) = q
+
+abbrev pub refusedTableau : TableauLine → Refusal
+refusedTableau (tableauLine.Tableau n l) = Line 0
+refusedTableau (tableauLine.Refused q) = q
+
+abbrev pub refusedRecording : RecordingLine → Refusal
+refusedRecording (recordingLine.Recording l) = Line 0
+refusedRecording (recordingLine.Refused q) = q
+
+pub word-refused-told : {a : WordLine} {q p : Refusal} {r : LineReply} → a ≡ wordLine.Refused q → p ≡ refusedWord a
+    → r ≡ lineOf (saidRefusal p) → r ≡ lineOf (saidWordLine a)
+word-refused-told e f h = rw e (h ∙ rw (f, e))
+
+pub tableau-refused-told : {a : TableauLine} {q p : Refusal} {r : LineReply} → a ≡ tableauLine.Refused q → p ≡ refusedTableau a
+    → r ≡ lineOf (saidRefusal p) → r ≡ lineOf (saidTableauLine a)
+tableau-refused-told e f h = rw e (h ∙ rw (f, e))
+
+pub recording-refused-told : {a : RecordingLine} {q p : Refusal} {r : CountReply} → a ≡ recordingLine.Refused q → p ≡ refusedRecording a
+    → r ≡ countOf (saidRefusal p) → r ≡ countOf (saidRecordingLine a)
+recording-refused-told e f h = rw e (h ∙ rw (f, e))
+
+pub ruleset replying = (
+  passed-on,
+  done-said,
+  count-said,
+  class-said,
+  order-said,
+  junction-said,
+  cell-said,
+  done-refused,
+  count-refused,
+  class-refused,
+  order-refused,
+  junction-refused,
+  line-refused,
+  cell-refused,
+  verdict-case,
+  move-case,
+  written-case,
+  inserted-case,
+  repeat-case,
+  recording-line-case,
+  class-case,
+  weights-case,
+  junctions-case,
+  word-line-case,
+  tableau-line-case,
+  cell-case,
+  word-refused-told,
+  tableau-refused-told,
+  recording-refused-told,
+  needs,
+)

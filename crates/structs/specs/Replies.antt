@@ -1,0 +1,62 @@
+-- What the C interface replies, field by field, for what an operation says in document 01's numbers. Each contract of src/ equates a struct with one of these.
+--     numberOf s, placeOf s      number and place: 0 and 0 where values are given
+--     value i s                  the value at i that is given; 0 where there is none, and after a refusal
+--     anyValue s                 1 where some value is given, else 0
+--     doneOf, countOf, classOf, orderOf, junctionOf, lineOf, cellOf
+--                                the structs of src/replies.rt
+--     replied f run              an operation's reply as a struct, beside the same lent memory
+-- That nothing of an answer is lost in its struct is proofs/Theory/Told. Assumes nothing.
+use Prim.Native.Nat.{ℕ}
+use mathlib.Core.List.{[], _∷_}
+use lib.ListN.{getD}
+use Rattle.hypoplactic.specs.Replies.{Said, gives, refused}
+use Rattle.structs.specs.declared.replies.DoneReply.{DoneReply}
+use Rattle.structs.specs.declared.replies.CountReply.{CountReply}
+use Rattle.structs.specs.declared.replies.ClassReply.{ClassReply}
+use Rattle.structs.specs.declared.replies.OrderReply.{OrderReply}
+use Rattle.structs.specs.declared.replies.JunctionReply.{JunctionReply}
+use Rattle.structs.specs.declared.replies.LineReply.{LineReply}
+use Rattle.structs.specs.declared.replies.CellReply.{CellReply}
+
+abbrev pub numberOf : Said → ℕ
+numberOf (gives vs) = 0
+numberOf (refused k p) = k
+
+abbrev pub placeOf : Said → ℕ
+placeOf (gives vs) = 0
+placeOf (refused k p) = p
+
+abbrev pub value : ℕ → Said → ℕ
+value i (gives vs) = getD vs i 0
+value i (refused k p) = 0
+
+-- 1 where some value is given, else 0.
+abbrev pub anyValue : Said → ℕ
+anyValue (gives []) = 0
+anyValue (gives (v ∷ vs)) = 1
+anyValue (refused k p) = 0
+
+abbrev pub doneOf : Said → DoneReply
+doneOf s = record { number = numberOf s; place = placeOf s }
+
+abbrev pub countOf : Said → CountReply
+countOf s = record { number = numberOf s; place = placeOf s; count = value 0 s }
+
+abbrev pub classOf : Said → ClassReply
+classOf s = record { number = numberOf s; place = placeOf s; same = value 0 s }
+
+abbrev pub orderOf : Said → OrderReply
+orderOf s = record { number = numberOf s; place = placeOf s; order = value 0 s }
+
+abbrev pub junctionOf : Said → JunctionReply
+junctionOf s = record { number = numberOf s; place = placeOf s; set = value 0 s; rows = value 1 s }
+
+abbrev pub lineOf : Said → LineReply
+lineOf s = record { number = numberOf s; place = placeOf s; rank = value 0 s; count = value 1 s }
+
+abbrev pub cellOf : Said → CellReply
+cellOf s = record { number = numberOf s; place = placeOf s; found = anyValue s; letter = value 0 s; row = value 1 s; column = value 2 s }
+
+-- An operation's reply as a struct, beside the same lent memory.
+unfoldable pub replied : {R A : Type 0} → (Said → R) → Said × A → R × A
+replied f (s, m) = (f s, m)

@@ -1,0 +1,3 @@
+// The structs in which the C interface answers, and the functions that turn each kind of answer into its struct.
+pub mod converters;
+pub mod replies;

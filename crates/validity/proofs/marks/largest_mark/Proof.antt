@@ -1,7 +1,0 @@
--- `validity::marks::largest_mark` meets its contract, by the laws of specs/Faults. Assumes nothing.
-use Rattle.validity.specs.Faults.{scanning}
-use Rattle.validity.proofs.marks.largest_mark.Statement.{statement}
-use Rattle.validity.proofs.marks.largest_mark.Tie as tie
-
-pub largest-mark-spec : {M : Type 1} → statement M
-largest-mark-spec = tie.close (tie.spec (λ c. search scanning) (λ c. search scanning))

@@ -1,9 +1,0 @@
--- `validity::rising::letter_falls` meets its contract, by the laws of specs/Faults. Assumes nothing.
-use Rattle.validity.specs.Faults.{scanning}
-use Rattle.validity.proofs.rising.letter_falls.Statement.{statement}
-use Rattle.validity.proofs.rising.letter_falls.Tie as tie
-
-pub letter-falls-spec : {M : Type 1} → statement M
-letter-falls-spec =
-    tie.close
-    (tie.spec (λ c. search scanning) (λ c. search scanning) (λ c. search scanning) (λ c. search scanning))

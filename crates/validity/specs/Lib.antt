@@ -1,4 +1,0 @@
-pub mod Clear
-pub mod Faults
-pub mod Seen
-pub mod Entries
