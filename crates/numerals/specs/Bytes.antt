@@ -5,10 +5,10 @@
 --     starts-inside, digit-inside    where a byte or a digit stands is in the text
 --     left-there                     what is left there begins with the byte at that place
 --     after-there, after-none        a byte that the grammar asks for, and what follows
---     starts-within                  the place after it is in the text
+--     starts-within, next-fits       the place after it is in the text, and fits 64 bits
 --     seeking                        the ruleset of single bytes
 -- Assumes nothing.
-use Prim.Native.Nat.{ℕ, _+_, _-_, _≤_, _<_}
+use Prim.Native.Nat.{ℕ, _+_, _-_, _^_, _≤_, _<_}
 use mathlib.Core.Path.{_≡_, refl, sym, _∙_}
 use mathlib.Core.Bool.{Bool, true, false, cond, true≢false}
 use mathlib.Core.Logic.{_⊎_, inl, inr, ⊎-elim}
@@ -18,6 +18,8 @@ use native.Mathlib.Omega.{arith}
 use lib.Dec.{eqb, leb}
 use lib.ListN.{length, getD, drop, drop-of-length-le}
 use lib.Seq.{drop-cons}
+use mir.Syntax.{w64}
+use mir.Val.{Fits}
 use borrow.Author.Needs.{needs}
 use borrow.Author.Tests.{le-leb, leb-false, leb-true, lt-leb}
 use Rattle.grammar.specs.Reading.{Read, after, broken, digit}
@@ -85,6 +87,10 @@ module _ (text : List ℕ) (at : ℕ) where
   -- and the place after it is in the text.
   pub starts-within : (k : ℕ) {b : Bool} → b ≡ startsWith k (drop at text) → b ≡ true → at + 1 ≤ length text
   starts-within k is e = let l : at < length text = starts-inside k (sym is ∙ e) in omega arith
+
+-- The place after it fits 64 bits, as the text's length does.
+pub next-fits : (text : List ℕ) (at k : ℕ) {b : Bool} → b ≡ startsWith k (drop at text) → b ≡ true → length text < 2 ^ 64 → Fits w64 (at + 1)
+next-fits text at k is e l = record { fits = omega (arith, starts-within text at k is e) }
 
 -- Where it does not stand the grammar breaks.
 pub after-none : {A : Type 0} (k : ℕ) (r : List ℕ → Read A) (t : List ℕ) → startsWith k t ≡ false → after k r t ≡ broken t

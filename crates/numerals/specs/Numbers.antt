@@ -6,18 +6,20 @@
 --     Digiting                 the loop over further digits: what is left of them gives the whole
 --     numbering                the ruleset of numbers
 -- Single bytes are in Bytes. Assumes nothing.
-use Prim.Native.Nat.{ℕ, zero, suc, _+_, _-_, _*_, _^_, _≤_, _<_}
-use mathlib.Core.Path.{_≡_, refl, sym, _∙_}
+use Prim.Native.Nat.{ℕ, zero, suc, _+_, _-_, _*_, _^_, _≤_, _<_, min}
+use mathlib.Core.Path.{_≡_, refl, sym, ap, _∙_}
 use mathlib.Core.Bool.{Bool, true, false, cond, and-eq-true-iff, true≢false}
 use mathlib.Core.List.{List, [], _∷_}
+use native.Mathlib.Decide.{decLe}
+use native.Mathlib.Nat.{min-eq-left, min-eq-right}
 use native.Mathlib.Omega.{arith}
-use lib.ListN.{length, getD, drop}
+use lib.ListN.{length, getD, drop, drop-of-length-le}
 use mir.Syntax.{w16}
 use mir.Val.{Fits}
 use borrow.Author.Needs.{needs}
 use borrow.Author.Tests.{eq-eqb, leb-true, ne-eqb}
 use Rattle.grammar.specs.Reading.{Read, broken, digit, furtherDigits, got, moreDigits, readField, readNumber}
-use Rattle.numerals.specs.Bytes.{after-none, after-there, digit-inside, digitOf, left-there, starts-within, startsWith}
+use Rattle.numerals.specs.Bytes.{after-none, after-there, digit-inside, digitOf, left-there, next-fits, starts-within, startsWith}
 use Rattle.numerals.specs.declared.numbers.Number.{Number}
 use Rattle.numerals.specs.declared.numbers.Number.the-variants as number
 
@@ -179,12 +181,26 @@ module _ (text : List ℕ) (at : ℕ) {d : ℕ} (is : d ≡ digitOf (drop at tex
       let here : drop at text ≡ getD text at 0 ∷ drop (at + 1) text = number-left h in
       record { says = rw here (begun-read (getD text at 0) d (drop (at + 1) text) (rw here at is) h z) ∙ t .says; within = t .within }
 
+-- Past the end of the text no more is left than at its end.
+left-within : (at : ℕ) (text : List ℕ) → drop at text ≡ drop (min at (length text)) text
+left-within at text =
+    elim (decLe at (length text)) [
+      | yes h ↦ rw (min-eq-left h)
+      | no h ↦
+          let past : length text ≤ at = omega arith in
+          let end : length text ≤ length text = omega arith in
+          rw (min-eq-right past, drop-of-length-le text past, drop-of-length-le text end)
+    ]
+
 module _ (text : List ℕ) (at : ℕ) {b : Bool} (is : b ≡ startsWith 44 (drop at text)) where
   pub field-number : {s : Read ℕ} {p : ℕ} → b ≡ true → Told text (readNumber (drop (at + 1) text)) s p → Told text (readField (drop at text)) s p
   field-number e t = record { says = after-there text at 44 readNumber (sym is ∙ e) ∙ t .says; within = t .within }
 
-  pub field-broken : b ≡ false → at ≤ length text → Told text (readField (drop at text)) (broken (drop at text)) at
-  field-broken e l = record { says = after-none 44 readNumber (drop at text) (sym is ∙ e); within = l }
+  pub field-broken : {p : ℕ} → b ≡ false → p ≡ min at (length text) → Told text (readField (drop at text)) (broken (drop p text)) p
+  field-broken e q = record {
+    says = after-none 44 readNumber (drop at text) (sym is ∙ e) ∙ ap broken (rw q (left-within at text));
+    within = omega arith;
+  }
 
 pub ruleset numbering = (
   digits-start,
@@ -199,6 +215,7 @@ pub ruleset numbering = (
   number-zero,
   number-more,
   starts-within,
+  next-fits,
   field-number,
   field-broken,
   needs,

@@ -1,5 +1,5 @@
 // Numbers of a line, read at a place of the text. What is left at a place is the text without the bytes before it.
-ghost use Prim.Native.Nat.{_<_, _≤_};
+ghost use Prim.Native.Nat.{_<_, _≤_, min};
 ghost use mathlib.Core.Path.{_≡_};
 ghost use lib.ListN.{drop, length};
 ghost use Rattle.grammar.specs.Reading.{furtherDigits, moreDigits, readField, readNumber};
@@ -74,13 +74,19 @@ fn number_at(text: &[u8], at: usize) -> Number
     further_digits(text, at + 1, digit)
 }
 
-// A comma and a number.
+// A place, or the end of the text where the place is past it.
+fn within(at: usize, size: usize) -> usize
+    ensures { λ r. ⌜ r ≡ min at size ⌝ }
+{
+    if at < size { at } else { size }
+}
+
+// A comma and a number. Past the end of the text nothing is left, and the grammar breaks at its end.
 pub fn field_at(text: &[u8], at: usize) -> Number
-    requires { ⌜ at ≤ length (now text) ⌝ }
     ensures { λ r. ⌜ Numbered (now (text .entry)) (readField (drop at (now (text .entry)))) r ⌝ }
 {
     if stands(text, at, b',') {
         return number_at(text, at + 1);
     }
-    Number::Broken(at)
+    Number::Broken(within(at, text.len()))
 }

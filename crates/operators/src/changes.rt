@@ -1,7 +1,7 @@
 // What a move changes in letters, and how often it can, once it is known whether there is an inversion. Words and tableaux share it: they differ in what
 // an inversion is, and in the checks that come before. Every public function takes whatever it is given.
+use occurrences::counts::count_letters;
 use occurrences::places::Found;
-use occurrences::places::count_of;
 use occurrences::places::leftmost;
 use occurrences::places::rightmost;
 use refusals::answers::Move;
@@ -13,7 +13,7 @@ use refusals::numbers::check_index;
 use refusals::numbers::check_rank;
 use refusals::refusal::Refusal;
 ghost use mathlib.Core.Path.{_≡_};
-ghost use Prim.Native.Nat.{_<_, _≤_};
+ghost use Prim.Native.Nat.{_<_};
 ghost use lib.ListN.{length};
 ghost use Rattle.hypoplactic.specs.Moves.{given, taken};
 ghost use Rattle.hypoplactic.specs.Replies.{first, passed};
@@ -124,13 +124,13 @@ pub fn move_letters(
 
 // The repeat count past the checks: none under an inversion, else one for each letter that the move could change.
 fn repeats_of(side: Side, index: u8, inversion: bool, letters: &[u8]) -> usize
-    requires { ⌜ (index < 64) × (length (now letters) ≤ 1024) ⌝ }
+    requires { ⌜ index < 64 ⌝ }
     ensures { λ r. ⌜ r ≡ remaining (moveOf side index) inversion (now (letters .entry)) ⌝ }
 {
     if inversion {
         return 0;
     }
-    count_of(letter_taken(side, index), letters)
+    count_letters(letter_taken(side, index), letters)
 }
 
 // How often the move of either side can be made, one after the other: 1, 2, 9, or the count.

@@ -7,4 +7,4 @@ pub field-at-spec : {M : Type 1} → statement M
 field-at-spec =
     tie.close
     (tie.spec (λ c κs. search numbering) (λ c. search numbering) (λ c κs. search numbering) (λ c. search numbering)
-    (λ c. search numbering))
+    (λ c κs. search numbering) (λ c. search numbering))

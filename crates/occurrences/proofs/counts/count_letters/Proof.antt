@@ -1,11 +1,11 @@
--- `occurrences::places::count_letters` meets its contract, by the laws of specs/Parts. Assumes nothing.
+-- `occurrences::counts::count_letters` meets its contract, by the laws of specs/Parts. Assumes nothing.
 use Prim.Native.Nat.{_-_}
 use lib.ListN.{length}
 use Rattle.hypoplactic.specs.Words.{count}
 use Rattle.occurrences.specs.Counting.{Counting}
 use Rattle.occurrences.specs.Parts.{parting}
-use Rattle.occurrences.proofs.places.count_letters.Statement.{statement}
-use Rattle.occurrences.proofs.places.count_letters.Tie as tie
+use Rattle.occurrences.proofs.counts.count_letters.Statement.{statement}
+use Rattle.occurrences.proofs.counts.count_letters.Tie as tie
 
 abbrev Inv-loop : tie.InvT-loop
 Inv-loop letter letters found₀ i₀ found i = Counting (count letter) letters i found

@@ -1,10 +1,10 @@
--- `occurrences::places::count_of` meets its contract. The invariant: so many letters before place i. Assumes nothing.
+-- `occurrences::counts::count_of` meets its contract. The invariant: so many letters before place i. Assumes nothing.
 use Prim.Native.Nat.{_-_}
 use lib.ListN.{length}
 use Rattle.hypoplactic.specs.Words.{count}
 use Rattle.occurrences.specs.Counting.{counting, Counting}
-use Rattle.occurrences.proofs.places.count_of.Statement.{statement}
-use Rattle.occurrences.proofs.places.count_of.Tie as tie
+use Rattle.occurrences.proofs.counts.count_of.Statement.{statement}
+use Rattle.occurrences.proofs.counts.count_of.Tie as tie
 
 abbrev Inv-loop : tie.InvT-loop
 Inv-loop letter word found₀ i₀ found i = Counting (count letter) word i found
