@@ -23,7 +23,7 @@ fn counted_on(before: usize, fault: Fault) -> Fault
 }
 
 // 4 of a second word.
-pub fn check_second_letters(first: &[u8], rank: usize, second: &[u8]) -> Verdict
+pub(crate) fn check_second_letters(first: &[u8], rank: usize, second: &[u8]) -> Verdict
     ensures { λ r. ⌜ saidVerdict r ≡ countOn (length (now (first .entry))) (lettersJudged rank (now (second .entry))) ⌝ }
 {
     let fault = letter_fault(rank, second);

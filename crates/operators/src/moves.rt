@@ -23,7 +23,7 @@ ghost use Rattle.refusals.specs.Said.{saidMove, saidRepeat, saidVerdict};
 ghost use Rattle.operators.specs.Targets.{moveOf};
 
 // 1, 2, 4 and 9: what a move and a repeat count check first.
-pub fn check_move(rank: usize, index: usize, word: &[u8]) -> Verdict
+fn check_move(rank: usize, index: usize, word: &[u8]) -> Verdict
     ensures { λ r. ⌜ saidVerdict r ≡ checksThen (wordJudgements rank (now (word .entry))) (indexJudged rank index ∷ []) ⌝ }
 {
     or_else(check_word(rank, word), check_index(rank, index))

@@ -17,7 +17,7 @@ ghost use Rattle.hypoplactic.specs.Judgements.{entriesJudged, lettersJudged, ma
 ghost use Rattle.refusals.specs.Said.{saidVerdict};
 
 // 4, 5 and 6: the cells of a tableau, of a pair, or the used cells of one.
-pub fn check_cells(rank: usize, letters: &[u8], marks: &[u8]) -> Verdict
+fn check_cells(rank: usize, letters: &[u8], marks: &[u8]) -> Verdict
     ensures { λ r. ⌜
         saidVerdict r
         ≡ first

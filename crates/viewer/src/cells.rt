@@ -9,7 +9,7 @@ ghost use Rattle.hypoplactic.specs.TableauOperations.{cellAt, throughSays};
 ghost use Rattle.refusals.specs.Said.{saidCell, saidVerdict};
 
 // The steps with a mark on the way to the cell at a place: with 1 the cell's row, with 0 its column. The first cell's mark is no step.
-pub fn steps_to(mark: u8, marks: &[u8], place: usize) -> usize
+fn steps_to(mark: u8, marks: &[u8], place: usize) -> usize
     ensures { λ r. ⌜ r ≡ stepsTo mark (now (marks .entry)) place ⌝ }
 {
     if marks.len() == 0 {
@@ -34,7 +34,7 @@ pub fn cell_at(letters: &[u8], marks: &[u8], place: usize) -> Cell
 }
 
 // The cell at a place, through a viewer whose making gave the verdict `made`: a refusal is passed on, so that no cell is called missing for it.
-pub fn cell_through(place: usize, letters: &[u8], marks: &[u8], made: Verdict) -> Cell
+pub(crate) fn cell_through(place: usize, letters: &[u8], marks: &[u8], made: Verdict) -> Cell
     ensures { λ r. ⌜ saidCell r ≡ throughSays (saidVerdict made) (now (letters .entry)) (now (marks .entry)) place ⌝ }
 {
     match made {

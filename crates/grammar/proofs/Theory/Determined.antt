@@ -1,8 +1,8 @@
--- A line determines its values: w-determined, t-determined, n-determined, j-determined, e-determined; and decimal-injective. They hold of all numbers.
+-- A line determines its values: w-determined, t-determined, n-determined, j-determined, e-determined. They hold of all numbers.
 -- Assumes nothing.
 use Prim.Native.Nat.{ℕ, zero, suc, _≤_}
 use mathlib.Core.Path.{_≡_, refl, sym, ap, _∙_}
-use mathlib.Core.List.{List, [], _∷_, _++_, append-assoc, append-nil}
+use mathlib.Core.List.{List, [], _∷_, _++_, append-assoc}
 use native.Mathlib.Omega.{arith}
 use lib.ListN.{length, drop, getD}
 use Rattle.grammar.specs.Numbers.{decimal}
@@ -124,7 +124,3 @@ j-determined a b c d h = two-cut a b c d (ap (drop 1) h)
 pub e-determined : (a b c d : ℕ) → eLine a b ≡ eLine c d → (a ≡ c) × (b ≡ d)
 unfolding eLine
 e-determined a b c d h = two-cut a b c d (ap (drop 1) h)
-
--- Digits determine their number.
-pub decimal-injective : (n m : ℕ) → decimal n ≡ decimal m → n ≡ m
-decimal-injective n m h = decimal-cut n m [] [] tt tt (append-nil (decimal n) ∙ h ∙ sym (append-nil (decimal m))) .0
