@@ -5,7 +5,8 @@
 --     changedPlace       the place of the letter that a move changes, if the move is defined
 --     moved              the new letters, with no bound on the index
 --     moveWord, moveTableau   the same at rank n, where an index outside 1 to n - 1 leaves the move undefined
---     repeatWord, repeatTableau   document 01's repeat count
+--     remaining          how many letters a move could change
+--     repeatWord, repeatTableau   document 01's repeat count, which is that number
 --     timesWord, timesTableau     a move made a number of times, one after the other
 -- Assumes nothing.
 use Prim.Native.Nat.{ℕ, zero, suc}
@@ -108,12 +109,16 @@ moveWord n m w = guarded n m (movedWord m w)
 unfoldable pub moveTableau : ℕ → Move → List ℕ → List ℕ → Option (List ℕ)
 moveTableau n m xs ms = guarded n m (movedTableau m xs ms)
 
--- The repeat count: 0 under an inversion, else how many letters the move could change.
+-- How many letters a move could change, the second argument telling whether there is an inversion: then none.
+abbrev pub remaining : Move → Bool → List ℕ → ℕ
+remaining m inversion w = cond inversion 0 (count (taken (m .side) (m .index)) w)
+
+-- The repeat count.
 unfoldable pub repeatWord : Move → List ℕ → ℕ
-repeatWord m w = cond (inverted (m .index) w) 0 (count (taken (m .side) (m .index)) w)
+repeatWord m w = remaining m (inverted (m .index) w) w
 
 unfoldable pub repeatTableau : Move → List ℕ → List ℕ → ℕ
-repeatTableau m xs ms = cond (below (m .index) xs ms) 0 (count (taken (m .side) (m .index)) xs)
+repeatTableau m xs ms = remaining m (below (m .index) xs ms) xs
 
 -- Whether there is a result.
 abbrev pub Defined : Option (List ℕ) → Type 0

@@ -1,19 +1,20 @@
 -- What the operations on words reply to every input, and what lent memory then holds (document 01; the checks that each makes, in order).
 --     junctionSays      1 2 4                gives the junction set and the rows
 --     moveWordSays      1 2 4 9 10 11        gives no value; moveWordRun changes the word in place
+--     undefinedBy, moveReply                 a move's reply past the checks of its word or tableau, from the move's definition, as theorems say it
 --     repeatWordSays    1 2 4 9              gives the repeat count
 --     sameClassSays, weightsSays   1 2 4 of two words      give 1 or 0; 0 equal, 1 lower, 2 higher, 3 neither
 -- Assumes nothing.
 use Prim.Native.Nat.{ℕ}
 use mathlib.Core.List.{List, [], _∷_, _++_}
-use mathlib.Core.Bool.{Bool}
+use mathlib.Core.Bool.{Bool, cond}
 use mathlib.Core.Option.{Option, none, some}
 use lib.ListN.{length}
 use Rattle.hypoplactic.specs.Words.{tick}
-use Rattle.hypoplactic.specs.Moves.{Move, inverted, taken, movedWord, repeatWord}
+use Rattle.hypoplactic.specs.Moves.{Move, indexOf, inverted, taken, movedWord, repeatWord}
 use Rattle.hypoplactic.specs.Junctions.{junctionSet, rowsOf, sameClass}
 use Rattle.hypoplactic.specs.Weights.{Comparison, equal, lower, higher, neither, compareWeights}
-use Rattle.hypoplactic.specs.Replies.{Said, gives, first, ranTo, countOn}
+use Rattle.hypoplactic.specs.Replies.{Said, gives, refused, first, ranTo, countOn}
 use Rattle.hypoplactic.specs.Judgements.{rankJudged, lengthJudged, lettersJudged, indexJudged, inversionJudged, letterJudged, wordJudgements}
 
 unfoldable pub junctionSays : ℕ → List ℕ → Said
@@ -27,6 +28,15 @@ moveJudgements n m inversion w = indexJudged n (m .index) ∷ inversionJudged in
 abbrev pub orSame : Option (List ℕ) → List ℕ → List ℕ
 orSame none w = w
 orSame (some v) w = v
+
+-- Why a move is undefined: its index, else an inversion, as the last argument tells, else no letter to change.
+abbrev pub undefinedBy : ℕ → Move → Bool → ℕ
+undefinedBy n m inversion = cond (indexOf n (m .index)) (cond inversion 10 11) 9
+
+-- The reply to a move whose letters, if it is defined, are these, and whose refusal, if it is not, has this number.
+abbrev pub moveReply : ℕ → Option (List ℕ) → Said
+moveReply k none = refused k 0
+moveReply k (some v) = gives []
 
 unfoldable pub moveWordSays : ℕ → Move → List ℕ → Said
 moveWordSays n m w = first (wordJudgements n w ++ moveJudgements n m (inverted (m .index) w) w) (gives [])

@@ -18,12 +18,11 @@ use mir.Val.{Fits}
 use lib.ListN.{length, set}
 use borrow.Author.Needs.{needs}
 use Rattle.hypoplactic.specs.Words.{count}
-use Rattle.hypoplactic.specs.Moves.{Move, taken, given, moved, replaced, target}
+use Rattle.hypoplactic.specs.Moves.{Move, taken, given, moved, remaining, replaced, target}
 use Rattle.hypoplactic.specs.Replies.{Said, gives, refused, passed, orElse, first, refuseIf, ranTo}
 use Rattle.hypoplactic.specs.Judgements.{rankJudged, lengthJudged, indexJudged, inversionJudged, letterJudged}
 use Rattle.hypoplactic.specs.WordOperations.{moveJudgements, orSame}
 use Rattle.hypoplactic.proofs.Theory.Judgements.{rank-judged, length-judged, index-judged}
-use Rattle.hypoplactic.proofs.Theory.MoveCounts.{remaining}
 use Rattle.hypoplactic.proofs.Theory.Passing.{Passes, Passing, first-append, first-past}
 use Rattle.refusals.specs.Running.{all-passing, run-stopped}
 use Rattle.refusals.specs.Said.{saidRefusal, saidVerdict}

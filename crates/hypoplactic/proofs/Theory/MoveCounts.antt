@@ -1,25 +1,20 @@
 -- What a move leaves to change (document 01, "Moves"): each time one letter fewer.
---     remaining m b w    how many letters of w the move m could change, none where the test b for an inversion passes
---     Counted m b w o    what the answer o says of that number: undefined, it is 0; defined, it is one more than afterwards
+--     Counted m b w o    what the answer o says of the letters that the move could change: undefined, there is none; defined, one more than afterwards
 --     moved-counted      a move's answer says so
 -- Assumes nothing.
 use Prim.Native.Nat.{ℕ, suc}
 use mathlib.Core.Path.{_≡_, refl}
 use mathlib.Core.List.{List, [], _∷_}
-use mathlib.Core.Bool.{Bool, true, false, cond}
+use mathlib.Core.Bool.{Bool, true, false}
 use mathlib.Core.Option.{Option, none, some}
 use native.Mathlib.Omega.{arith}
 use lib.Dec.{eqb}
 use borrow.Author.Tests.{eq-eqb, ne-eqb}
 use Rattle.hypoplactic.specs.Words.{tick, count}
-use Rattle.hypoplactic.specs.Moves.{Side, raising, lowering, Move, taken, inverted, moved}
+use Rattle.hypoplactic.specs.Moves.{Side, raising, lowering, Move, taken, inverted, moved, remaining}
 use Rattle.hypoplactic.proofs.Theory.Undo.{Lacks, Changed, here, after, Turned, Outcome, moved-outcome}
 
--- How many letters the move could change.
-abbrev pub remaining : Move → Bool → List ℕ → ℕ
-remaining m b w = cond b 0 (count (taken (m .side) (m .index)) w)
-
--- What an answer says of that number.
+-- What an answer says of the letters that the move could change.
 abbrev pub Counted : Move → Bool → List ℕ → Option (List ℕ) → Type 0
 Counted m b w none = remaining m b w ≡ 0
 Counted m b w (some v) = remaining m b w ≡ suc (remaining m false v)

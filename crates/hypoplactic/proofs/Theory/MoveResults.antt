@@ -1,6 +1,4 @@
 -- What a move replies to an accepted word and to a valid tableau: defined, it is made; undefined, the first of 9, 10 and 11 that applies.
---     undefinedBy n m b     the number of the refusal, b telling whether there is an inversion
---     moveReply k o         the reply, o being the letters after the move, if it is defined, and k the refusal's number, if not
 --     move-word-result, move-tableau-result     the reply and the lent letters
 --     move-word-made, move-word-refused         the same where the move is defined, and where it is not
 --     move-tableau-made, move-tableau-refused
@@ -18,7 +16,7 @@ use Rattle.hypoplactic.specs.Ribbons.{TableauAt}
 use Rattle.hypoplactic.specs.Moves.{Move, below, guarded, indexOf, inverted, moved, moveTableau, moveWord, taken}
 use Rattle.hypoplactic.specs.Replies.{Said, first, gives, orElse, passed, ranTo, refused, refuseIf}
 use Rattle.hypoplactic.specs.Judgements.{indexJudged, inversionJudged, letterJudged, tableauJudgements, wordJudgements}
-use Rattle.hypoplactic.specs.WordOperations.{moveJudgements, moveWordRun, moveWordSays, orSame}
+use Rattle.hypoplactic.specs.WordOperations.{moveJudgements, moveReply, moveWordRun, moveWordSays, orSame, undefinedBy}
 use Rattle.hypoplactic.specs.TableauOperations.{moveTableauRun, moveTableauSays}
 use Rattle.hypoplactic.proofs.Theory.Boundary.{along-of-tableau}
 use Rattle.hypoplactic.proofs.Theory.Seating.{rising-of-along}
@@ -26,15 +24,6 @@ use Rattle.hypoplactic.proofs.Theory.MoveCounts.{Counted, moved-counted
 use Rattle.hypoplactic.proofs.Theory.MoveTableau.{rising-upright}
 use Rattle.hypoplactic.proofs.Theory.Passing.{Passing, first-past}
 use Rattle.hypoplactic.proofs.Theory.Judged.{tableau-passing, word-passing}
-
--- Why a move is undefined: its index, else an inversion, else no letter to change.
-abbrev pub undefinedBy : ℕ → Move → Bool → ℕ
-undefinedBy n m b = cond (indexOf n (m .index)) (cond b 10 11) 9
-
--- The reply to a move past the checks of its word or tableau.
-abbrev pub moveReply : ℕ → Option (List ℕ) → Said
-moveReply k none = refused k 0
-moveReply k (some v) = gives []
 
 -- 9, 10 and 11 as tests.
 tests-reply : (m : Move) (w : List ℕ) (t b : Bool) → (b ≡ false → inverted (m .index) w ≡ false)

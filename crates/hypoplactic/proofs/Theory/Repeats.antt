@@ -11,9 +11,9 @@ use mathlib.Core.Bool.{Bool, false}
 use mathlib.Core.Option.{Option, none, some}
 use native.Mathlib.Omega.{arith}
 use Rattle.hypoplactic.specs.Ribbons.{Tableau}
-use Rattle.hypoplactic.specs.Moves.{Move, inverted, below, moved, repeatWord, repeatTableau, Defined, andThen, timesWord, timesTableau}
+use Rattle.hypoplactic.specs.Moves.{Move, inverted, below, moved, remaining, repeatWord, repeatTableau, Defined, andThen, timesWord, timesTableau}
 use Rattle.hypoplactic.proofs.Theory.Undo.{turned-upright, word-turned}
-use Rattle.hypoplactic.proofs.Theory.MoveCounts.{remaining, Counted, moved-counted}
+use Rattle.hypoplactic.proofs.Theory.MoveCounts.{Counted, moved-counted}
 use Rattle.hypoplactic.proofs.Theory.MoveValid.{tableau-upright, moved-valid}
 
 -- A move on letters that are good, under a test for an inversion: where the test fails the letters have none, and a moved word is good and passes no test.

@@ -19,14 +19,14 @@ use Rattle.hypoplactic.specs.Insertion.{Pair, lettersOf, marksOf, pairOf
 use Rattle.hypoplactic.specs.Reading.{columnReading}
 use Rattle.hypoplactic.specs.Moves.{Move, indexOf, inverted, moveTableau, moveWord, movedWord}
 use Rattle.hypoplactic.specs.Replies.{Said, gives, written}
-use Rattle.hypoplactic.specs.WordOperations.{moveWordRun, orSame}
+use Rattle.hypoplactic.specs.WordOperations.{moveReply, moveWordRun, orSame, undefinedBy}
 use Rattle.hypoplactic.specs.TableauOperations.{insertRun, moveTableauRun, recordingRun, tableauRun, usedCells, wordRun, writtenPair}
 use Rattle.hypoplactic.proofs.Theory.Closure.{pair-word-accepted, reading-accepted, word-pair-at, word-tableau-at}
 use Rattle.hypoplactic.proofs.Theory.Correspondence.{pair-of-word, word-of-pair}
 use Rattle.hypoplactic.proofs.Theory.Layers.{within-snoc}
 use Rattle.hypoplactic.proofs.Theory.Memory.{written-length, written-needed}
 use Rattle.hypoplactic.proofs.Theory.MoveRecording.{move-recording}
-use Rattle.hypoplactic.proofs.Theory.MoveResults.{move-tableau-result, move-word-result, moveReply, undefinedBy}
+use Rattle.hypoplactic.proofs.Theory.MoveResults.{move-tableau-result, move-word-result}
 use Rattle.hypoplactic.proofs.Theory.MoveTableau.{inversion-below, tableau-answer}
 use Rattle.hypoplactic.proofs.Theory.Pairs.{length-letters, length-marks, length-recording, length-snoc, pair-snoc}
 use Rattle.hypoplactic.proofs.Theory.ReadBack.{read-back}
