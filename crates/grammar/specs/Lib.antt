@@ -2,3 +2,4 @@ pub mod Numbers
 pub mod Lines
 pub mod Reading
 pub mod Values
+pub mod Breaks

@@ -1,6 +1,7 @@
 -- The values that a line can hold and be read back: what the theorems on lines ask of them.
 --     Small xs      fewer than 10,000 numbers, each below 10,000
 --     Marked xs ms  a mark for each letter, the first 0, each other 0 or 1
+--     WGood, TGood  the values of a W line, of a T line; those of an N line are Small
 -- Assumes nothing.
 use Prim.Native.Nat.{ℕ, _≤_, _<_}
 use mathlib.Core.Path.{_≡_}
@@ -33,3 +34,11 @@ Marked [] [] = Unit
 Marked [] (m ∷ ms) = ⊥
 Marked (x ∷ xs) [] = ⊥
 Marked (x ∷ xs) (m ∷ ms) = (m ≡ 0) × Stepped xs ms
+
+-- What a W line holds: rank and letters.
+abbrev pub WGood : ℕ × List ℕ → Type 0
+WGood v = Short (v .0) × Small (v .1)
+
+-- What a T line holds: rank, letters and marks.
+abbrev pub TGood : ℕ × List ℕ × List ℕ → Type 0
+TGood v = Short (v .0) × Small (v .1) × Marked (v .1) (v .2)

@@ -5,7 +5,7 @@ use mathlib.Core.Path.{_≡_, refl, sym, ap}
 use mathlib.Core.List.{List, [], _∷_, _++_, append-nil}
 use lib.ListN.{length, length-map}
 use Rattle.grammar.specs.Lines.{line, field, items, firstCell, cell, cells, wLine, tLine, nLine}
-use Rattle.grammar.specs.Values.{Items, Short, Small, Marked}
+use Rattle.grammar.specs.Values.{Items, Short, Small, Marked, WGood, TGood}
 use Rattle.grammar.specs.Reading.{Read, many, counted, readLine, readFirst, readCell, letters, marks, readW, readT, readN}
 use Rattle.grammar.proofs.Theory.Items.{Cell, First, cells-of, ribbon-of}
 use Rattle.grammar.proofs.Theory.Exact.{Exact, nothing-exact, ended-exact, after-exact, both-exact}
@@ -40,10 +40,7 @@ line-exact : {A : Type 0} {P : A → Type 0} {p : A → List ℕ} {r : List ℕ 
 line-exact {P} {p} kind f =
     after-exact kind (both-exact P (λ a. p a ++ (10 ∷ [])) (λ a u. a) f (λ a. after-exact 10 ended-exact) (λ a u h g. (h, refl)))
 
--- What W lines hold, and their exact reading.
-abbrev pub WGood : ℕ × List ℕ → Type 0
-WGood v = Short (v .0) × Small (v .1)
-
+-- W lines and their exact reading.
 pub w-exact : Exact WGood (λ v. wLine (v .0) (v .1)) readW
 unfolding wLine readW
 w-exact =
@@ -52,10 +49,7 @@ w-exact =
     (λ n. counted-exact field-exact field-exact)
     (λ n xs h g. ((h, g), refl)))
 
--- What T lines hold, and their exact reading.
-abbrev pub TGood : ℕ × List ℕ × List ℕ → Type 0
-TGood v = Short (v .0) × Small (v .1) × Marked (v .1) (v .2)
-
+-- T lines and their exact reading.
 pub t-exact : Exact TGood (λ v. tLine (v .0) (v .1) (v .2)) readT
 unfolding tLine readT
 t-exact =

@@ -1,5 +1,4 @@
 -- Where the grammar breaks: at the end of the longest beginning of the text that goes on to some line of the kind.
---     Breaks              the first p bytes begin some line of the kind and the first p + 1 do not, or the text ends at p and is no line
 --     w-breaks, t-breaks, n-breaks     a reading is broken with the rest from p on exactly when the kind breaks at p
 -- Assumes nothing.
 use Prim.Native.Nat.{ℕ, suc, _+_, _-_, _≤_, _<_}
@@ -11,20 +10,13 @@ use native.Mathlib.Omega.{arith}
 use lib.ListN.{length, take, drop, getD, length-append, length-drop, take-append-drop}
 use lib.Seq.{take-at, append-snoc, drop-at, drop-cons, take-suc, take-take}
 use Rattle.grammar.specs.Lines.{wLine, tLine, nLine}
-use Rattle.grammar.specs.Values.{Small}
+use Rattle.grammar.specs.Values.{Small, WGood, TGood}
+use Rattle.grammar.specs.Breaks.{Breaks, IsW, IsT, IsN}
 use Rattle.grammar.specs.Reading.{Read, got, broken, readW, readT, readN}
 use Rattle.grammar.proofs.Theory.Exact.{Broke, Exact, not-both}
-use Rattle.grammar.proofs.Theory.LinesExact.{WGood, TGood, w-exact, t-exact, n-exact}
+use Rattle.grammar.proofs.Theory.LinesExact.{w-exact, t-exact, n-exact}
 use Rattle.grammar.proofs.Theory.Complete.{w-complete, t-complete, n-complete}
 use Rattle.grammar.proofs.Theory.Sound.{w-sound, t-sound, n-sound}
-
--- The kind breaks at p: the first p bytes go on to some line; with the next byte, if there is one, no line begins so; and the text is no line.
-pub record Breaks (Line : List ℕ → Type 0) (text : List ℕ) (p : ℕ) : Type 0 where
-  pub within : p ≤ length text
-  pub tail : List ℕ
-  pub begins : Line (take p text ++ tail)
-  pub stops : (z : List ℕ) → p < length text → Line (take (suc p) text ++ z) → ⊥
-  pub none : Line text → ⊥
 
 -- A kind breaks at one place only.
 breaks-once : (Line : List ℕ → Type 0) (text : List ℕ) (p q : ℕ) → Breaks Line text p → Breaks Line text q → p ≤ q
@@ -98,18 +90,6 @@ module _ {A : Type 0} {Good : A → Type 0} {put : A → List ℕ} {get : List �
 
   exactly : (text : List ℕ) (p : ℕ) → Breaks (Written Good put) text p ↔ ((p ≤ length text) × (get text ≡ broken (drop p text)))
   exactly text p = (λ h. (h .within, breaks-broken text p h), λ h. broken-breaks text p (h .0) (h .1))
-
--- The texts that are W lines.
-abbrev pub IsW : List ℕ → Type 0
-IsW text = (v : ℕ × List ℕ) × WGood v × (text ≡ wLine (v .0) (v .1))
-
--- The texts that are T lines.
-abbrev pub IsT : List ℕ → Type 0
-IsT text = (v : ℕ × List ℕ × List ℕ) × TGood v × (text ≡ tLine (v .0) (v .1) (v .2))
-
--- The texts that are N lines.
-abbrev pub IsN : List ℕ → Type 0
-IsN text = (xs : List ℕ) × Small xs × (text ≡ nLine xs)
 
 w-kind : Kind WGood (λ v. wLine (v .0) (v .1)) readW
 w-kind =

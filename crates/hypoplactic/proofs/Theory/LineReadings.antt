@@ -13,8 +13,9 @@ use lib.ListN.{length, drop, length-drop}
 use Rattle.grammar.specs.Lines.{wLine, tLine, nLine}
 use Rattle.grammar.specs.Reading.{Read, got, broken, readW, readT, readN}
 use Rattle.grammar.specs.Values.{Items, Short, Small}
+use Rattle.grammar.specs.Breaks.{Breaks, IsW, IsT, IsN}
 use Rattle.grammar.proofs.Theory.Complete.{w-complete, t-complete, n-complete}
-use Rattle.grammar.proofs.Theory.Longest.{Breaks, IsW, IsT, IsN, w-breaks, t-breaks, n-breaks, w-place, t-place, n-place}
+use Rattle.grammar.proofs.Theory.Longest.{w-breaks, t-breaks, n-breaks, w-place, t-place, n-place}
 use Rattle.hypoplactic.specs.Words.{Accepted, Within, occurs}
 use Rattle.hypoplactic.specs.Ribbons.{TableauAt}
 use Rattle.hypoplactic.specs.Replies.{Said, gives, refused, first, passed, refuseIf, written}
