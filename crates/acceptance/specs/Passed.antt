@@ -9,11 +9,11 @@ use mathlib.Core.List.{List}
 use lib.ListN.{length}
 use borrow.Author.Needs.{needs}
 use Rattle.hypoplactic.specs.Words.{Accepted}
-use Rattle.hypoplactic.specs.Replies.{Said, gives, refused, passed, first, countOn}
+use Rattle.hypoplactic.specs.Replies.{Said, gives, refused, passed, Passes, first, countOn}
 use Rattle.hypoplactic.specs.Judgements.{lettersJudged, wordJudgements}
 use Rattle.hypoplactic.specs.WordOperations.{wordsJudgements}
 use Rattle.hypoplactic.proofs.Theory.Judged.{word-judged, word-passing}
-use Rattle.hypoplactic.proofs.Theory.Passing.{Passes, Passing, first-passed}
+use Rattle.hypoplactic.proofs.Theory.Passing.{Passing, first-passed}
 use Rattle.refusals.specs.Chains.{stops, goes-on}
 use Rattle.refusals.specs.Said.{saidVerdict}
 use Rattle.refusals.specs.declared.answers.Verdict.{Verdict}

@@ -9,6 +9,7 @@ pub mod Junctions
 pub mod Weights
 pub mod Replies
 pub mod Judgements
+pub mod FirstPlaces
 pub mod WordOperations
 pub mod TableauOperations
 pub mod LineOperations

@@ -1,5 +1,6 @@
 -- What an operation replies, in document 01's own numbers, and what lent memory holds afterwards ("Returned instead of a result").
 --     Said             the values that an operation gives, or a refusal's number and place
+--     Passes s         s is no refusal
 --     first js a       the first refusal of a list of judgements, else the answer a
 --     countOn k s      the same refusal k places further on: places in a second word count on from the first's length
 --     written vs old   a lent list with values at its beginning: elements beyond those needed keep their values
@@ -19,6 +20,11 @@ pub data Said : Type 0 where
 -- A judgement that refuses nothing.
 abbrev pub passed : Said
 passed = gives []
+
+-- No refusal.
+abbrev pub Passes : Said → Type 0
+Passes (gives vs) = Unit {0}
+Passes (refused k p) = ⊥
 
 -- What the first says if it refuses, else what the second says.
 abbrev pub orElse : Said → Said → Said

@@ -3,6 +3,7 @@
 --     Ribbon S xs ms      as many entries as marks, the first mark 0, and S holds of every step: of its mark and the entries before and after it
 --     Tableau xs ms       the letters xs with the marks ms are a quasi-ribbon tableau
 --     Recording ms rs     the entries rs are a recording ribbon of the shape that the marks ms tell
+--     Simple rs           no entry stands twice
 --     ValidPair xs ms rs  both
 --     TableauAt n xs ms, PairAt n xs ms rs   the same within the limits of rank n
 --     downStep f xs ms    some down step joins two entries that pass the test f
@@ -50,6 +51,10 @@ Tableau xs ms = Ribbon LetterStep xs ms
 pub record Recording (ms rs : List ℕ) : Type 0 where
   pub steps : Ribbon EntryStep rs ms
   pub once : (e : ℕ) → 1 ≤ e → e ≤ length rs → count e rs ≡ 1
+
+-- No entry stands twice.
+abbrev pub Simple : List ℕ → Type 0
+Simple rs = (e : ℕ) → count e rs ≤ 1
 
 -- A tableau and a recording ribbon of one shape.
 pub record ValidPair (xs ms rs : List ℕ) : Type 0 where

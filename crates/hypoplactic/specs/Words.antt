@@ -2,6 +2,8 @@
 --     count a w       how often the letter a stands in w
 --     occurs a w      whether a stands in w
 --     before w p q    whether some q stands left of some p in w, adjacent or not
+--     Inside n x      x is one of 1 to n
+--     All P xs        each number of the list has the property P
 --     Within n w      each letter of w is one of 1 to n
 --     Accepted n w    document 01's accepted word: rank 1 to 64, at most 1,024 letters, each 1 to rank
 -- Assumes nothing.
@@ -30,6 +32,15 @@ occurs a (x ∷ xs) = eqb x a || occurs a xs
 abbrev pub before : List ℕ → ℕ → ℕ → Bool
 before [] p q = false
 before (x ∷ xs) p q = eqb x q && occurs p xs || before xs p q
+
+-- One of 1 to n.
+abbrev pub Inside : ℕ → ℕ → Type 0
+Inside n x = (1 ≤ x) × (x ≤ n)
+
+-- Each number has the property.
+abbrev pub All : (ℕ → Type 0) → List ℕ → Type 0
+All P [] = Unit {0}
+All P (x ∷ xs) = P x × All P xs
 
 -- Each letter is one of 1 to n.
 abbrev pub Within : ℕ → List ℕ → Type 0

@@ -19,11 +19,11 @@ use lib.ListN.{length, set}
 use borrow.Author.Needs.{needs}
 use Rattle.hypoplactic.specs.Words.{count}
 use Rattle.hypoplactic.specs.Moves.{Move, taken, given, moved, remaining, replaced, target}
-use Rattle.hypoplactic.specs.Replies.{Said, gives, refused, passed, orElse, first, refuseIf, ranTo}
+use Rattle.hypoplactic.specs.Replies.{Said, gives, refused, passed, Passes, orElse, first, refuseIf, ranTo}
 use Rattle.hypoplactic.specs.Judgements.{rankJudged, lengthJudged, indexJudged, inversionJudged, letterJudged}
 use Rattle.hypoplactic.specs.WordOperations.{moveJudgements, orSame}
 use Rattle.hypoplactic.proofs.Theory.Judgements.{rank-judged, length-judged, index-judged}
-use Rattle.hypoplactic.proofs.Theory.Passing.{Passes, Passing, first-append, first-past}
+use Rattle.hypoplactic.proofs.Theory.Passing.{Passing, first-append, first-past}
 use Rattle.refusals.specs.Running.{all-passing, run-stopped}
 use Rattle.refusals.specs.Said.{saidRefusal, saidVerdict}
 use Rattle.refusals.specs.declared.refusal.Refusal.{Refusal}

@@ -16,8 +16,9 @@ use lib.Seq.{take-suc}
 use borrow.Author.Needs.{needs}
 use Rattle.hypoplactic.specs.Words.{occurs}
 use Rattle.hypoplactic.specs.Judgements.{outside, entriesJudged, stepBroken, recordingJudged}
+use Rattle.hypoplactic.specs.FirstPlaces.{shorter}
 use Rattle.hypoplactic.specs.Replies.{gives, refused}
-use Rattle.hypoplactic.proofs.Theory.FirstPlaces.{entries-scan, recording-scan, shorter}
+use Rattle.hypoplactic.proofs.Theory.FirstPlaces.{entries-scan, recording-scan}
 use Rattle.refusals.specs.Scanning.{Scanning, scanFrom, scan-from, start, turn, found, none}
 use Rattle.shapes.specs.Clear.{clearing}
 use Rattle.recordings.specs.Seen.{InTable, Judged, Met, Reaches, Seen}

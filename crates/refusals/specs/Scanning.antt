@@ -10,7 +10,7 @@ use mathlib.Core.List.{[]}
 use native.Mathlib.Omega.{arith}
 use native.Mathlib.Numerals.{add-one}
 use Rattle.hypoplactic.specs.Replies.{Said, gives, refused, passed, refuseIf}
-use Rattle.hypoplactic.proofs.Theory.FirstPlaces.{scan}
+use Rattle.hypoplactic.specs.FirstPlaces.{scan}
 
 unfoldable pub scanFrom : ℕ → (ℕ → Bool) → ℕ → ℕ → Said
 scanFrom k fault i zero = passed

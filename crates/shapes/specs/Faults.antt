@@ -15,7 +15,8 @@ use lib.ListN.{length, getD}
 use borrow.Author.Needs.{needs}
 use borrow.Author.Tests.{eq-eqb, lt-ltb, ne-eqb}
 use Rattle.hypoplactic.specs.Judgements.{risingJudged, marksJudged}
-use Rattle.hypoplactic.proofs.Theory.FirstPlaces.{rising-scan, marks-scan, markFault, shorter}
+use Rattle.hypoplactic.specs.FirstPlaces.{markFault, shorter}
+use Rattle.hypoplactic.proofs.Theory.FirstPlaces.{rising-scan, marks-scan}
 use Rattle.refusals.specs.Scanning.{Scanning, scanFrom, scan-from, start, turn, found, none}
 use Rattle.shapes.specs.Clear.{clearing}
 

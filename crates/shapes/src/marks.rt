@@ -7,9 +7,11 @@ ghost use Prim.Native.Nat.{_<_, min};
 ghost use mathlib.Core.Path.{_≡_};
 ghost use lib.ListN.{length};
 ghost use Rattle.hypoplactic.specs.Judgements.{marksJudged};
+ghost use Rattle.hypoplactic.specs.FirstPlaces.{markFault};
+ghost use Rattle.shapes.specs.Clear.{Cleared};
+ghost use Rattle.hypoplactic.specs.FirstPlaces.{markFault};
 ghost use Rattle.shapes.specs.Clear.{Cleared};
 ghost use Rattle.shapes.specs.Faults.{largestMark};
-ghost use Rattle.hypoplactic.proofs.Theory.FirstPlaces.{markFault};
 ghost use Rattle.refusals.specs.Said.{saidVerdict};
 
 // The largest mark of a step between two letters: none goes down between equals.

@@ -16,7 +16,7 @@ use mathlib.Core.List.{List, [], _∷_, _++_}
 use lib.Dec.{ltb}
 use lib.ListN.{length, length-set, set}
 use borrow.Author.Tests.{ltb-true}
-use Rattle.hypoplactic.specs.Words.{Accepted, Within, count}
+use Rattle.hypoplactic.specs.Words.{Accepted, Inside, Within, count}
 use Rattle.hypoplactic.specs.Rewriting.{Joined}
 use Rattle.hypoplactic.specs.Ribbons.{PairAt, TableauAt}
 use Rattle.hypoplactic.specs.Insertion.{Pair, insert, lettersOf, marksOf, pairOf, recordingOf, wordOf}
@@ -29,7 +29,7 @@ use Rattle.hypoplactic.proofs.Theory.Boundary.{tableau-of-word}
 use Rattle.hypoplactic.proofs.Theory.ReadBack.{read-back}
 use Rattle.hypoplactic.proofs.Theory.Correspondence.{pair-of-word, pair-valid}
 use Rattle.hypoplactic.proofs.Theory.MoveValid.{moved-valid}
-use Rattle.hypoplactic.proofs.Theory.Contents.{Inside, accepted-content, accepted-snoc}
+use Rattle.hypoplactic.proofs.Theory.Contents.{accepted-content, accepted-snoc}
 
 -- ---- words and their pairs
 

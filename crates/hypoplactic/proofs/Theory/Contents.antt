@@ -1,5 +1,4 @@
 -- The content of a word, how often each letter stands in it, decides its length and its limits.
---     Inside n a            a is one of 1 to n
 --     within-counts         each letter is inside exactly when only letters inside occur
 --     within-at             each letter of a word within n is one of 1 to n
 --     sum-le                the counts of some letters add up to no more than the length
@@ -17,14 +16,10 @@ use mathlib.Core.Logic.{_↔_, _⊎_, inl, inr, dite}
 use lib.Dec.{eqb}
 use lib.ListN.{length, getD, length-append}
 use borrow.Author.Tests.{eqb-true, eqb-false, ne-eqb}
-use Rattle.hypoplactic.specs.Words.{Accepted, Within, count, tick}
+use Rattle.hypoplactic.specs.Words.{Accepted, Inside, Within, count, tick}
 use Rattle.hypoplactic.specs.Weights.{sumTo}
 use Rattle.hypoplactic.proofs.Theory.Occurrences.{count-tail}
 use Rattle.hypoplactic.proofs.Theory.Letters.{count-head}
-
--- One of 1 to n.
-abbrev pub Inside : ℕ → ℕ → Type 0
-Inside n a = (1 ≤ a) × (a ≤ n)
 
 inside-or-out : (n a : ℕ) → Inside n a ⊎ (1 ≤ a → n < a)
 inside-or-out n a = dite (decLe 1 a) (λ (p : 1 ≤ a). dite (decLe a n) (λ (q : a ≤ n). inl (p, q)) (λ (q : ¬ (a ≤ n)). inr (omega arith))) (λ (p : ¬ (1 ≤ a)). inr (omega arith))

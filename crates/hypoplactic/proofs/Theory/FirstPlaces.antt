@@ -1,9 +1,7 @@
 -- The place of a refusal is the first such place (document 01, "Returned instead of a result"). Each of the checks 4 to 8 is one scan over the places of
 -- its input for the first at which its fault stands; with what passes each check (Judgements, StepJudgements) this fixes number and place of every
 -- refusal that has more than one place to name.
---     scan k i size fault        refused with k at the first of so many places, counted from i, whose fault stands; passed where none does
 --     scan-first                 what a refusal by a scan says
---     shorter xs ms              the length of the shorter of two lists: 6 and 8 judge the places that both have
 --     letters-scan, rising-scan, marks-scan, entries-scan, recording-scan     4, 5, 6, 7, 8 as scans
 -- Assumes nothing.
 use Prim.Native.Nat.{ℕ, zero, suc, _+_, _<_}
@@ -15,19 +13,9 @@ use mathlib.Core.List.{List, [], _∷_}
 use lib.Dec.{eqb, ltb}
 use lib.ListN.{length, getD, take}
 use Rattle.hypoplactic.specs.Words.{occurs}
-use Rattle.hypoplactic.specs.Replies.{Said, refused, passed, refuseIf}
+use Rattle.hypoplactic.specs.Replies.{Said, refused, refuseIf}
 use Rattle.hypoplactic.specs.Judgements.{outside, lettersFrom, lettersJudged, risingFrom, risingJudged, marksFrom, marksJudged, entriesFrom, entriesJudged, stepBroken, stepsFrom, recordingJudged}
-
--- The first of size places, counted from i, at which the fault stands.
-abbrev pub scan : ℕ → ℕ → ℕ → (ℕ → Bool) → Said
-scan k i zero fault = passed
-scan k i (suc size) fault = refuseIf (fault 0) k i (scan k (suc i) size (λ q. fault (suc q)))
-
--- A fault stands at the d-th place of so many, and at none before it.
-pub record First (fault : ℕ → Bool) (size d : ℕ) : Type 0 where
-  pub within : d < size
-  pub stands : fault d ≡ true
-  pub none-before : (q : ℕ) → q < d → fault q ≡ false
+use Rattle.hypoplactic.specs.FirstPlaces.{First, markFault, scan, shorter}
 
 -- A scan refuses with its own number, at the first fault's place.
 pub scan-first : (k i size : ℕ) (fault : ℕ → Bool) (j p : ℕ) → scan k i size fault ≡ refused j p → (d : ℕ) × (j ≡ k) × (p ≡ i + d) × First fault size d
@@ -56,12 +44,6 @@ scan-same : (k i size : ℕ) (f g : ℕ → Bool) → ((q : ℕ) → f q ≡ g q
 scan-same k i zero f g h = refl
 scan-same k i (suc size) f g h = ap₂ (λ (b : Bool) (s : Said). refuseIf b k i s) (h 0) (scan-same k (suc i) size (λ q. f (suc q)) (λ q. g (suc q)) (λ q. h (suc q)))
 
--- As long as the shorter of two lists.
-abbrev pub shorter : List ℕ → List ℕ → ℕ
-shorter [] ms = 0
-shorter (x ∷ xs) [] = 0
-shorter (x ∷ xs) (m ∷ ms) = suc (shorter xs ms)
-
 -- ---- 4: a letter outside 1 to rank
 
 letters-from : (n i : ℕ) (xs : List ℕ) → lettersFrom n i xs ≡ scan 4 i (length xs) (λ q. outside n (getD xs q 0))
@@ -83,11 +65,6 @@ unfolding risingJudged
 rising-scan x ys = rising-from 1 x ys
 
 -- ---- 6: a first mark that is not 0, a mark that is not 0 or 1, down between equals, the last at the later cell's place
-
--- The fault of the cell at a place.
-abbrev pub markFault : List ℕ → List ℕ → ℕ → Bool
-markFault xs ms zero = ltb 0 (getD ms 0 0)
-markFault xs ms (suc q) = ltb 1 (getD ms (suc q) 0) || eqb (getD ms (suc q) 0) 1 && eqb (getD xs q 0) (getD xs (suc q) 0)
 
 marks-from : (i x : ℕ) (ys ms : List ℕ)
     → marksFrom i x ys ms ≡ scan 6 i (shorter ys ms) (λ q. ltb 1 (getD ms q 0) || eqb (getD ms q 0) 1 && eqb (getD (x ∷ ys) q 0) (getD ys q 0))

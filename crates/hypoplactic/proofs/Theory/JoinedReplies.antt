@@ -11,10 +11,10 @@ use lib.ListN.{length}
 use Rattle.hypoplactic.specs.Words.{Accepted}
 use Rattle.hypoplactic.specs.Rewriting.{Joined}
 use Rattle.hypoplactic.specs.Moves.{Move, inverted, taken}
-use Rattle.hypoplactic.specs.Replies.{Said, gives, refused, first, refuseIf, OneNumber}
+use Rattle.hypoplactic.specs.Replies.{Said, gives, refused, Passes, first, refuseIf, OneNumber}
 use Rattle.hypoplactic.specs.Judgements.{outside, rankJudged, lengthJudged, lettersFrom, lettersJudged, letterJudged, inversionJudged, indexJudged, wordJudgements}
 use Rattle.hypoplactic.specs.WordOperations.{moveJudgements, moveWordSays}
-use Rattle.hypoplactic.proofs.Theory.Passing.{Passes, first-past}
+use Rattle.hypoplactic.proofs.Theory.Passing.{first-past}
 use Rattle.hypoplactic.proofs.Theory.Contents.{within-counts}
 use Rattle.hypoplactic.proofs.Theory.Invariants.{joined-count, joined-inversion, joined-tableau}
 use Rattle.hypoplactic.proofs.Theory.Pairs.{length-letters}

@@ -8,11 +8,11 @@ use mathlib.Core.List.{List, [], _∷_}
 use mathlib.Core.Logic.{_↔_, Iff·trans}
 use lib.ListN.{length}
 use Rattle.hypoplactic.specs.Words.{Accepted, Within}
-use Rattle.hypoplactic.specs.Ribbons.{EntryStep, LetterStep, PairAt, Tableau, TableauAt}
+use Rattle.hypoplactic.specs.Ribbons.{EntryStep, LetterStep, PairAt, Simple, Tableau, TableauAt}
 use Rattle.hypoplactic.specs.Replies.{first, passed}
 use Rattle.hypoplactic.specs.Judgements.{pairJudgements, tableauJudgements, wordJudgements}
 use Rattle.hypoplactic.proofs.Theory.Passing.{Passing, first-passed}
-use Rattle.hypoplactic.proofs.Theory.Once.{Simple, once-entries}
+use Rattle.hypoplactic.proofs.Theory.Once.{once-entries}
 use Rattle.hypoplactic.proofs.Theory.Judgements.{alike-judged, entries-judged, length-judged, letters-judged, rank-judged}
 use Rattle.hypoplactic.proofs.Theory.StepJudgements.{recording-steps, ribbon-length, tableau-steps}
 

@@ -4,7 +4,6 @@
 --     letters-judged, entries-judged                               4, 7
 --     index-judged, inversion-judged, letter-judged                9, 10, 11
 --     full-judged, room-judged                                     12, 13
---     All P ls             each number of the list has the property P
 --     exchange             two pairs of facts, taken the other way
 -- Assumes nothing.
 use Prim.Native.Nat.{ℕ, suc, _≤_, _<_}
@@ -16,12 +15,12 @@ use mathlib.Core.Logic.{_↔_, Iff·rfl, Iff·trans, Iff·and}
 use mathlib.Mathlib.Data.Bool.Basic.{or-eq-false-eq-eq-false-and-eq-false as or-false-iff}
 use lib.Dec.{eqb, ltb, leb}
 use borrow.Author.Tests.{ltb-true, ltb-false, le-ltb, leb-false, lt-leb, lt-ltb, eqb-true, eqb-false, eq-eqb, ne-eqb, not-false}
-use Rattle.hypoplactic.specs.Words.{Within, count, occurs, tick}
+use Rattle.hypoplactic.specs.Words.{All, Inside, Within, count, occurs, tick}
+use Rattle.hypoplactic.specs.Ribbons.{Simple}
 use Rattle.hypoplactic.specs.Moves.{indexOf}
+use Rattle.hypoplactic.specs.Replies.{Passes}
 use Rattle.hypoplactic.specs.Judgements.{outside, rankJudged, lengthJudged, alikeJudged, usedJudged, lettersFrom, lettersJudged, entriesFrom, entriesJudged, indexJudged, inversionJudged, letterJudged, fullJudged, roomJudged}
-use Rattle.hypoplactic.proofs.Theory.Passing.{Passes, passes-then, passes-test}
-use Rattle.hypoplactic.proofs.Theory.Contents.{Inside}
-use Rattle.hypoplactic.proofs.Theory.Once.{Simple}
+use Rattle.hypoplactic.proofs.Theory.Passing.{passes-then, passes-test}
 
 -- ---- tests
 
@@ -76,11 +75,6 @@ unfolding roomJudged
 room-judged need have = passes-test (ltb have need) 13 need (at-most have need)
 
 -- ---- lists of numbers
-
--- Each number of the list has the property.
-abbrev pub All : (ℕ → Type 0) → List ℕ → Type 0
-All P [] = Unit {0}
-All P (x ∷ xs) = P x × All P xs
 
 -- 3: every part is as long as the letters.
 pub alike-judged : (k : ℕ) (ls : List ℕ) → Passes (alikeJudged k ls) ↔ All (λ l. l ≡ k) ls

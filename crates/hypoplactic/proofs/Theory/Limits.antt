@@ -13,9 +13,9 @@ use mathlib.Core.List.{List, [], _∷_}
 use native.Mathlib.Nat.{eq-zero-or-pos}
 use native.Mathlib.Omega.{arith}
 use lib.Dec.{ltb}
-use Rattle.hypoplactic.specs.Words.{Accepted, Within, count, occurs}
+use Rattle.hypoplactic.specs.Words.{Accepted, Inside, Within, count, occurs}
 use Rattle.hypoplactic.specs.Insertion.{lettersOf}
-use Rattle.hypoplactic.proofs.Theory.Contents.{Inside, within-counts}
+use Rattle.hypoplactic.proofs.Theory.Contents.{within-counts}
 use Rattle.hypoplactic.proofs.Theory.Letters.{count-letters}
 use Rattle.hypoplactic.proofs.Theory.Occurrences.{occurs-count}
 

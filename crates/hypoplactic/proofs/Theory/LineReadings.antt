@@ -17,12 +17,11 @@ use Rattle.grammar.specs.Breaks.{Breaks, IsW, IsT, IsN}
 use Rattle.grammar.proofs.Theory.Complete.{w-complete, t-complete, n-complete}
 use Rattle.grammar.proofs.Theory.Longest.{w-breaks, t-breaks, n-breaks, w-place, t-place, n-place}
 use Rattle.hypoplactic.specs.Words.{Accepted, Within, occurs}
-use Rattle.hypoplactic.specs.Ribbons.{TableauAt}
+use Rattle.hypoplactic.specs.Ribbons.{Simple, TableauAt}
 use Rattle.hypoplactic.specs.Replies.{Said, gives, refused, first, passed, refuseIf, written}
 use Rattle.hypoplactic.specs.Judgements.{outside, rankJudged, lengthJudged, alikeJudged, lettersFrom, lettersJudged, risingFrom, risingJudged, marksFrom, marksJudged, entriesFrom, entriesJudged, roomJudged, wordJudgements, tableauJudgements}
 use Rattle.hypoplactic.specs.LineReadings.{breakPlace, readRun, readWRun, readTRun, readNRun, recordingRead, tableauRead, wordRead}
 use Rattle.hypoplactic.proofs.Theory.Classes.{marked}
-use Rattle.hypoplactic.proofs.Theory.Once.{Simple}
 use Rattle.hypoplactic.proofs.Theory.Passing.{ran-answer}
 use Rattle.hypoplactic.proofs.Theory.Judgements.{length-judged, entries-judged, room-judged}
 use Rattle.hypoplactic.proofs.Theory.Judged.{word-passing, tableau-passing}

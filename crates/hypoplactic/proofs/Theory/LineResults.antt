@@ -5,13 +5,12 @@ use mathlib.Core.List.{List, [], _∷_}
 use lib.ListN.{length}
 use Rattle.grammar.specs.Lines.{wLine, tLine, nLine, jLine, eLine}
 use Rattle.hypoplactic.specs.Words.{Accepted, Within}
-use Rattle.hypoplactic.specs.Ribbons.{TableauAt}
+use Rattle.hypoplactic.specs.Ribbons.{Simple, TableauAt}
 use Rattle.hypoplactic.specs.Junctions.{junctionSet, rowsOf}
 use Rattle.hypoplactic.specs.Replies.{Said, gives, passed, written}
 use Rattle.hypoplactic.specs.Judgements.{lengthJudged, entriesJudged, roomJudged, wordJudgements, tableauJudgements}
 use Rattle.hypoplactic.specs.LineOperations.{tableauLine, lineRun, roomRun, wLineRun, tLineRun, nLineRun, tableauLineRun, jLineRun, eLineRun, fourLines, program}
 use Rattle.hypoplactic.proofs.Theory.Passing.{Passing, ran-answer, first-answer, first-past}
-use Rattle.hypoplactic.proofs.Theory.Once.{Simple}
 use Rattle.hypoplactic.proofs.Theory.Judgements.{length-judged, entries-judged, room-judged}
 use Rattle.hypoplactic.proofs.Theory.Judged.{word-passing, tableau-passing}
 

@@ -10,13 +10,13 @@ use mathlib.Core.Logic.{_↔_, _⊎_, inl, inr}
 use native.Mathlib.Omega.{arith}
 use borrow.Author.Tests.{lt-ltb, le-ltb}
 use lib.ListN.{length, getD}
-use Rattle.hypoplactic.specs.Replies.{Said, gives, refused}
+use Rattle.hypoplactic.specs.Replies.{Said, gives, refused, Passes}
 use Rattle.hypoplactic.specs.Judgements.{tableauJudgements}
 use Rattle.hypoplactic.specs.Ribbons.{TableauAt, rowAt, columnAt}
 use Rattle.hypoplactic.specs.TableauOperations.{cellAt, lookSays, throughSays, viewerSays}
 use Rattle.hypoplactic.proofs.Theory.Judged.{tableau-passing}
 use Rattle.hypoplactic.proofs.Theory.Pairs.{le-or-lt}
-use Rattle.hypoplactic.proofs.Theory.Passing.{Passes, first-else, passing-first}
+use Rattle.hypoplactic.proofs.Theory.Passing.{first-else, passing-first}
 use Rattle.hypoplactic.proofs.Theory.Results.{look-result}
 use Rattle.hypoplactic.proofs.Theory.Rows.{row-column}
 

@@ -1,5 +1,4 @@
 -- Each of 1 to L once: a list of L entries holds each of these numbers once exactly when every entry is one of them and none stands twice.
---     Simple rs        no number stands twice
 --     once-entries     the two forms of that
 -- Assumes nothing.
 use Prim.Native.Nat.{ℕ, zero, suc, _≤_}
@@ -9,14 +8,11 @@ use mathlib.Core.Path.{_≡_, refl}
 use mathlib.Core.List.{List}
 use mathlib.Core.Logic.{_↔_, dite}
 use lib.ListN.{length}
-use Rattle.hypoplactic.specs.Words.{Within, count}
+use Rattle.hypoplactic.specs.Words.{Inside, Within, count}
+use Rattle.hypoplactic.specs.Ribbons.{Simple}
 use Rattle.hypoplactic.specs.Weights.{sumTo}
 use Rattle.hypoplactic.proofs.Theory.Placing.{Once}
-use Rattle.hypoplactic.proofs.Theory.Contents.{Inside, within-counts, sum-within}
-
--- No number stands twice.
-abbrev pub Simple : List ℕ → Type 0
-Simple rs = (e : ℕ) → count e rs ≤ 1
+use Rattle.hypoplactic.proofs.Theory.Contents.{within-counts, sum-within}
 
 sum-simple : (k : ℕ) (rs : List ℕ) → Simple rs → sumTo k rs ≤ k
 sum-simple zero rs h = omega arith

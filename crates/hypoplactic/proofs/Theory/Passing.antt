@@ -1,5 +1,4 @@
 -- Chains of judgements: when all of them pass, and what is then replied.
---     Passes s             s is no refusal
 --     Passing js           no judgement of the list refuses
 --     first-passed         the chain replies passed exactly when none refuses
 --     first-answer         where none refuses, the reply is the answer
@@ -18,12 +17,7 @@ use mathlib.Core.Path.{_≡_, refl, sym, subst, _∙_}
 use mathlib.Core.Bool.{Bool, true, false, true≢false}
 use mathlib.Core.List.{List, [], _∷_, _++_}
 use mathlib.Core.Logic.{_↔_}
-use Rattle.hypoplactic.specs.Replies.{Said, gives, refused, passed, orElse, first, refuseIf, countOn, ranTo}
-
--- No refusal.
-abbrev pub Passes : Said → Type 0
-Passes (gives vs) = Unit {0}
-Passes (refused k p) = ⊥
+use Rattle.hypoplactic.specs.Replies.{Said, gives, refused, passed, Passes, orElse, first, refuseIf, countOn, ranTo}
 
 -- No refusal in the list.
 abbrev pub Passing : List Said → Type 0

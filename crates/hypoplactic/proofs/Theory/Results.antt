@@ -12,7 +12,7 @@ use mathlib.Core.Path.{_≡_}
 use mathlib.Core.List.{List, [], _∷_, _++_}
 use lib.ListN.{length, take}
 use lib.Seq.{length-take-le}
-use Rattle.hypoplactic.specs.Words.{Accepted, tick}
+use Rattle.hypoplactic.specs.Words.{Accepted, Inside, tick}
 use Rattle.hypoplactic.specs.Ribbons.{PairAt, TableauAt}
 use Rattle.hypoplactic.specs.Insertion.{Pair, insert, lettersOf, marksOf, recordingOf, wordOf}
 use Rattle.hypoplactic.specs.Reading.{columnReading}
@@ -24,7 +24,7 @@ use Rattle.hypoplactic.specs.Judgements.{entriesJudged, fullJudged, inde
 use Rattle.hypoplactic.specs.WordOperations.{comparisonNumber, junctionSays, repeatWordSays, sameClassSays, weightsSays, wordsJudgements}
 use Rattle.hypoplactic.specs.TableauOperations.{cellAt, insertRun, insertSays, lookSays, readingRun, readingSays, recordingRun, recordingSays, repeatTableauSays, tableauRun, tableauSays, usedCells, viewerSays, wordRun, wordSays, writtenPair}
 use Rattle.hypoplactic.proofs.Theory.Passing.{Passing, first-answer, first-both, passes-further, ran-answer}
-use Rattle.hypoplactic.proofs.Theory.Contents.{Inside, accepted-snoc}
+use Rattle.hypoplactic.proofs.Theory.Contents.{accepted-snoc}
 use Rattle.hypoplactic.proofs.Theory.Judgements.{full-judged, index-judged, letters-judged, room-judged, used-judged}
 use Rattle.hypoplactic.proofs.Theory.Judged.{pair-passing, tableau-passing, word-passing}
 

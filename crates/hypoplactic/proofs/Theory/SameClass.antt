@@ -14,11 +14,10 @@ use native.Mathlib.Numerals.{one-add}
 use native.Mathlib.Decide.{decLe}
 use native.Mathlib.Omega.{arith}
 use lib.Dec.{eqb}
-use Rattle.hypoplactic.specs.Words.{Within, before, count}
+use Rattle.hypoplactic.specs.Words.{Inside, Within, before, count}
 use Rattle.hypoplactic.specs.Insertion.{lettersOf, marksOf}
 use Rattle.hypoplactic.specs.Junctions.{downOut, junction, junctionSet, leftOf, nextLarger, sameClass, sameCounts}
 use Rattle.hypoplactic.proofs.Theory.Bits.{bits-number, number-bits}
-use Rattle.hypoplactic.proofs.Theory.Contents.{Inside}
 use Rattle.hypoplactic.proofs.Theory.DownSteps.{junction-down, left-occurs}
 use Rattle.hypoplactic.proofs.Theory.Letters.{count-letters, letters-same}
 use Rattle.hypoplactic.proofs.Theory.Limits.{and-both, count-outside, occurs-none}

@@ -13,12 +13,13 @@ use mathlib.Mathlib.Data.Bool.Basic.{or-eq-false-eq-eq-false-and-eq-false as or-
 use lib.Dec.{eqb, ltb}
 use lib.ListN.{length}
 use borrow.Author.Tests.{ltb-false, le-ltb, eqb-false, eq-eqb, ne-eqb}
-use Rattle.hypoplactic.specs.Ribbons.{Along, Ribbon, LetterStep, EntryStep, Tableau}
+use Rattle.hypoplactic.specs.Words.{All}
+use Rattle.hypoplactic.specs.Ribbons.{Along, Ribbon, LetterStep, EntryStep, Simple, Tableau}
+use Rattle.hypoplactic.specs.Replies.{Passes}
 use Rattle.hypoplactic.specs.Judgements.{risingFrom, risingJudged, marksFrom, marksJudged, stepBroken, stepsFrom, recordingJudged}
-use Rattle.hypoplactic.proofs.Theory.Passing.{Passes, passes-then}
+use Rattle.hypoplactic.proofs.Theory.Passing.{passes-then}
 use Rattle.hypoplactic.proofs.Theory.Occurrences.{count-tail}
-use Rattle.hypoplactic.proofs.Theory.Once.{Simple}
-use Rattle.hypoplactic.proofs.Theory.Judgements.{All, exchange}
+use Rattle.hypoplactic.proofs.Theory.Judgements.{exchange}
 
 along-length : (S : ℕ → ℕ → ℕ → Type 0) (x : ℕ) (xs ms : List ℕ) → Along S x xs ms → length ms ≡ length xs
 along-length S x [] [] h = refl

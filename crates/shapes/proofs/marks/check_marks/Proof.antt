@@ -3,7 +3,7 @@ use Prim.Native.Nat.{_-_}
 use Rattle.shapes.specs.Faults.{scanning}
 use Rattle.refusals.specs.Scanning.{Scanning}
 use Rattle.hypoplactic.specs.Judgements.{marksJudged}
-use Rattle.hypoplactic.proofs.Theory.FirstPlaces.{markFault}
+use Rattle.hypoplactic.specs.FirstPlaces.{markFault}
 use Rattle.shapes.proofs.marks.check_marks.Statement.{statement}
 use Rattle.shapes.proofs.marks.check_marks.Tie as tie
 
