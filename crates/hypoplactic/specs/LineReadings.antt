@@ -3,18 +3,21 @@
 --     readTRun     14, 1 to 6, 13     gives rank and number of cells
 --     readNRun     14 2 7 13          gives the number of entries
 --     output text  the program's whole output for its whole input
+--     Outputs text the two kinds of output
 --     answerRun    the output into lent memory, 13 where it is too short
 -- The grammar, which knows no places, is that of the crate grammar. Assumes nothing.
-use Prim.Native.Nat.{ℕ, _-_}
+use Prim.Native.Nat.{ℕ, _-_, _≤_}
+use mathlib.Core.Path.{_≡_}
 use mathlib.Core.List.{List, [], _∷_, _++_}
 use mathlib.Core.Bool.{cond}
 use lib.Dec.{ltb}
 use lib.ListN.{length}
-use Rattle.grammar.specs.Lines.{eLine}
+use Rattle.grammar.specs.Lines.{eLine, wLine}
 use Rattle.grammar.specs.Reading.{Read, got, broken, readW, readT, readN}
+use Rattle.hypoplactic.specs.Words.{Accepted}
 use Rattle.hypoplactic.specs.Replies.{Said, gives, refused, first, ranTo, written}
 use Rattle.hypoplactic.specs.Judgements.{lengthJudged, entriesJudged, roomJudged, wordJudgements, tableauJudgements}
-use Rattle.hypoplactic.specs.LineOperations.{lineRun, program}
+use Rattle.hypoplactic.specs.LineOperations.{fourLines, lineRun, program}
 
 -- The place of the byte from which on a text is left: its length less what is left.
 abbrev pub breakPlace : List ℕ → List ℕ → ℕ
@@ -61,6 +64,11 @@ printedFor text (broken rest) = eLine 14 (breakPlace text rest)
 -- The program's whole output for its whole input: more than 4,096 bytes are refused at the first byte too many, whatever they are.
 unfoldable pub output : List ℕ → List ℕ
 output text = cond (ltb 4096 (length text)) (eLine 14 4096) (printedFor text (readW text))
+
+-- The two kinds of output: the four lines of the accepted word that the text holds, or one E line, its number at most 14 and its place at most 4,096.
+pub data Outputs (text : List ℕ) : Type 0 where
+  lines : (n : ℕ) (w : List ℕ) → Accepted n w → text ≡ wLine n w → output text ≡ fourLines n w → Outputs text
+  refusal : (k p : ℕ) → k ≤ 14 → p ≤ 4096 → output text ≡ eLine k p → Outputs text
 
 -- The output into lent memory. Nothing but room is judged: a refusal of the text is itself printed.
 unfoldable pub answerRun : List ℕ → List ℕ → Said × List ℕ

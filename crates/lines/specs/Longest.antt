@@ -14,12 +14,12 @@ use Rattle.hypoplactic.specs.Words.{Accepted}
 use Rattle.hypoplactic.specs.Insertion.{recordingOf}
 use Rattle.hypoplactic.specs.Junctions.{junction, junctionSet, rowsOf}
 use Rattle.hypoplactic.specs.LineOperations.{fourLines, tableauLine}
-use Rattle.hypoplactic.specs.LineReadings.{output}
+use Rattle.hypoplactic.specs.LineReadings.{Outputs, lines, output, refusal}
 use Rattle.hypoplactic.proofs.Theory.Bits.{number-below}
 use Rattle.hypoplactic.proofs.Theory.Closure.{reading-accepted, word-tableau-at}
 use Rattle.hypoplactic.proofs.Theory.Correspondence.{pair-valid}
 use Rattle.hypoplactic.proofs.Theory.Once.{once-entries}
-use Rattle.hypoplactic.proofs.Theory.Outputs.{Outputs, lines, refusal, outputs}
+use Rattle.hypoplactic.proofs.Theory.Outputs.{outputs}
 use Rattle.hypoplactic.proofs.Theory.Pairs.{length-recording}
 use Rattle.writers.specs.Lengths.{e-length, j-length, n-length, t-length, w-length}
 use Rattle.lines.specs.Printing.{Ready, readingOf}

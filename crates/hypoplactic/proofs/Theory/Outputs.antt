@@ -1,6 +1,5 @@
 -- What the program prints, of every text: the four lines of the accepted word that it holds, or one E line whose place is at most 4,096.
---     Outputs      the two kinds of output
---     outputs      every text has one of them
+--     outputs      every text has one of the two kinds
 -- Assumes nothing.
 use Prim.Native.Nat.{ℕ, suc, _+_, _≤_}
 use mathlib.Core.Path.{_≡_, refl, _∙_}
@@ -10,21 +9,17 @@ use native.Mathlib.Omega.{arith}
 use lib.Dec.{ltb}
 use lib.ListN.{length}
 use borrow.Author.Tests.{ltb-false}
-use Rattle.grammar.specs.Lines.{eLine, wLine}
+use Rattle.grammar.specs.Lines.{wLine}
 use Rattle.grammar.specs.Reading.{Read, got, broken, readW}
 use Rattle.grammar.proofs.Theory.Sound.{w-sound}
 use Rattle.hypoplactic.specs.Words.{Accepted}
 use Rattle.hypoplactic.specs.Replies.{Said, gives, refused, passed, first, refuseIf}
 use Rattle.hypoplactic.specs.Judgements.{lengthJudged, lettersFrom, lettersJudged, outside, rankJudged, wordJudgements}
-use Rattle.hypoplactic.specs.LineOperations.{fourLines, program}
-use Rattle.hypoplactic.specs.LineReadings.{breakPlace, output, printedFor}
+use Rattle.hypoplactic.specs.LineOperations.{program}
+use Rattle.hypoplactic.specs.LineReadings.{Outputs, breakPlace, lines, output, printedFor, refusal}
 use Rattle.hypoplactic.proofs.Theory.Judged.{word-passing}
 use Rattle.hypoplactic.proofs.Theory.LineResults.{program-result}
 use Rattle.hypoplactic.proofs.Theory.Passing.{Passing}
-
-pub data Outputs (text : List ℕ) : Type 0 where
-  lines : (n : ℕ) (w : List ℕ) → Accepted n w → text ≡ wLine n w → output text ≡ fourLines n w → Outputs text
-  refusal : (k p : ℕ) → k ≤ 14 → p ≤ 4096 → output text ≡ eLine k p → Outputs text
 
 -- ---- the places of 1, 2 and 4
 

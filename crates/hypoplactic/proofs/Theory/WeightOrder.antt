@@ -1,7 +1,4 @@
 -- The comparison of weights is formula 2.1 of the paper, for every k.
---     Below u v         each sum of the first k letter counts of u is at most that of v
---     SameWeight u v    each letter stands equally often in both
---     Compared c u v    what the answer c says of u and v
 --     compare-weights   the answer is c exactly when what c says holds
 -- Assumes nothing.
 use Prim.Native.Nat.{ℕ, zero, suc, _+_, _≤_, _<_}
@@ -14,25 +11,10 @@ use native.Mathlib.Nat.{add-zero, le-of-eq, le-suc-iff}
 use native.Mathlib.Decide.{le-ind}
 use native.Mathlib.Omega.{arith}
 use lib.Dec.{leb}
-use Rattle.hypoplactic.specs.Words.{Within, count}
-use Rattle.hypoplactic.specs.Weights.{sumTo, atMost, Comparison, equal, lower, higher, neither, comparison, compareWeights}
+use Rattle.hypoplactic.specs.Words.{Within}
+use Rattle.hypoplactic.specs.Weights.{sumTo, atMost, Comparison, equal, lower, higher, neither, comparison, compareWeights, Below, SameWeight, Compared}
 use Rattle.hypoplactic.proofs.Theory.Limits.{and-both, count-outside}
 use Rattle.hypoplactic.proofs.Theory.Pairs.{le-or-lt}
-
--- Formula 2.1: the weight of u is at most that of v.
-abbrev pub Below : List ℕ → List ℕ → Type 0
-Below u v = (k : ℕ) → sumTo k u ≤ sumTo k v
-
--- Equal weights: each letter stands equally often in both words.
-abbrev pub SameWeight : List ℕ → List ℕ → Type 0
-SameWeight u v = (a : ℕ) → 1 ≤ a → count a u ≡ count a v
-
--- What an answer says of two words.
-abbrev pub Compared : Comparison → List ℕ → List ℕ → Type 0
-Compared equal u v = SameWeight u v
-Compared lower u v = Below u v × ¬ SameWeight u v
-Compared higher u v = Below v u × ¬ SameWeight u v
-Compared neither u v = (¬ Below u v) × (¬ Below v u)
 
 -- Equal sums have equal terms.
 sums-counts : (u v : List ℕ) → Below u v → Below v u → SameWeight u v
