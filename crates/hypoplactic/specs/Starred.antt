@@ -1,20 +1,20 @@
 -- The starred cases of document 01 ("Checked words"), as one list: what the written meaning gives beside what the document says. A second list has
 -- worked examples of the paper, a third the other checked words and the refusals.
--- Whole outputs stand as texts. A reply stands as its numbers: 0 and the values, or the refusal's number and place; after a move the letters follow.
+-- Whole outputs stand as texts. A reply stands as its numbers: 0 and the values, or the refusal's number and place; what lent memory then holds follows.
 -- That the two sides of every case are equal is proved in proofs/Theory/Starred.antt. Assumes nothing.
 use Prim.Native.Nat.{ℕ}
 use Prim.Native.Char.{code}
 use Prim.Native.String.{String, [] as ending, _∷_ as _∷ᶜ_}
 use mathlib.Core.List.{List, [], _∷_, _++_}
 use lib.ListN.{replicate}
-use Rattle.hypoplactic.specs.Insertion.{Pair, insert, pairOf, lettersOf, marksOf, recordingOf, wordOf}
+use Rattle.hypoplactic.specs.Insertion.{Pair, insert, pairOf, lettersOf, marksOf, recordingOf}
 use Rattle.hypoplactic.specs.Reading.{columnReading}
 use Rattle.hypoplactic.specs.Moves.{Move, raising, lowering}
 use Rattle.hypoplactic.specs.Replies.{Said, gives, refused, passed, first}
 use Rattle.hypoplactic.specs.Judgements.{fullJudged, wordJudgements}
 use Rattle.hypoplactic.specs.WordOperations.{junctionSays, moveWordRun, repeatWordSays, sameClassSays, weightsSays}
-use Rattle.hypoplactic.specs.TableauOperations.{tableauSays, recordingRun, insertSays, wordSays, moveTableauRun, repeatTableauSays, viewerSays, lookSays}
-use Rattle.hypoplactic.specs.LineOperations.{tableauLine}
+use Rattle.hypoplactic.specs.TableauOperations.{tableauSays, tableauRun, recordingRun, insertSays, wordSays, wordRun, readingRun, moveTableauRun, repeatTableauSays, viewerSays, lookSays}
+use Rattle.hypoplactic.specs.LineOperations.{tableauLineRun}
 use Rattle.hypoplactic.specs.LineReadings.{output, readNRun, readTRun}
 
 -- The bytes of a text.
@@ -27,9 +27,17 @@ abbrev pub numbers : Said → List ℕ
 numbers (gives vs) = 0 ∷ vs
 numbers (refused k p) = k ∷ p ∷ []
 
--- A reply and the lent letters after it.
+-- A reply and a lent list after it.
 abbrev pub outcome : Said × List ℕ → List ℕ
 outcome r = numbers (r .0) ++ r .1
+
+-- A reply and two lent lists after it, one behind the other.
+abbrev pub outcomes : Said × (List ℕ × List ℕ) → List ℕ
+outcomes r = numbers (r .0) ++ (r .1 .0 ++ r .1 .1)
+
+-- Lent memory of so many elements, each a number that no starred case writes.
+abbrev pub lent : ℕ → List ℕ
+lent k = replicate k 99
 
 abbrev pub raise : ℕ → Move
 raise i = record { side = raising; index = i }
@@ -58,25 +66,39 @@ w433 = 4 ∷ 3 ∷ 3 ∷ []
 abbrev pub w12446553275 : List ℕ
 w12446553275 = 1 ∷ 2 ∷ 4 ∷ 4 ∷ 6 ∷ 5 ∷ 5 ∷ 3 ∷ 2 ∷ 7 ∷ 5 ∷ []
 
+-- Its letters, its marks, with down steps into 3, the first 4 and 6 only, and its recording entries.
+abbrev pub x12446553275 : List ℕ
+x12446553275 = 1 ∷ 2 ∷ 2 ∷ 3 ∷ 4 ∷ 4 ∷ 5 ∷ 5 ∷ 5 ∷ 6 ∷ 7 ∷ []
+
+abbrev pub m12446553275 : List ℕ
+m12446553275 = 0 ∷ 0 ∷ 0 ∷ 1 ∷ 1 ∷ 0 ∷ 0 ∷ 0 ∷ 0 ∷ 1 ∷ 0 ∷ []
+
+abbrev pub r12446553275 : List ℕ
+r12446553275 = 1 ∷ 2 ∷ 9 ∷ 8 ∷ 3 ∷ 4 ∷ 6 ∷ 7 ∷ 11 ∷ 5 ∷ 10 ∷ []
+
 unfoldable pub starredCases : List Case
 starredCases =
     -- 4323 at rank 4: the four lines
     case (output (text "W,4,4,4,3,2,3\n")) (text "T,4,4,2,d,3,r,3,d,4\nN,4,3,2,4,1\nW,4,4,3,2,4,3\nJ,6,3\n")
-    -- 12446553275: letters, down steps into 3, the first 4 and 6 only, recording, and back
-    ∷ case (lettersOf w12446553275) (1 ∷ 2 ∷ 2 ∷ 3 ∷ 4 ∷ 4 ∷ 5 ∷ 5 ∷ 5 ∷ 6 ∷ 7 ∷ [])
-    ∷ case (marksOf w12446553275) (0 ∷ 0 ∷ 0 ∷ 1 ∷ 1 ∷ 0 ∷ 0 ∷ 0 ∷ 0 ∷ 1 ∷ 0 ∷ [])
-    ∷ case (recordingOf w12446553275) (1 ∷ 2 ∷ 9 ∷ 8 ∷ 3 ∷ 4 ∷ 6 ∷ 7 ∷ 11 ∷ 5 ∷ 10 ∷ [])
-    ∷ case
-    (wordOf (1 ∷ 2 ∷ 2 ∷ 3 ∷ 4 ∷ 4 ∷ 5 ∷ 5 ∷ 5 ∷ 6 ∷ 7 ∷ []) (1 ∷ 2 ∷ 9 ∷ 8 ∷ 3 ∷ 4 ∷ 6 ∷ 7 ∷ 11 ∷ 5 ∷ 10 ∷ []))
-    w12446553275
+    -- and so its ribbons, the way back, the column reading, the junction set and the rows; here and below one element lies beyond those needed
+    ∷ case (outcomes (tableauRun 4 w4323 (lent 5) (lent 5))) (0 ∷ 4 ∷ 2 ∷ 3 ∷ 3 ∷ 4 ∷ 99 ∷ 0 ∷ 1 ∷ 0 ∷ 1 ∷ 99 ∷ [])
+    ∷ case (outcome (recordingRun 4 w4323 (lent 5))) (0 ∷ 4 ∷ 3 ∷ 2 ∷ 4 ∷ 1 ∷ 99 ∷ [])
+    ∷ case (outcome (wordRun 4 (2 ∷ 3 ∷ 3 ∷ 4 ∷ []) (0 ∷ 1 ∷ 0 ∷ 1 ∷ []) (3 ∷ 2 ∷ 4 ∷ 1 ∷ []) (lent 5))) (0 ∷ 4 ∷ 4 ∷ 3 ∷ 2 ∷ 3 ∷ 99 ∷ [])
+    ∷ case (outcome (readingRun 4 (2 ∷ 3 ∷ 3 ∷ 4 ∷ []) (0 ∷ 1 ∷ 0 ∷ 1 ∷ []) (lent 5))) (0 ∷ 4 ∷ 3 ∷ 2 ∷ 4 ∷ 3 ∷ 99 ∷ [])
+    ∷ case (numbers (junctionSays 4 w4323)) (0 ∷ 6 ∷ 3 ∷ [])
+    -- 12446553275 at rank 7: letters and marks, recording, and back
+    ∷ case (outcomes (tableauRun 7 w12446553275 (lent 12) (lent 12))) (0 ∷ 11 ∷ (x12446553275 ++ 99 ∷ (m12446553275 ++ 99 ∷ [])))
+    ∷ case (outcome (recordingRun 7 w12446553275 (lent 12))) (0 ∷ 11 ∷ (r12446553275 ++ 99 ∷ []))
+    ∷ case (outcome (wordRun 7 x12446553275 m12446553275 r12446553275 (lent 12))) (0 ∷ 11 ∷ (w12446553275 ++ 99 ∷ []))
     -- the empty word at rank 4
     ∷ case (output (text "W,4,0\n")) (text "T,4,0\nN,0\nW,4,0\nJ,0,0\n")
-    -- 433 at rank 4
-    ∷ case (tableauLine 4 w433) (text "T,4,3,3,r,3,d,4\n")
-    ∷ case (recordingOf w433) (2 ∷ 3 ∷ 1 ∷ [])
-    ∷ case (columnReading (lettersOf w433) (marksOf w433)) (3 ∷ 4 ∷ 3 ∷ [])
-    -- 243245565
-    ∷ case (recordingOf (2 ∷ 4 ∷ 3 ∷ 2 ∷ 4 ∷ 5 ∷ 5 ∷ 6 ∷ 5 ∷ [])) (1 ∷ 4 ∷ 3 ∷ 2 ∷ 5 ∷ 6 ∷ 7 ∷ 9 ∷ 8 ∷ [])
+    -- 433 at rank 4: its tableau and the tableau's line, recording, column reading
+    ∷ case (outcomes (tableauRun 4 w433 (lent 4) (lent 4))) (0 ∷ 3 ∷ 3 ∷ 3 ∷ 4 ∷ 99 ∷ 0 ∷ 0 ∷ 1 ∷ 99 ∷ [])
+    ∷ case (outcome (tableauLineRun 4 w433 (lent 17))) (0 ∷ 16 ∷ (text "T,4,3,3,r,3,d,4\n" ++ 99 ∷ []))
+    ∷ case (outcome (recordingRun 4 w433 (lent 4))) (0 ∷ 3 ∷ 2 ∷ 3 ∷ 1 ∷ 99 ∷ [])
+    ∷ case (outcome (readingRun 4 (3 ∷ 3 ∷ 4 ∷ []) (0 ∷ 0 ∷ 1 ∷ []) (lent 4))) (0 ∷ 3 ∷ 3 ∷ 4 ∷ 3 ∷ 99 ∷ [])
+    -- 243245565 at rank 6
+    ∷ case (outcome (recordingRun 6 (2 ∷ 4 ∷ 3 ∷ 2 ∷ 4 ∷ 5 ∷ 5 ∷ 6 ∷ 5 ∷ []) (lent 10))) (0 ∷ 9 ∷ 1 ∷ 4 ∷ 3 ∷ 2 ∷ 5 ∷ 6 ∷ 7 ∷ 9 ∷ 8 ∷ 99 ∷ [])
     -- moves at rank 3
     ∷ case (outcome (moveWordRun 3 (lower 1) (3 ∷ 1 ∷ 1 ∷ 3 ∷ []))) (0 ∷ 3 ∷ 1 ∷ 2 ∷ 3 ∷ [])
     ∷ case (outcome (moveWordRun 3 (raise 2) (3 ∷ 1 ∷ 2 ∷ 3 ∷ []))) (10 ∷ 0 ∷ 3 ∷ 1 ∷ 2 ∷ 3 ∷ [])
@@ -151,11 +173,10 @@ refusalCases =
     ∷ case (outcome (moveTableauRun 4 (raise 2) (2 ∷ 3 ∷ []) (0 ∷ 1 ∷ []))) (10 ∷ 0 ∷ 2 ∷ 3 ∷ [])
     ∷ case (outcome (moveTableauRun 4 (raise 2) (2 ∷ 3 ∷ 3 ∷ []) (0 ∷ 0 ∷ 0 ∷ []))) (0 ∷ 2 ∷ 2 ∷ 3 ∷ [])
     ∷ case (outcome (moveTableauRun 4 (lower 1) (2 ∷ 3 ∷ []) (0 ∷ 1 ∷ []))) (11 ∷ 0 ∷ 2 ∷ 3 ∷ [])
-    -- 12, 13: full; the first output that is too short; elements beyond those needed keep their values
+    -- 12, 13: full; the first output that is too short
     ∷ case (numbers (fullJudged 1024)) (12 ∷ 1024 ∷ [])
     ∷ case (numbers (insertSays 4 1 3 (pair (1 ∷ []) (0 ∷ 0 ∷ []) (1 ∷ 0 ∷ [])))) (13 ∷ 2 ∷ [])
     ∷ case (numbers (tableauSays 4 w433 3 2)) (13 ∷ 3 ∷ [])
-    ∷ case (outcome (recordingRun 4 w433 (9 ∷ 9 ∷ 9 ∷ 9 ∷ 9 ∷ []))) (0 ∷ 3 ∷ 2 ∷ 3 ∷ 1 ∷ 9 ∷ 9 ∷ [])
     ∷ case (outcome (recordingRun 4 w433 (9 ∷ 9 ∷ []))) (13 ∷ 3 ∷ 9 ∷ 9 ∷ [])
     -- 14: too few letters, and each reader's own first wrong byte
     ∷ case (output (text "W,4,2,3\n")) (text "E,14,7\n")

@@ -14,14 +14,14 @@ use Rattle.hypoplactic.specs.Junctions.{number, junctionSet, rowsOf, sam
 use Rattle.hypoplactic.specs.Weights.{compareWeights}
 use Rattle.hypoplactic.specs.Judgements.{rankJudged, lengthJudged, lettersJudged, indexJudged, inversionJudged, letterJudged, alikeJudged, usedJudged, risingJudged, marksJudged, entriesJudged, recordingJudged, fullJudged, roomJudged}
 use Rattle.hypoplactic.specs.WordOperations.{junctionSays, moveWordSays, moveWordRun, repeatWordSays, sameClassSays, weightsSays}
-use Rattle.hypoplactic.specs.TableauOperations.{tableauSays, recordingSays, recordingRun, insertSays, wordSays, moveTableauSays, moveTableauRun, repeatTableauSays, viewerSays, lookSays}
-use Rattle.hypoplactic.specs.LineOperations.{tableauLine, program}
+use Rattle.hypoplactic.specs.TableauOperations.{tableauSays, tableauRun, recordingSays, recordingRun, insertSays, wordSays, wordRun, readingSays, readingRun, moveTableauSays, moveTableauRun, repeatTableauSays, viewerSays, lookSays}
+use Rattle.hypoplactic.specs.LineOperations.{tableauLine, tableauLineRun, program}
 use Rattle.hypoplactic.specs.LineReadings.{output, readNRun, readTRun}
 use Rattle.hypoplactic.specs.Starred.{Case, starredCases, workedCases, refusalCases}
 
 -- Every starred case: the meaning is what the document says.
 pub starred : map (λ (c : Case). c .meaning) starredCases ≡ map (λ (c : Case). c .document) starredCases
-unfolding starredCases output readW program tableauLine tLine nLine wLine jLine eLine decimal pairOf insert wordOf columnReading junctionSet number rowsOf ones onesIn sameClass compareWeights rankJudged lengthJudged lettersJudged indexJudged inversionJudged letterJudged moveWordSays moveWordRun sameClassSays weightsSays
+unfolding starredCases output readW program tableauLine tLine nLine wLine jLine eLine decimal pairOf insert wordOf columnReading junctionSet number rowsOf ones onesIn sameClass compareWeights rankJudged lengthJudged alikeJudged lettersJudged risingJudged marksJudged entriesJudged recordingJudged indexJudged inversionJudged letterJudged roomJudged junctionSays moveWordSays moveWordRun sameClassSays weightsSays tableauSays tableauRun recordingSays recordingRun wordSays wordRun readingSays readingRun tableauLineRun
 starred = refl
 
 -- Every worked example of the paper.
