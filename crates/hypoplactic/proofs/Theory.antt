@@ -57,6 +57,7 @@ pub mod LineReadings
 pub mod Outputs
 pub mod JoinedReplies
 pub mod Closure
+pub mod RepeatReplies
 pub mod Together
 -- ---- cases
 pub mod Examples

@@ -12,6 +12,7 @@ pub mod Judgements
 pub mod FirstPlaces
 pub mod WordOperations
 pub mod TableauOperations
+pub mod Repeats
 pub mod LineOperations
 pub mod LineReadings
 pub mod Classes

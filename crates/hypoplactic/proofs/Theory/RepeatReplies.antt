@@ -1,0 +1,114 @@
+-- Where a repeat count's operation replies k, the move's operation, made again and again in the lent letters, is made k times and is refused the next time:
+-- with 10 under an inversion, else with 11 (document 01, "Moves"; "Strength of the contracts", c).
+--     repeated-most             so k is the most times that it can be made
+--     repeats                   for words and tableaux at once
+--     repeat-word-replies       for words
+--     repeat-tableau-replies    for tableaux
+-- The same of moves with no rank and no checks is in Repeats. Assumes nothing.
+use Prim.Native.Nat.{ℕ, zero, suc, _≤_}
+use mathlib.Core.Path.{_≡_, refl, subst, _∙_}
+use mathlib.Core.List.{List, [], _∷_, _++_}
+use mathlib.Core.Bool.{Bool, true, false, cond, not}
+use mathlib.Core.Option.{Option, none, some}
+use native.Mathlib.Omega.{arith}
+use Rattle.hypoplactic.specs.Words.{Accepted}
+use Rattle.hypoplactic.specs.Ribbons.{TableauAt}
+use Rattle.hypoplactic.specs.Moves.{Move, below, indexOf, inverted, moveTableau, moveWord, moved, movedTableau, movedWord, remaining, repeatTableau, repeatWord}
+use Rattle.hypoplactic.specs.Replies.{Said, Passes, first, gives, orElse, passed, refused, refuseIf}
+use Rattle.hypoplactic.specs.Judgements.{indexJudged, tableauJudgements, wordJudgements}
+use Rattle.hypoplactic.specs.WordOperations.{moveWordRun, repeatWordSays}
+use Rattle.hypoplactic.specs.TableauOperations.{moveTableauRun, repeatTableauSays}
+use Rattle.hypoplactic.specs.Repeats.{Made, Repeated}
+use Rattle.hypoplactic.proofs.Theory.Undo.{moved-turned, turned-upright, word-turned}
+use Rattle.hypoplactic.proofs.Theory.MoveCounts.{Counted, moved-counted}
+use Rattle.hypoplactic.proofs.Theory.MoveValid.{moved-valid, tableau-upright}
+use Rattle.hypoplactic.proofs.Theory.Passing.{Passing}
+use Rattle.hypoplactic.proofs.Theory.Judged.{tableau-passing, word-passing}
+use Rattle.hypoplactic.proofs.Theory.MoveResults.{move-tableau-made, move-tableau-refused, move-word-made, move-word-refused}
+use Rattle.hypoplactic.proofs.Theory.Closure.{move-accepted, move-tableau-at}
+
+-- What can be made k times and is then refused cannot be made more often.
+pub repeated-most : {run : List ℕ → Said × List ℕ} {k j : ℕ} {u : List ℕ} → Repeated run k j u → (i : ℕ) (v : List ℕ) → Made run i u v → i ≤ k
+repeated-most {run} {k} {j} {u} r i v b = go k i u (r .made) b
+  where
+    go : (k i : ℕ) (u : List ℕ) → Made run k u (r .last) → Made run i u v → i ≤ k
+    go k zero u a b = omega arith
+    go zero (suc i) u a b = absurd (subst (λ (s : Said × List ℕ). Passes (s .0)) (r .stops) (subst (λ (w : List ℕ). Passes ((run w) .0)) a (b .0)))
+    go (suc k) (suc i) u a b = omega (arith, go k i ((run u) .1) (a .1) (b .1))
+
+-- Once, and then k times.
+once-more : {run : List ℕ → Said × List ℕ} {k j : ℕ} {w v : List ℕ} → Passes ((run w) .0) × ((run w) .1 ≡ v) → Repeated run k j v → Repeated run (suc k) j w
+once-more (p, e) r = record { last = r .last; made = (p, rw e (r .made)); stops = r .stops }
+
+-- A run that makes a move on letters that are good, under a test for an inversion: where the test fails the letters have none, moved letters are good and pass
+-- no test, and the run is refused where the move is undefined.
+module _ (m : Move) (Good : List ℕ → Type 0) (test : List ℕ → Bool) (run : List ℕ → Said × List ℕ)
+    (upright : (w : List ℕ) → Good w → test w ≡ false → inverted (m .index) w ≡ false)
+    (kept : (w v : List ℕ) → Good w → moved (test w) m w ≡ some v → Good v × (test v ≡ false))
+    (goes : (w v : List ℕ) → Good w → moved (test w) m w ≡ some v → Passes ((run w) .0) × ((run w) .1 ≡ v))
+    (stays : (w : List ℕ) → Good w → moved (test w) m w ≡ none → run w ≡ (refused (cond (test w) 10 11) 0, w)) where
+  -- It is made as often as there are letters that the move could change.
+  repeats : (k : ℕ) (w : List ℕ) → Good w → remaining m (test w) w ≡ k → Repeated run k (cond (test w) 10 11) w
+  repeats zero w g e = go (moved (test w) m w) refl (moved-counted m (test w) w (upright w g))
+    where
+      go : (o : Option (List ℕ)) → moved (test w) m w ≡ o → Counted m (test w) w o → Repeated run zero (cond (test w) 10 11) w
+      go none f c = record { last = w; made = refl; stops = stays w g f }
+      go (some v) f c = let z : ⊥ = omega arith in absurd z
+  repeats (suc k) w g e = go (moved (test w) m w) refl (moved-counted m (test w) w (upright w g)) (repeats k)
+    where
+      go : (o : Option (List ℕ)) → moved (test w) m w ≡ o → Counted m (test w) w o
+          → ((v : List ℕ) → Good v → remaining m (test v) v ≡ k → Repeated run k (cond (test v) 10 11) v) → Repeated run (suc k) (cond (test w) 10 11) w
+      go none f c rest = let z : ⊥ = omega arith in absurd z
+      go (some v) f c rest =
+          let q : Good v × (test v ≡ false) = kept w v g f in
+          let left : remaining m false v ≡ k = omega arith in
+          let r : Repeated run k 11 v = rw (q .1) at (rest v (q .0) (rw (q .1) left)) in
+          let free : test w ≡ false = moved-turned m (test w) w v (upright w g) .0 f .0 in
+          rw free (once-more (goes w v g f) r)
+
+-- ---- the replies
+
+-- Where a count is replied past 9, the checks before have passed, the index is the rank's, and the count is the reply's.
+count-replied : (js : List Said) (n i r k : ℕ) → first (js ++ (indexJudged n i ∷ [])) (gives (r ∷ [])) ≡ gives (k ∷ []) → Passing js × (indexOf n i ≡ true) × (r ≡ k)
+unfolding indexJudged
+count-replied [] n i r k e = go (indexOf n i) e
+  where
+    go : (b : Bool) → orElse (refuseIf (not b) 9 0 passed) (gives (r ∷ [])) ≡ gives (k ∷ []) → Unit {0} × (b ≡ true) × (r ≡ k)
+    go true e = (tt, refl, cc)
+    go false e = let z : _≡_ {A = ℕ} 0 1 = cc in let no : ⊥ = omega arith in absurd no
+count-replied (gives vs ∷ js) n i r k e = let (p, q, s) = count-replied js n i r k e in ((tt, p), q, s)
+count-replied (refused a p ∷ js) n i r k e = let z : _≡_ {A = ℕ} 0 1 = cc in let no : ⊥ = omega arith in absurd no
+
+-- At an index of the rank a move at the rank is the move.
+word-at : (n : ℕ) (m : Move) (w : List ℕ) → indexOf n (m .index) ≡ true → moveWord n m w ≡ movedWord m w
+unfolding moveWord
+word-at n m w i = rw i
+
+tableau-at : (n : ℕ) (m : Move) (xs ms : List ℕ) → indexOf n (m .index) ≡ true → moveTableau n m xs ms ≡ movedTableau m xs ms
+unfolding moveTableau
+tableau-at n m xs ms i = rw i
+
+-- On a word.
+pub repeat-word-replies : (n : ℕ) (m : Move) (w : List ℕ) (k : ℕ) → repeatWordSays n m w ≡ gives (k ∷ [])
+    → Repeated (moveWordRun n m) k (cond (inverted (m .index) w) 10 11) w
+unfolding repeatWordSays repeatWord
+repeat-word-replies n m w k e =
+    let (p, i, same) = count-replied (wordJudgements n w) n (m .index) (repeatWord m w) k e in
+    repeats m (Accepted n) (inverted (m .index)) (moveWordRun n m) (λ w a f. f)
+    (λ w v a f. (move-accepted m a (word-at n m w i ∙ f), turned-upright (m .side) (m .index) w v (word-turned m w v .0 f) .1))
+    (λ w v a f. rw (move-word-made n m w a v (word-at n m w i ∙ f)) (tt, refl))
+    (λ w a f. rw i at (move-word-refused n m w a (word-at n m w i ∙ f)))
+    k w (word-passing n w .0 p) same
+
+-- On a tableau.
+pub repeat-tableau-replies : (n : ℕ) (m : Move) (xs ms : List ℕ) (k : ℕ) → repeatTableauSays n m xs ms ≡ gives (k ∷ [])
+    → Repeated (λ ys. moveTableauRun n m ys ms) k (cond (below (m .index) xs ms) 10 11) xs
+unfolding repeatTableauSays repeatTableau
+repeat-tableau-replies n m xs ms k e =
+    let (p, i, same) = count-replied (tableauJudgements n xs ms) n (m .index) (repeatTableau m xs ms) k e in
+    repeats m (λ ys. TableauAt n ys ms) (λ ys. below (m .index) ys ms) (λ ys. moveTableauRun n m ys ms)
+    (λ ys h f. tableau-upright (m .index) ys ms (h .tableau))
+    (λ ys zs h f. (move-tableau-at m h (tableau-at n m ys ms i ∙ f), moved-valid m ys zs ms (h .tableau) f .1))
+    (λ ys zs h f. rw (move-tableau-made n m ys ms h zs (tableau-at n m ys ms i ∙ f)) (tt, refl))
+    (λ ys h f. rw i at (move-tableau-refused n m ys ms h (tableau-at n m ys ms i ∙ f)))
+    k xs (tableau-passing n xs ms .0 p) same
