@@ -5,9 +5,12 @@
 --     doneOf, countOf, classOf, orderOf, junctionOf, lineOf, cellOf
 --                                the structs of src/replies.rt
 --     replied f run              an operation's reply as a struct, beside the same lent memory
+--     tells k p vs               what number, place and values say, read as the C header says
+--     doneTells, countTells, classTells, orderTells, junctionTells, lineTells, cellTells
+--                                what the structs say
 -- That nothing of an answer is lost in its struct is proofs/Theory/Told. Assumes nothing.
-use Prim.Native.Nat.{ℕ}
-use mathlib.Core.List.{[], _∷_}
+use Prim.Native.Nat.{ℕ, zero, suc}
+use mathlib.Core.List.{List, [], _∷_}
 use lib.ListN.{getD}
 use Rattle.hypoplactic.specs.Replies.{Said, gives, refused}
 use Rattle.structs.specs.declared.replies.DoneReply.{DoneReply}
@@ -60,3 +63,36 @@ cellOf s = record { number = numberOf s; place = placeOf s; found = anyValue s; 
 -- An operation's reply as a struct, beside the same lent memory.
 unfoldable pub replied : {R A : Type 0} → (Said → R) → Said × A → R × A
 replied f (s, m) = (f s, m)
+
+-- ---- a struct, read as the C header says
+
+-- Number 0 gives the values, any other number refuses.
+abbrev pub tells : ℕ → ℕ → List ℕ → Said
+tells zero p vs = gives vs
+tells (suc k) p vs = refused (suc k) p
+
+abbrev pub doneTells : DoneReply → Said
+doneTells r = tells (r .number) (r .place) []
+
+abbrev pub countTells : CountReply → Said
+countTells r = tells (r .number) (r .place) (r .count ∷ [])
+
+abbrev pub classTells : ClassReply → Said
+classTells r = tells (r .number) (r .place) (r .same ∷ [])
+
+abbrev pub orderTells : OrderReply → Said
+orderTells r = tells (r .number) (r .place) (r .order ∷ [])
+
+abbrev pub junctionTells : JunctionReply → Said
+junctionTells r = tells (r .number) (r .place) (r .set ∷ r .rows ∷ [])
+
+abbrev pub lineTells : LineReply → Said
+lineTells r = tells (r .number) (r .place) (r .rank ∷ r .count ∷ [])
+
+-- A cell was found, or there is none.
+abbrev pub cellValues : ℕ → List ℕ → List ℕ
+cellValues zero vs = []
+cellValues (suc k) vs = vs
+
+abbrev pub cellTells : CellReply → Said
+cellTells r = tells (r .number) (r .place) (cellValues (r .found) (r .letter ∷ r .row ∷ r .column ∷ []))

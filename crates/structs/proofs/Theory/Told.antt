@@ -1,15 +1,13 @@
 -- Nothing of an answer is lost at the C interface: a struct, read as the C header says, says what the answer says, so no two answers share a struct. By
 -- refusals' Theory/Apart what is said fixes the answer.
---     tells k p vs                     the reading: number 0 gives the values, any other number refuses
 --     refusal-numbers                  a refusal's number is 1 to 14, never 0
 --     verdict-told, move-told, written-told, inserted-told, repeat-told, recording-line-told, class-told, weights-told, junctions-told, word-line-told,
 --     tableau-line-told, cell-told     the answers
 -- Assumes nothing.
-use Prim.Native.Nat.{ℕ, zero, suc, _≤_}
+use Prim.Native.Nat.{ℕ, _≤_}
 use mathlib.Core.Path.{_≡_, refl}
-use mathlib.Core.List.{List, [], _∷_}
+use mathlib.Core.List.{List}
 use native.Mathlib.Omega.{arith}
-use Rattle.hypoplactic.specs.Replies.{Said, gives, refused}
 use Rattle.refusals.specs.Said.{number, place, saidRefusal, saidVerdict, saidMove, saidWritten, saidInserted, saidRepeat, saidRecordingLine, saidClass, saidWeights, saidJunctions, saidWordLine, saidTableauLine, saidCell}
 use Rattle.refusals.specs.declared.refusal.Refusal.{Refusal}
 use Rattle.refusals.specs.declared.refusal.Refusal.the-variants.{Rank, Length, Parts, Letter, Falling, Mark, Entry, Step, Index, Inversion, NoLetter, Full, Room, Line}
@@ -37,46 +35,7 @@ use Rattle.refusals.specs.declared.answers.TableauLine.{TableauLine}
 use Rattle.refusals.specs.declared.answers.TableauLine.the-variants as tableauLine
 use Rattle.refusals.specs.declared.answers.Cell.{Cell}
 use Rattle.refusals.specs.declared.answers.Cell.the-variants as cell
-use Rattle.structs.specs.declared.replies.DoneReply.{DoneReply}
-use Rattle.structs.specs.declared.replies.CountReply.{CountReply}
-use Rattle.structs.specs.declared.replies.ClassReply.{ClassReply}
-use Rattle.structs.specs.declared.replies.OrderReply.{OrderReply}
-use Rattle.structs.specs.declared.replies.JunctionReply.{JunctionReply}
-use Rattle.structs.specs.declared.replies.LineReply.{LineReply}
-use Rattle.structs.specs.declared.replies.CellReply.{CellReply}
-use Rattle.structs.specs.Replies.{doneOf, countOf, classOf, orderOf, junctionOf, lineOf, cellOf}
-
-abbrev pub tells : ℕ → ℕ → List ℕ → Said
-tells zero p vs = gives vs
-tells (suc k) p vs = refused (suc k) p
-
--- ---- the structs
-
-abbrev pub doneTells : DoneReply → Said
-doneTells r = tells (r .number) (r .place) []
-
-abbrev pub countTells : CountReply → Said
-countTells r = tells (r .number) (r .place) (r .count ∷ [])
-
-abbrev pub classTells : ClassReply → Said
-classTells r = tells (r .number) (r .place) (r .same ∷ [])
-
-abbrev pub orderTells : OrderReply → Said
-orderTells r = tells (r .number) (r .place) (r .order ∷ [])
-
-abbrev pub junctionTells : JunctionReply → Said
-junctionTells r = tells (r .number) (r .place) (r .set ∷ r .rows ∷ [])
-
-abbrev pub lineTells : LineReply → Said
-lineTells r = tells (r .number) (r .place) (r .rank ∷ r .count ∷ [])
-
--- A cell was found, or there is none.
-abbrev pub cellValues : ℕ → List ℕ → List ℕ
-cellValues zero vs = []
-cellValues (suc k) vs = vs
-
-abbrev pub cellTells : CellReply → Said
-cellTells r = tells (r .number) (r .place) (cellValues (r .found) (r .letter ∷ r .row ∷ r .column ∷ []))
+use Rattle.structs.specs.Replies.{doneOf, countOf, classOf, orderOf, junctionOf, lineOf, cellOf, tells, doneTells, countTells, classTells, orderTells, junctionTells, lineTells, cellTells}
 
 -- ---- refusals
 
