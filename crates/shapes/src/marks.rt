@@ -9,8 +9,6 @@ ghost use lib.ListN.{length};
 ghost use Rattle.hypoplactic.specs.Judgements.{marksJudged};
 ghost use Rattle.hypoplactic.specs.FirstPlaces.{markFault};
 ghost use Rattle.shapes.specs.Clear.{Cleared};
-ghost use Rattle.hypoplactic.specs.FirstPlaces.{markFault};
-ghost use Rattle.shapes.specs.Clear.{Cleared};
 ghost use Rattle.shapes.specs.Faults.{largestMark};
 ghost use Rattle.refusals.specs.Said.{saidVerdict};
 
