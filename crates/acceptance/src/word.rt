@@ -1,12 +1,11 @@
-// The checks of one word and of two, in rising number, each over the whole input. Every check is total and linear, so all of them are made and the first
-// refusal counts.
+// The checks of one word and of two, in rising number, each over the whole input. Where 1 or 2 refuses, no letter is read; the checks on letters are total and
+// linear, so all of them are made and the first refusal counts.
 use crate::letters::check_letters;
 use crate::seconds::check_second_letters;
 use refusals::answers::Verdict;
 use refusals::chains::check_limits;
+use refusals::chains::check_two_limits;
 use refusals::chains::or_else;
-use refusals::numbers::check_length;
-use refusals::numbers::check_rank;
 ghost use mathlib.Core.Path.{_≡_};
 ghost use Rattle.hypoplactic.specs.Replies.{first, passed};
 ghost use Rattle.hypoplactic.specs.Judgements.{wordJudgements};
@@ -17,7 +16,10 @@ ghost use Rattle.refusals.specs.Said.{saidVerdict};
 pub fn check_word(rank: usize, word: &[u8]) -> Verdict
     ensures { λ r. ⌜ saidVerdict r ≡ first (wordJudgements rank (now (word .entry))) passed ⌝ }
 {
-    or_else(check_limits(rank, word.len()), check_letters(rank, word))
+    if let Verdict::Refused(refusal) = check_limits(rank, word.len()) {
+        return Verdict::Refused(refusal);
+    }
+    check_letters(rank, word)
 }
 
 // 1, 2 and 4 of two words: every check over the first, then over the second, before the next check.
@@ -32,14 +34,16 @@ pub fn check_words(
         ≡ first (wordsJudgements «first_rank» (now («first_word» .entry)) «second_rank» (now («second_word» .entry))) passed
         ⌝ }
 {
-    let ranks = or_else(check_rank(first_rank), check_rank(second_rank));
-    let lengths = or_else(
-        check_length(first_word.len()),
-        check_length(second_word.len()),
-    );
-    let letters = or_else(
+    if let Verdict::Refused(refusal) = check_two_limits(
+        first_rank,
+        first_word.len(),
+        second_rank,
+        second_word.len(),
+    ) {
+        return Verdict::Refused(refusal);
+    }
+    or_else(
         check_letters(first_rank, first_word),
         check_second_letters(first_word, second_rank, second_word),
-    );
-    or_else(ranks, or_else(lengths, letters))
+    )
 }

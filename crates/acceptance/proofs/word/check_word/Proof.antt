@@ -1,5 +1,5 @@
 -- `refusals::check_word` meets its contract, by the laws of specs/Chains. Assumes nothing.
-use Rattle.refusals.specs.Chains.{chaining}
+use Rattle.refusals.specs.Chains.{stopping}
 use borrow.Author.Needs.{needs}
 use Rattle.acceptance.proofs.word.check_word.Statement.{statement}
 use Rattle.acceptance.proofs.word.check_word.Tie as tie
@@ -7,4 +7,5 @@ use Rattle.acceptance.proofs.word.check_word.Tie as tie
 pub check-word-spec : {M : Type 1} → statement M
 check-word-spec =
     tie.close
-    (tie.spec (λ c κs. search needs) (λ c κs. search needs) (λ c κs. search needs) (λ c. search chaining))
+    (tie.spec (λ c κs. search needs) (λ c. search needs) (λ c. search stopping) (λ c. search needs)
+    (λ c κs. search needs) (λ c. search stopping))
