@@ -9,7 +9,6 @@ use recordings::recording::check_entries;
 use refusals::answers::Junctions;
 use refusals::answers::Verdict;
 use refusals::answers::Written;
-use refusals::chains::or_else;
 use refusals::numbers::check_length;
 use refusals::refusal::Refusal;
 use refusals::refusal::number_and_place;
@@ -45,17 +44,17 @@ pub fn write_tableau_line(rank: usize, letters: &[u8], marks: &[u8], out: &mut [
     write_tableau(rank, letters, marks, out)
 }
 
-// 2 and 7: a recording ribbon alone.
+// 2 and 7: a recording ribbon alone. Where 2 refuses, no entry is read.
 fn check_ribbon(entries: &[u16]) -> Verdict
     ensures { λ r. ⌜
         saidVerdict r
         ≡ first (lengthJudged (length (now (entries .entry))) ∷ entriesJudged (length (now (entries .entry))) (now (entries .entry)) ∷ []) passed
         ⌝ }
 {
-    or_else(
-        check_length(entries.len()),
-        check_entries(entries.len(), entries),
-    )
+    if let Verdict::Refused(refusal) = check_length(entries.len()) {
+        return Verdict::Refused(refusal);
+    }
+    check_entries(entries.len(), entries)
 }
 
 // The N line of a recording ribbon: 2 and 7, then 13.
