@@ -4,11 +4,13 @@ use crate::letters::check_letters;
 use crate::seconds::check_second_letters;
 use refusals::answers::Verdict;
 use refusals::chains::check_limits;
-use refusals::chains::check_two_limits;
 use refusals::chains::or_else;
+use refusals::numbers::check_length;
+use refusals::numbers::check_rank;
+ghost use mathlib.Core.List.{[], _∷_};
 ghost use mathlib.Core.Path.{_≡_};
 ghost use Rattle.hypoplactic.specs.Replies.{first, passed};
-ghost use Rattle.hypoplactic.specs.Judgements.{wordJudgements};
+ghost use Rattle.hypoplactic.specs.Judgements.{lengthJudged, rankJudged, wordJudgements};
 ghost use Rattle.hypoplactic.specs.WordOperations.{wordsJudgements};
 ghost use Rattle.refusals.specs.Said.{saidVerdict};
 
@@ -20,6 +22,25 @@ pub fn check_word(rank: usize, word: &[u8]) -> Verdict
         return Verdict::Refused(refusal);
     }
     check_letters(rank, word)
+}
+
+// 1 and 2 of two words: each over the first, then over the second.
+fn check_two_limits(
+    first_rank: usize,
+    first_length: usize,
+    second_rank: usize,
+    second_length: usize,
+) -> Verdict
+    ensures { λ r. ⌜
+        saidVerdict r
+        ≡ first
+        (rankJudged «first_rank» ∷ rankJudged «second_rank» ∷ lengthJudged «first_length» ∷ lengthJudged «second_length» ∷ [])
+        passed
+        ⌝ }
+{
+    let ranks = or_else(check_rank(first_rank), check_rank(second_rank));
+    let lengths = or_else(check_length(first_length), check_length(second_length));
+    or_else(ranks, lengths)
 }
 
 // 1, 2 and 4 of two words: every check over the first, then over the second, before the next check.

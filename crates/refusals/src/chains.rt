@@ -24,22 +24,3 @@ pub fn check_limits(rank: usize, length: usize) -> Verdict
 {
     or_else(check_rank(rank), check_length(length))
 }
-
-// 1 and 2 of two words: each over the first, then over the second.
-pub(crate) fn check_two_limits(
-    first_rank: usize,
-    first_length: usize,
-    second_rank: usize,
-    second_length: usize,
-) -> Verdict
-    ensures { λ r. ⌜
-        saidVerdict r
-        ≡ first
-        (rankJudged «first_rank» ∷ rankJudged «second_rank» ∷ lengthJudged «first_length» ∷ lengthJudged «second_length» ∷ [])
-        passed
-        ⌝ }
-{
-    let ranks = or_else(check_rank(first_rank), check_rank(second_rank));
-    let lengths = or_else(check_length(first_length), check_length(second_length));
-    or_else(ranks, lengths)
-}

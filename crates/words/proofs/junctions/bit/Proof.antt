@@ -1,4 +1,4 @@
--- `words::bit` meets its contract, by the two cases of its test. Assumes nothing.
+-- `words::junctions::bit` meets its contract, by the two cases of its test. Assumes nothing.
 use Rattle.words.specs.Junctions.{building}
 use Rattle.words.proofs.junctions.bit.Statement.{statement}
 use Rattle.words.proofs.junctions.bit.Tie as tie

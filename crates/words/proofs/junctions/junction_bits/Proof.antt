@@ -1,4 +1,4 @@
--- `words::junction_bits` meets its contract. The loop's invariant: the set is that of the letters above `a`. The measure is `a`. Assumes nothing.
+-- `words::junctions::junction_bits` meets its contract. The loop's invariant: the set is that of the letters above `a`. The measure is `a`. Assumes nothing.
 use Rattle.words.specs.Junctions.{building, Building}
 use Rattle.words.proofs.junctions.junction_bits.Statement.{statement}
 use Rattle.words.proofs.junctions.junction_bits.Tie as tie

@@ -1,4 +1,4 @@
--- `words::junctions` meets its contract: the check of the word, then the set and the rows of an accepted word. Assumes nothing.
+-- `words::junctions::junctions` meets its contract: the check of the word, then the set and the rows of an accepted word. Assumes nothing.
 use Rattle.words.specs.Junctions.{building}
 use Rattle.words.proofs.junctions.junctions.Statement.{statement}
 use Rattle.words.proofs.junctions.junctions.Tie as tie

@@ -1,4 +1,4 @@
--- `words::rows_of` meets its contract: the ones of the junction set and one more. Assumes nothing.
+-- `words::junctions::rows_of` meets its contract: the ones of the junction set and one more. Assumes nothing.
 use Rattle.words.specs.Junctions.{building}
 use Rattle.words.proofs.junctions.rows_of.Statement.{statement}
 use Rattle.words.proofs.junctions.rows_of.Tie as tie

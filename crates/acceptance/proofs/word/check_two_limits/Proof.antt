@@ -1,8 +1,8 @@
--- `refusals::chains::check_two_limits` meets its contract, by the laws of specs/Chains. Assumes nothing.
+-- `acceptance::word::check_two_limits` meets its contract, by the laws of specs/Chains. Assumes nothing.
 use Rattle.refusals.specs.Chains.{chaining}
 use borrow.Author.Needs.{needs}
-use Rattle.refusals.proofs.chains.check_two_limits.Statement.{statement}
-use Rattle.refusals.proofs.chains.check_two_limits.Tie as tie
+use Rattle.acceptance.proofs.word.check_two_limits.Statement.{statement}
+use Rattle.acceptance.proofs.word.check_two_limits.Tie as tie
 
 pub check-two-limits-spec : {M : Type 1} → statement M
 check-two-limits-spec =
