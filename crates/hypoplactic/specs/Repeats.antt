@@ -3,7 +3,7 @@
 -- same marks.
 --     Made run k u v         made k times, one after the other, the run leads from the letters u to the letters v
 --     Repeated run k j u     from u it can be made k times, and is then refused with the number j
--- Assumes nothing.
+-- That a repeat count's reply is such a k, with j 10 under an inversion and else 11, is proofs/Theory/RepeatReplies. Assumes nothing.
 use Prim.Native.Nat.{ℕ, zero, suc}
 use mathlib.Core.Path.{_≡_}
 use mathlib.Core.List.{List}
