@@ -1,6 +1,6 @@
 // The C interface to lines: written, read, and the program's answer. Each function is one of the kernel's, its answer as a struct of numbers.
-use lines::answer::answer;
 use lines::tableau::tableau_line_of_word;
+use outputs::answer::answer;
 use readers::recording::read_recording_line;
 use readers::tableau::read_tableau_line;
 use readers::word::read_word_line;

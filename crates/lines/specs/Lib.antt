@@ -1,6 +1,2 @@
 pub mod Outcomes
-pub mod Output
 pub mod TableauLine
-pub mod Printing
-pub mod Longest
-pub mod Answer

@@ -1,4 +1,2 @@
-// Lines of words: the tableau line of a word, and the whole output of the program for a text.
-pub mod answer;
-mod printing;
+// The tableau line of a word in one call: the line that stands for its class.
 pub mod tableau;

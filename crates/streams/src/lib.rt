@@ -1,6 +1,6 @@
 // The program between two descriptors: what comes in through one, answered through the other. No contract can say what is read or written; the answer itself
-// is `lines::answer::answer`, whose promise is about every input.
-use lines::answer::answer;
+// is `outputs::answer::answer`, whose promise is about every input.
+use outputs::answer::answer;
 use refusals::answers::Written;
 
 // Reads up to 4,097 bytes, however they arrive, and writes the answer; whether all of it was written. One byte more than a line may have is read, so that

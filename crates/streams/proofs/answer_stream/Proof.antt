@@ -1,5 +1,5 @@
 -- `streams::answer_stream` meets its contract, by the laws of specs/Answer of the crate lines. Assumes nothing.
-use Rattle.lines.specs.Answer.{taking}
+use Rattle.outputs.specs.Answer.{taking}
 use Rattle.streams.proofs.answer_stream.Statement.{statement}
 use Rattle.streams.proofs.answer_stream.Tie as tie
 

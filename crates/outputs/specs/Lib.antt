@@ -1,0 +1,4 @@
+pub mod Output
+pub mod Printing
+pub mod Longest
+pub mod Answer
