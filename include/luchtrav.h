@@ -21,8 +21,11 @@
  *   A buffer is a pointer followed by the number of its elements (elements, not bytes: entries have 16 bits). The
  *   pointer may be NULL where the number is 0. A buffer without 'const' is lent for writing.
  *   - Buffers of one call must not overlap, unless both are 'const'.
- *   - A result fills the first elements of a buffer; those after it keep their values.
+ *   - A result fills the first elements of a buffer; those after it keep their values, and are not looked at.
  *   - After a refusal every buffer holds what it held before the call.
+ *   - 1, 2 and 3 (below) are judged by the numbers of the call, before memory: where one of them refuses, no buffer
+ *     is read or written, whatever its pointer and its number. A number of (size_t)-1 is refused like 1,025. A reader
+ *     of lines finds its numbers in the text, which it reads. (What is not read is tested, not proved.)
  *   - Nothing is kept after a call, and nothing is allocated: a call needs up to 40,000 bytes of stack.
  *   - Any function may be called from any thread at any time, each call with its own buffers.
  *
@@ -240,7 +243,8 @@ luchtrav_count luchtrav_read_recording_line(const uint8_t *text, size_t text_cou
                                             uint16_t *entries, size_t entries_count);
 
 /* What the program 'ribbon' prints for its whole input: the T, N, W and J lines of the word in a W line, or one
- * E line; count is the bytes written. Refuses 13. */
+ * E line; count is the bytes written. For a text of more than 4,096 bytes that is E,14,4096, and the text is not
+ * read. Refuses 13. */
 luchtrav_count luchtrav_answer(const uint8_t *text, size_t text_count, uint8_t *out, size_t out_count);
 
 #ifdef __cplusplus
