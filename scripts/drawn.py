@@ -25,7 +25,7 @@ from lent_memory import Memory
 from replies import FEW, few_value, numbers, plain_reply
 
 PART = 10000
-TRACE = "--trace" in sys.argv
+TRACE = (lambda call: print(call, flush=True)) if "--trace" in sys.argv else None
 
 
 # ---- one call
@@ -35,8 +35,8 @@ def shown(function, values):
     return "\n".join("    %s = %s" % (parameter.name, value) for parameter, value in zip(function.parameters, values))
 
 
-def again(function, values):
-    return 'again: python3 scripts/drawn.py --again "%r"' % ((function.name, values),)
+def again(function, values, script):
+    return 'again: python3 scripts/%s --again "%r"' % (script, (function.name, values))
 
 
 def difference(function, laid, reply, held, expected, after):
@@ -51,15 +51,15 @@ def difference(function, laid, reply, held, expected, after):
     lines.append("  expected " + ", ".join("%s %d" % pair for pair in zip(names, expected)))
     lines += ["  %s holds %s, expected %s" % (name, *both) for name, both in buffers.items() if both[0] != both[1]]
     lines.append("  bytes of memory that differ: %s; buffers at %s" % (places or "none", [span for span in laid.spans if span]))
-    lines.append(again(function, before))
+    lines.append(again(function, before, laid.script))
     return "\n".join(lines)
 
 
-def called(function, memory, arguments, spoil=None):
-    """The reply that is expected of a call, and the difference, or None."""
+def called(function, memory, arguments, spoil=None, note=None):
+    """The reply that is expected of a call, and the difference, or None. `note` is told the call before it is made."""
     laid = memory.lay(function, arguments)
-    if TRACE:
-        print(again(function, laid.values(function.parameters, laid.image)), flush=True)
+    if note:
+        note(again(function, laid.values(function.parameters, laid.image), laid.script))
     reply = bytearray(function.call(*laid.passed))
     if spoil:
         spoil(laid, reply)
@@ -84,7 +84,7 @@ def run_part(part):
     for at in range(count):
         function = functions[at % len(functions)]
         breaks, arguments = drawn_input(draw, function)
-        expected, differs = called(function, memory, arguments)
+        expected, differs = called(function, memory, arguments, note=TRACE)
         if differs:
             return came, "input %d of part %d, seed %s: %s" % (at, number, seed, differs)
         came.update([("drawn", breaks[0] if len(breaks) == 1 else "two breaks"), (function.name, expected[0])])

@@ -15,6 +15,8 @@ ROOM = 64 * PAGE
 
 
 def packed(size, values):
+    """Values as bytes; of a buffer that is claimed to be longer (fenced_memory.py), those that its memory holds."""
+    values = getattr(values, "memory", values)
     return bytes(values) if size == 1 else array("H", values).tobytes()
 
 
@@ -22,8 +24,38 @@ def unpacked(size, content):
     return list(content) if size == 1 else array("H", bytes(content)).tolist()
 
 
+class Piece:
+    """A piece of memory between two pages that no call may touch, and what it must hold."""
+
+    def __init__(self, content):
+        self.whole = mmap.mmap(-1, len(content) + 2 * PAGE)
+        start = ctypes.addressof(ctypes.c_char.from_buffer(self.whole))
+        for page in (start, start + PAGE + len(content)):
+            if ctypes.CDLL(None).mprotect(ctypes.c_void_p(page), ctypes.c_size_t(PAGE), 0) != 0:
+                raise OSError("no page could be protected")
+        self.address = start + PAGE
+        self.expected = bytearray(content)
+        self.put(0, content)
+
+    def put(self, at, content):
+        self.whole[PAGE + at : PAGE + at + len(content)] = content
+
+    def held(self, at, size):
+        return self.whole[PAGE + at : PAGE + at + size]
+
+    def expect(self, at, content):
+        """Notes what a part must hold from now on."""
+        self.expected[at : at + len(content)] = content
+
+    def as_expected(self):
+        """Whether all of it holds what the calls had to leave in it, so that none of them wrote far from its buffers."""
+        return self.held(0, len(self.expected)) == self.expected
+
+
 class Laid:
     """One call's memory: what it held before the call, where it begins, where in it each argument's buffer lies, and what the library is passed."""
+
+    script = "drawn.py"
 
     def __init__(self, image, base, spans):
         self.image = image
@@ -40,13 +72,13 @@ class Laid:
         return image
 
     def values(self, parameters, content):
-        """The buffers in some content of the memory, as lists; numbers as they were passed."""
+        """The buffers in some content of the memory, as lists, with its count where it has more than its memory holds; numbers as they were passed."""
         passed, values = list(self.passed), []
         for parameter, span in zip(parameters, self.spans):
             first = passed.pop(0)
             if parameter.size:
-                passed.pop(0)
-                values.append(unpacked(parameter.size, content[span[0] : span[1]]))
+                buffer, count = unpacked(parameter.size, content[span[0] : span[1]]), passed.pop(0)
+                values.append(buffer if count == len(buffer) else (buffer, count))
             else:
                 values.append(first)
         return values
@@ -58,14 +90,7 @@ class Memory:
     def __init__(self, draw):
         self.draw = draw
         self.pool = draw.bytes(2 * ROOM)
-        self.whole = mmap.mmap(-1, ROOM + 2 * PAGE)
-        start = ctypes.addressof(ctypes.c_char.from_buffer(self.whole))
-        for page in (start, start + PAGE + ROOM):
-            if ctypes.CDLL(None).mprotect(ctypes.c_void_p(page), ctypes.c_size_t(PAGE), 0) != 0:
-                raise OSError("no page could be protected")
-        self.address = start + PAGE
-        self.whole[PAGE : PAGE + ROOM] = self.pool[:ROOM]
-        self.expected = bytearray(self.pool[:ROOM])
+        self.piece = Piece(self.pool[:ROOM])
 
     def lay(self, function, arguments):
         """Lays the buffers of a call out, and fills the memory with what they hold."""
@@ -94,7 +119,7 @@ class Memory:
         for span, content in contents:
             image[span[0] : span[1]] = content
         laid = Laid(image, ROOM - at if edge == 1 else 0, spans)
-        self.whole[PAGE + laid.base : PAGE + laid.base + at] = bytes(image)
+        self.piece.put(laid.base, bytes(image))
         laid.passed = list(self.passed(laid, arguments))
         return laid
 
@@ -104,20 +129,18 @@ class Memory:
             if span is None:
                 yield argument
             else:
-                yield self.address + laid.base + span[0] if argument or self.draw.below(2) else None
+                yield self.piece.address + laid.base + span[0] if argument or self.draw.below(2) else None
                 yield len(argument)
 
     def held(self, laid):
         """What the memory of a call holds now."""
-        return self.whole[PAGE + laid.base : PAGE + laid.base + len(laid.image)]
+        return self.piece.held(laid.base, len(laid.image))
 
     def expect(self, laid, content):
-        """Notes what the memory of a call must hold from now on."""
-        self.expected[laid.base : laid.base + len(content)] = content
+        self.piece.expect(laid.base, content)
 
     def as_expected(self):
-        """Whether the whole piece holds what the calls had to leave in it, so that none of them wrote far from its buffers."""
-        return self.whole[PAGE : PAGE + ROOM] == self.expected
+        return self.piece.as_expected()
 
     def spoil(self, laid, at, change):
-        self.whole[PAGE + laid.base + at] ^= change
+        self.piece.whole[PAGE + laid.base + at] ^= change
