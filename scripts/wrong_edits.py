@@ -1,4 +1,7 @@
-"""The edits of wrong_kernels.py: what goes wrong, the module, and the text that is exchanged, which stands there once."""
+"""The edits of wrong_kernels.py: what goes wrong, the module, and the text that is exchanged, which stands there once.
+
+Those of EDGES leave every reply and every byte as they must be: they only touch memory that they need not, or were not lent.
+"""
 
 CHECKS = [
     ("rank 65 passes", "meaning", "1 <= rank <= 64:", "1 <= rank <= 65:"),
@@ -146,3 +149,55 @@ LINES = [
 ]
 
 EDITS = CHECKS + RIBBONS + MOVES + LINES
+
+EDGES = [
+    (
+        "the first letter of a word read before its rank is judged", "meaning",
+        "    check_rank(rank)\n    check_length(len(word))\n",
+        "    word[:1]\n    check_rank(rank)\n    check_length(len(word))\n",
+    ),
+    ("letters of a word read before its length is judged", "meaning", "    check_length(len(word))\n", "    sum(word)\n    check_length(len(word))\n"),
+    (
+        "letters of a second word read before its length is judged", "meaning",
+        "    check_length(len(second))\n",
+        "    sum(second)\n    check_length(len(second))\n",
+    ),
+    ("marks read before they are as many as the letters", "meaning", "    check_alike(letters, marks)\n", "    sum(marks)\n    check_alike(letters, marks)\n"),
+    (
+        "entries of a pair read before they are as many as the letters", "meaning",
+        "    check_alike(letters, marks, entries)\n",
+        "    sum(entries)\n    check_alike(letters, marks, entries)\n",
+    ),
+    (
+        "entries of a ribbon alone read before its length is judged", "lines",
+        "    check_length(len(entries))\n",
+        "    sum(entries)\n    check_length(len(entries))\n",
+    ),
+    ("insertion: cells read before the used count is judged", "meaning", "    check_length(used)\n", "    letters[:used]\n    check_length(used)\n"),
+    (
+        "insertion: entries beyond the used ones read", "meaning",
+        "    check_entries(entries[:used])\n",
+        "    sum(entries)\n    check_entries(entries[:used])\n",
+    ),
+    (
+        "the element after the needed ones read", "meaning",
+        "    output[: len(values)] = values\n",
+        "    output[: len(values)] = values\n    output[len(values) : len(values) + 1]\n",
+    ),
+    (
+        "the element after the needed ones written with what it held", "meaning",
+        "    output[: len(values)] = values\n",
+        "    end = len(values) + 1\n    output[:end] = values + output[end - 1 : end]\n",
+    ),
+    ("a text of more than 4,096 bytes read", "lines", "len(text) > 4096", "len([byte for byte in text]) > 4096"),
+    (
+        "junctions: the letter after the last read", "meaning",
+        "def junctions(rank, word):\n    check_word(rank, word)\n",
+        "def junctions(rank, word):\n    check_word(rank, word)\n    word[len(word)]\n",
+    ),
+    (
+        "column reading: the mark before the first read", "meaning",
+        "    check_tableau(rank, letters, marks)\n    check_room(len(letters), word)\n",
+        "    check_tableau(rank, letters, marks)\n    check_room(len(letters), word)\n    marks[-1]\n",
+    ),
+]

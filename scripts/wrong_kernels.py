@@ -3,7 +3,7 @@
     python3 scripts/wrong_kernels.py         each edit in turn, until an input shows it; exit status 1 if one is never found
 
 Each is the plain Python with one edit, put in the library's place: it reads the lent memory, replies, and writes. The plain Python without the edit
-judges it, as drawn.py does the library.
+judges it, as drawn.py does the library; or, where the edit touches memory that it need not, as drawn_edges.py does.
 """
 import ctypes
 import os
@@ -14,12 +14,15 @@ sys.dont_write_bytecode = True
 
 import header
 from drawn import called
+from drawn_edges import apart, calls
 from drawn_inputs import drawn_input
 from drawn_values import Draw
+from fenced_memory import python_length
 from lent_memory import Memory, packed, unpacked
-from wrong_edits import EDITS
+from wrong_edits import EDGES, EDITS
 
 MOST = 1000000
+MOST_EDGES = 300
 MODULES = ("meaning", "lines", "replies")
 
 
@@ -40,28 +43,75 @@ def edited(module, old, new):
         sys.modules.update(right)
 
 
+class Elements:
+    """Lent memory as a list whose elements are touched one by one where it stands, and outside of it too, as C would."""
+
+    def __init__(self, size, address, count):
+        self.size = size
+        self.address = address or 0
+        self.elements = count
+
+    def __len__(self):
+        return python_length(self.elements)
+
+    def __iter__(self):
+        return (self[at] for at in range(self.elements))
+
+    def __getitem__(self, at):
+        if isinstance(at, slice):
+            return [self[place] for place in range(*at.indices(len(self)))]
+        return int.from_bytes(ctypes.string_at(self.address + at * self.size, self.size), "little")
+
+    def __setitem__(self, at, value):
+        places, values = (range(*at.indices(len(self))), value) if isinstance(at, slice) else ([at], [value])
+        for place, value in zip(places, values):
+            ctypes.memmove(self.address + place * self.size, packed(self.size, [value % 256**self.size]), self.size)
+
+    def __radd__(self, values):
+        return values + list(iter(self))
+
+    def count(self, value):
+        return list(iter(self)).count(value)
+
+    def index(self, value):
+        return list(iter(self)).index(value)
+
+
+def arguments_of(function, passed, buffer):
+    """The arguments as the plain Python takes them, each buffer made of its size, address and count."""
+    rest = list(passed)
+    return [buffer(p.size, rest.pop(0), rest.pop(0)) if p.size else rest.pop(0) for p in function.parameters]
+
+
 def in_its_place(function, replies):
-    """What is called for a function of the library: the same arguments, the same kind of reply."""
+    """What is called for a function of the library: the same arguments, the same kind of reply. Lent memory is read whole, and written back."""
     struct = type(function.name, (ctypes.Structure,), {"_fields_": [(field, ctypes.c_uint64) for field in function.fields]})
 
     def call(*passed):
-        rest, lent, arguments = list(passed), [], []
-        for parameter in function.parameters:
-            arguments.append(rest.pop(0))
-            if parameter.size:
-                address, count = arguments[-1], rest.pop(0)
-                arguments[-1] = unpacked(parameter.size, ctypes.string_at(address, count * parameter.size) if count else b"")
-                lent += [(parameter.size, address, count, arguments[-1])] if parameter.lent else []
-        reply = struct(*replies.plain_reply(function, arguments))
-        for size, address, count, values in lent:
-            ctypes.memmove(address, packed(size, [value % 256**size for value in values]), count * size)
+        lent = []
+
+        def read(size, address, count):
+            values = unpacked(size, ctypes.string_at(address, count * size) if count else b"")
+            lent.append((size, address, count, values))
+            return values
+
+        reply = struct(*replies.plain_reply(function, arguments_of(function, passed, read)))
+        for parameter, (size, address, count, values) in zip([p for p in function.parameters if p.size], lent):
+            if parameter.lent:
+                ctypes.memmove(address, packed(size, [value % 256**size for value in values]), count * size)
         return reply
 
     return function._replace(call=call)
 
 
+def over_memory(function, replies):
+    """The same, over the elements where they stand."""
+    struct = type(function.name, (ctypes.Structure,), {"_fields_": [(field, ctypes.c_uint64) for field in function.fields]})
+    return function._replace(call=lambda *passed: struct(*replies.plain_reply(function, arguments_of(function, passed, Elements))))
+
+
 def found_after(replies, seed):
-    """The function and the number of inputs after which a wrong kernel is found, or None."""
+    """The function in which a wrong kernel is found, and the number of inputs until then, or None."""
     functions = [in_its_place(function, replies) for function in header.functions_of(None).values()]
     draw = Draw(seed)
     memory = Memory(draw)
@@ -72,14 +122,26 @@ def found_after(replies, seed):
     return None
 
 
+def failing(replies, seed):
+    """The functions in which a wrong kernel touches memory that it need not, each found by calls in a process of its own."""
+    functions = [over_memory(function, replies) for function in header.functions_of(None).values()]
+    return [function.name for function in functions if apart(function, lambda note: calls(function, seed, MOST_EDGES, note))[1]]
+
+
 def main():
     missed = 0
     for what, module, old, new in EDITS:
         found = found_after(edited(module, old, new), "wrong: " + what)
         print("%-70s %s" % (what, "found in %s after %d inputs" % found if found else "NOT FOUND"), flush=True)
         missed += found is None
-    print("%d wrong kernels, %d not found" % (len(EDITS), missed))
-    sys.exit(1 if missed else 0)
+    for what, module, old, new in EDGES:
+        found = failing(edited(module, old, new), "wrong: " + what)
+        print("%-70s %s" % (what, "found at the edge of memory in " + ", ".join(found) if found else "NOT FOUND"), flush=True)
+        missed += not found
+    print("%d wrong kernels, %d not found" % (len(EDITS) + len(EDGES), missed))
+    right = failing(edited(None, "", ""), "right")
+    print("no edit: " + ("FOUND at the edge of memory in " + ", ".join(right) if right else "nothing found at the edge of memory"))
+    sys.exit(1 if missed or right else 0)
 
 
 if __name__ == "__main__":
