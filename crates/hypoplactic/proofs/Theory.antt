@@ -62,3 +62,4 @@ pub mod Together
 -- ---- cases
 pub mod Examples
 pub mod Starred
+pub mod Pinned

@@ -17,3 +17,4 @@ pub mod LineOperations
 pub mod LineReadings
 pub mod Classes
 pub mod Starred
+pub mod Pinned

@@ -4,6 +4,7 @@
 --     sum-le                the counts of some letters add up to no more than the length
 --     sum-within            each letter is inside exactly when the counts of the letters inside add up to the length
 --     accepted-content      a word with the content of an accepted word is accepted
+--     within-snoc           a word within a rank with one letter of it more is within it
 --     accepted-snoc         so is an accepted word of fewer than 1,024 letters with one letter more
 -- Assumes nothing.
 use Prim.Native.Nat.{ℕ, zero, suc, _≤_, _<_, _+_}
@@ -103,7 +104,8 @@ accepted-content {n} {u} {v} f h =
     let alike : length u ≡ length v = sym (sum-length n u (h .letters)) ∙ sum-same n u v f ∙ sum-length n v within in
     record { rank-low = h .rank-low; rank-high = h .rank-high; short = omega (arith, h .short); letters = within }
 
-within-snoc : (n a : ℕ) (w : List ℕ) → Within n w → Inside n a → Within n (w ++ a ∷ [])
+-- A word within a rank with one letter of it more is within it.
+pub within-snoc : (n a : ℕ) (w : List ℕ) → Within n w → Inside n a → Within n (w ++ a ∷ [])
 within-snoc n a [] h i = (i .0, i .1, tt)
 within-snoc n a (x ∷ w) h i = (h .0, h .1, within-snoc n a w (h .2) i)
 

@@ -1,0 +1,64 @@
+-- What the starred cases leave open, pinned: the lists of specs/Pinned.antt, computed by the checker, and what no case can say in short.
+--     orders-pinned, values-pinned, lines-pinned     the three lists
+--     full-insertion                                 12 in its place among the checks of insertion
+-- Assumes nothing.
+use Prim.Native.Nat.{ℕ, _≤_}
+use mathlib.Core.Path.{_≡_, refl}
+use mathlib.Core.List.{List, [], _∷_, _++_, map}
+use lib.ListN.{length, take}
+use lib.Count.{ones, onesIn}
+use Rattle.grammar.specs.Numbers.{decimal}
+use Rattle.grammar.specs.Lines.{wLine, tLine, nLine, jLine, eLine}
+use Rattle.grammar.specs.Reading.{readW, readT, readN}
+use Rattle.hypoplactic.specs.Ribbons.{TableauAt}
+use Rattle.hypoplactic.specs.Insertion.{Pair, insert, pairOf, wordOf}
+use Rattle.hypoplactic.specs.Reading.{columnReading}
+use Rattle.hypoplactic.specs.Moves.{repeatTableau}
+use Rattle.hypoplactic.specs.Junctions.{number, junctionSet, rowsOf, sameClass}
+use Rattle.hypoplactic.specs.Weights.{compareWeights}
+use Rattle.hypoplactic.specs.Replies.{orElse, refused}
+use Rattle.hypoplactic.specs.Judgements.{rankJudged, lengthJudged, lettersJudged, indexJudged, inversionJudged, alikeJudged, usedJudged, risingJudged, marksJudged, entriesJudged, recordingJudged, fullJudged, roomJudged}
+use Rattle.hypoplactic.specs.WordOperations.{junctionSays, moveWordSays, repeatWordSays, sameClassSays, weightsSays}
+use Rattle.hypoplactic.specs.TableauOperations.{insertRun, insertSays, lookSays, moveTableauSays, readingRun, readingSays, recordingSays, repeatTableauSays, tableauRun, tableauSays, throughSays, viewerSays, wordRun, wordSays}
+use Rattle.hypoplactic.specs.LineOperations.{program, tableauLine, eLineRun, jLineRun, nLineRun, roomRun, tLineRun, tableauLineRun, wLineRun}
+use Rattle.hypoplactic.specs.LineReadings.{answerRun, output, readNRun, readTRun, readWRun}
+use Rattle.hypoplactic.specs.Starred.{Case}
+use Rattle.hypoplactic.specs.Pinned.{lineCases, orderCases, valueCases}
+use Rattle.hypoplactic.proofs.Theory.Passing.{Passes, first-past}
+use Rattle.hypoplactic.proofs.Theory.Contents.{Inside, within-snoc}
+use Rattle.hypoplactic.proofs.Theory.Judgements.{letters-judged, used-judged}
+use Rattle.hypoplactic.proofs.Theory.Judged.{tableau-passing}
+
+-- Every operation makes its checks in document 01's order.
+pub orders-pinned : map (λ (c : Case). c .meaning) orderCases ≡ map (λ (c : Case). c .document) orderCases
+unfolding orderCases rankJudged lengthJudged alikeJudged usedJudged lettersJudged risingJudged marksJudged entriesJudged recordingJudged indexJudged inversionJudged fullJudged roomJudged junctionSays moveWordSays repeatWordSays sameClassSays weightsSays tableauSays recordingSays insertSays wordSays readingSays moveTableauSays repeatTableauSays viewerSays lookSays wLineRun tLineRun nLineRun tableauLineRun jLineRun
+orders-pinned = refl
+
+-- Every reply has its values, and every limit its place.
+pub values-pinned : map (λ (c : Case). c .meaning) valueCases ≡ map (λ (c : Case). c .document) valueCases
+unfolding valueCases pairOf insert wordOf columnReading number junctionSet rowsOf ones onesIn sameClass compareWeights repeatTableau rankJudged lengthJudged alikeJudged usedJudged lettersJudged risingJudged marksJudged entriesJudged recordingJudged indexJudged fullJudged roomJudged junctionSays repeatWordSays sameClassSays weightsSays tableauSays tableauRun insertSays insertRun wordSays wordRun readingSays readingRun repeatTableauSays viewerSays throughSays lookSays
+values-pinned = refl
+
+-- The same of readers, writers and the program.
+pub lines-pinned : map (λ (c : Case). c .meaning) lineCases ≡ map (λ (c : Case). c .document) lineCases
+unfolding lineCases readW readT readN wLine tLine nLine jLine eLine decimal pairOf insert number junctionSet rowsOf ones onesIn program tableauLine rankJudged lengthJudged alikeJudged lettersJudged risingJudged marksJudged entriesJudged roomJudged roomRun wLineRun tLineRun nLineRun tableauLineRun jLineRun eLineRun readWRun readTRun readNRun output answerRun
+lines-pinned = refl
+
+-- Insertion into 1,024 cells where 1 to 7 pass, whatever room there is: 8 stands before 12, and 12 before 13. As a case it would compute for seconds.
+pub full-insertion : (n a : ℕ) (p : Pair) → TableauAt n (take 1024 (p .letters)) (take 1024 (p .marks))
+    → Passes (entriesJudged 1024 (take 1024 (p .recording))) → Inside n a
+    → 1024 ≤ length (p .letters) → 1024 ≤ length (p .marks) → 1024 ≤ length (p .recording)
+    → insertSays n 1024 a p ≡ orElse (recordingJudged (take 1024 (p .recording)) (take 1024 (p .marks))) (refused 12 1024)
+unfolding insertSays lengthJudged fullJudged
+full-insertion n a p h entries i as-letters as-marks as-recording =
+    let xs : List ℕ = take 1024 (p .letters) in
+    let ms : List ℕ = take 1024 (p .marks) in
+    let rs : List ℕ = take 1024 (p .recording) in
+    let lengths : List ℕ = length (p .letters) ∷ length (p .marks) ∷ length (p .recording) ∷ [] in
+    let (rank, (short, (alike, (letters, (rising, (marks, t)))))) = tableau-passing n xs ms .1 h in
+    let held = used-judged 1024 lengths .1 (as-letters, (as-marks, (as-recording, tt))) in
+    let all = letters-judged n (xs ++ a ∷ []) .1 (within-snoc n a xs (h .word .letters) i) in
+    first-past
+    (rankJudged n ∷ lengthJudged 1024 ∷ usedJudged 1024 lengths ∷ lettersJudged n (xs ++ a ∷ []) ∷ risingJudged xs ∷ marksJudged xs ms
+    ∷ entriesJudged 1024 rs ∷ []) (recordingJudged rs ms ∷ []) (refused 12 1024)
+    (rank, (tt, (held, (all, (rising, (marks, (entries, tt)))))))

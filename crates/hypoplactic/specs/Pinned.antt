@@ -1,0 +1,212 @@
+-- Cases that pin what the starred, worked and refusal cases leave open, in the same form: the order of the checks of each operation, each number, place
+-- and value that it replies, and each limit on both sides. So none of them can be changed in definitions and code together.
+--     onWords, onTableaux, onPairs     what an operation says of inputs that each break one check and the one after it, in the order of the checks
+--     orderCases, valueCases, lineCases     the cases
+-- That the two sides of every case are equal is proved in proofs/Theory/Pinned.antt. Assumes nothing.
+use Prim.Native.Nat.{ℕ}
+use mathlib.Core.Bool.{true}
+use mathlib.Core.List.{List, [], _∷_, _++_}
+use lib.ListN.{length, replicate}
+use Rattle.grammar.specs.Lines.{eLine}
+use Rattle.hypoplactic.specs.Insertion.{Pair}
+use Rattle.hypoplactic.specs.Junctions.{junctionSet}
+use Rattle.hypoplactic.specs.Replies.{Said, first, passed, refused}
+use Rattle.hypoplactic.specs.Judgements.{fullJudged, recordingJudged, roomJudged}
+use Rattle.hypoplactic.specs.WordOperations.{junctionSays, moveJudgements, moveWordSays, repeatWordSays, sameClassSays, weightsSays}
+use Rattle.hypoplactic.specs.TableauOperations.{cellAt, insertRun, insertSays, lookSays, moveTableauSays, readingRun, readingSays, recordingSays, repeatTableauSays, tableauRun, tableauSays, throughSays, viewerSays, wordRun, wordSays}
+use Rattle.hypoplactic.specs.LineOperations.{eLineRun, jLineRun, nLineRun, roomRun, tLineRun, tableauLineRun, wLineRun}
+use Rattle.hypoplactic.specs.LineReadings.{answerRun, output, readNRun, readTRun, readWRun, recordingRead, tableauRead, wordRead}
+use Rattle.hypoplactic.specs.Starred.{Case, case, lower, numbers, outcome, pair, raise, text, w433, w4323}
+
+-- ---- inputs that break two checks
+
+-- Words that break 1 and 2, 2 and 4, 4 and whatever an operation checks next.
+abbrev pub onWords : (ℕ → List ℕ → Said) → List ℕ
+onWords says = numbers (says 65 (replicate 1025 1)) ++ numbers (says 4 (replicate 1025 5)) ++ numbers (says 4 (2 ∷ 5 ∷ 0 ∷ []))
+
+abbrev pub wordOrder : List ℕ
+wordOrder = 1 ∷ 0 ∷ 2 ∷ 0 ∷ 4 ∷ 1 ∷ []
+
+-- Two words: 1 of one and 2 of the other, 2 of one and 4 of the other, 4 of both, 4 of the second alone, by its own rank.
+abbrev pub onTwo : (ℕ → List ℕ → ℕ → List ℕ → Said) → List ℕ
+onTwo says =
+    numbers (says 65 [] 4 (replicate 1025 1))
+    ++ numbers (says 4 (replicate 1025 1) 65 [])
+    ++ numbers (says 4 (replicate 1025 1) 4 (5 ∷ []))
+    ++ numbers (says 4 (5 ∷ []) 4 (replicate 1025 1))
+    ++ numbers (says 4 (1 ∷ 5 ∷ []) 4 (5 ∷ []))
+    ++ numbers (says 4 (4 ∷ []) 3 (3 ∷ 4 ∷ []))
+
+abbrev pub twoOrder : List ℕ
+twoOrder = 1 ∷ 0 ∷ 1 ∷ 0 ∷ 2 ∷ 0 ∷ 2 ∷ 0 ∷ 4 ∷ 1 ∷ 4 ∷ 2 ∷ []
+
+-- Tableaux that break 1 and 2, 2 and 3, 3 and 4, 4 and 5, 5 and 6, 6 and whatever an operation checks next.
+abbrev pub onTableaux : (ℕ → List ℕ → List ℕ → Said) → List ℕ
+onTableaux says =
+    numbers (says 65 (replicate 1025 1) [])
+    ++ numbers (says 4 (replicate 1025 1) [])
+    ++ numbers (says 4 (5 ∷ []) [])
+    ++ numbers (says 4 (3 ∷ 2 ∷ 5 ∷ []) (0 ∷ 0 ∷ 0 ∷ []))
+    ++ numbers (says 4 (2 ∷ 1 ∷ []) (1 ∷ 0 ∷ []))
+    ++ numbers (says 4 (1 ∷ 1 ∷ []) (0 ∷ 1 ∷ []))
+
+abbrev pub tableauOrder : List ℕ
+tableauOrder = 1 ∷ 0 ∷ 2 ∷ 0 ∷ 3 ∷ 0 ∷ 4 ∷ 2 ∷ 5 ∷ 1 ∷ 6 ∷ 1 ∷ []
+
+-- Pairs that break 1 and 2, 2 and 3, 3 by the marks and 4, 3 by the entries and 4, 4 and 5, 5 and 6, 6 and 7, 7 and 8, 8 and whatever comes next.
+abbrev pub onPairs : (ℕ → List ℕ → List ℕ → List ℕ → Said) → List ℕ
+onPairs says =
+    numbers (says 65 (replicate 1025 1) [] [])
+    ++ numbers (says 4 (replicate 1025 1) [] [])
+    ++ numbers (says 4 (5 ∷ []) [] (1 ∷ []))
+    ++ numbers (says 4 (5 ∷ []) (0 ∷ []) [])
+    ++ numbers (says 4 (3 ∷ 2 ∷ 5 ∷ []) (0 ∷ 0 ∷ 0 ∷ []) (1 ∷ 2 ∷ 3 ∷ []))
+    ++ numbers (says 4 (2 ∷ 1 ∷ []) (1 ∷ 0 ∷ []) (1 ∷ 2 ∷ []))
+    ++ numbers (says 4 (1 ∷ 1 ∷ []) (0 ∷ 1 ∷ []) (0 ∷ 0 ∷ []))
+    ++ numbers (says 4 (1 ∷ 2 ∷ 2 ∷ []) (0 ∷ 0 ∷ 0 ∷ []) (2 ∷ 1 ∷ 1 ∷ []))
+    ++ numbers (says 4 (1 ∷ 2 ∷ []) (0 ∷ 0 ∷ []) (2 ∷ 1 ∷ []))
+
+abbrev pub pairOrder : List ℕ
+pairOrder = 1 ∷ 0 ∷ 2 ∷ 0 ∷ 3 ∷ 0 ∷ 3 ∷ 0 ∷ 4 ∷ 2 ∷ 5 ∷ 1 ∷ 6 ∷ 1 ∷ 7 ∷ 2 ∷ 8 ∷ 1 ∷ []
+
+-- A reply and two lent lists after it.
+abbrev pub outcomes : Said × (List ℕ × List ℕ) → List ℕ
+outcomes r = numbers (r .0) ++ (r .1 .0 ++ r .1 .1)
+
+-- The same of insertion, with three.
+abbrev pub inserted : Said × Pair → List ℕ
+inserted r = numbers (r .0) ++ (r .1 .letters ++ (r .1 .marks ++ r .1 .recording))
+
+-- ---- the order of checks
+
+-- What comes after the inputs' own checks is broken too: an index 0, or no room.
+unfoldable pub orderCases : List Case
+orderCases =
+    -- of a word
+    case (onWords junctionSays) wordOrder
+    ∷ case (onWords (λ n w. moveWordSays n (raise 0) w)) wordOrder
+    ∷ case (onWords (λ n w. repeatWordSays n (raise 0) w)) wordOrder
+    ∷ case (onWords (λ n w. tableauSays n w 0 0)) wordOrder
+    ∷ case (onWords (λ n w. recordingSays n w 0)) wordOrder
+    ∷ case (onWords (λ n w. (wLineRun n w []) .0)) wordOrder
+    ∷ case (onWords (λ n w. (tableauLineRun n w []) .0)) wordOrder
+    ∷ case (onWords (λ n w. (jLineRun n w []) .0)) wordOrder
+    ∷ case (onWords (λ n w. (wordRead [] n w) .0)) wordOrder
+    -- of a move, once its inversion is known: 9 before 10 before 11
+    ∷ case (numbers (first (moveJudgements 4 (raise 0) true []) passed)) (9 ∷ 0 ∷ [])
+    ∷ case (numbers (first (moveJudgements 4 (raise 1) true []) passed)) (10 ∷ 0 ∷ [])
+    -- of two words
+    ∷ case (onTwo sameClassSays) twoOrder
+    ∷ case (onTwo weightsSays) twoOrder
+    -- of a tableau
+    ∷ case (onTableaux viewerSays) tableauOrder
+    ∷ case (onTableaux (λ n xs ms. lookSays n xs ms 9)) tableauOrder
+    ∷ case (onTableaux (λ n xs ms. readingSays n xs ms 0)) tableauOrder
+    ∷ case (onTableaux (λ n xs ms. moveTableauSays n (raise 0) xs ms)) tableauOrder
+    ∷ case (onTableaux (λ n xs ms. repeatTableauSays n (raise 0) xs ms)) tableauOrder
+    ∷ case (onTableaux (λ n xs ms. (tLineRun n xs ms []) .0)) tableauOrder
+    ∷ case (onTableaux (λ n xs ms. (tableauRead [] [] n xs ms) .0)) tableauOrder
+    -- of a pair
+    ∷ case (onPairs (λ n xs ms rs. wordSays n xs ms rs 0)) pairOrder
+    ∷ case (onPairs (λ n xs ms rs. insertSays n (length xs) 1 (pair xs ms rs))) pairOrder
+    -- of a recording ribbon alone: 2 before 7 before 13
+    ∷ case (numbers ((nLineRun (replicate 1025 0) []) .0) ++ numbers ((nLineRun (0 ∷ []) []) .0)) (2 ∷ 0 ∷ 7 ∷ 0 ∷ [])
+    ∷ case (numbers ((recordingRead [] (replicate 1025 0)) .0) ++ numbers ((recordingRead [] (0 ∷ [])) .0)) (2 ∷ 0 ∷ 7 ∷ 0 ∷ [])
+    ∷ []
+
+-- ---- values, places and limits
+
+unfoldable pub valueCases : List Case
+valueCases =
+    -- junctions: the set, then the rows; 64 bits, whatever the letters
+    case (numbers (junctionSays 4 w4323)) (0 ∷ 6 ∷ 3 ∷ [])
+    ∷ case (junctionSet (65 ∷ 64 ∷ []) ∷ junctionSet (66 ∷ 65 ∷ []) ∷ []) (9223372036854775808 ∷ 0 ∷ [])
+    -- classes: words of different rank are in none; the letters 1 to 64 count
+    ∷ case (numbers (sameClassSays 4 w433 5 w433)) (0 ∷ 0 ∷ [])
+    ∷ case (numbers (sameClassSays 64 (1 ∷ []) 64 [])) (0 ∷ 0 ∷ [])
+    ∷ case (numbers (sameClassSays 64 (64 ∷ []) 64 [])) (0 ∷ 0 ∷ [])
+    -- weights: 0 equal, 1 lower, 2 higher, 3 neither; sums up to 64
+    ∷ case (numbers (weightsSays 4 (1 ∷ 2 ∷ []) 4 (2 ∷ 1 ∷ []))) (0 ∷ 0 ∷ [])
+    ∷ case (numbers (weightsSays 64 [] 64 (64 ∷ []))) (0 ∷ 1 ∷ [])
+    ∷ case (numbers (weightsSays 64 (64 ∷ []) 64 [])) (0 ∷ 2 ∷ [])
+    ∷ case (numbers (weightsSays 4 (4 ∷ []) 5 (5 ∷ []))) (0 ∷ 2 ∷ [])
+    ∷ case (numbers (weightsSays 3 (1 ∷ 3 ∷ []) 3 (2 ∷ 2 ∷ []))) (0 ∷ 3 ∷ [])
+    -- repeat counts: 9 for a word too; of a tableau on both sides, 0 under an inversion
+    ∷ case (numbers (repeatWordSays 3 (raise 3) (1 ∷ []))) (9 ∷ 0 ∷ [])
+    ∷ case (numbers (repeatTableauSays 3 (raise 1) (1 ∷ 2 ∷ 2 ∷ []) (0 ∷ 0 ∷ 0 ∷ []))) (0 ∷ 2 ∷ [])
+    ∷ case (numbers (repeatTableauSays 3 (lower 1) (1 ∷ 2 ∷ 2 ∷ []) (0 ∷ 0 ∷ 0 ∷ []))) (0 ∷ 1 ∷ [])
+    ∷ case (numbers (repeatTableauSays 3 (raise 1) (1 ∷ 2 ∷ 2 ∷ []) (0 ∷ 1 ∷ 0 ∷ []))) (0 ∷ 0 ∷ [])
+    -- a viewer gives no value, a look the letter, the row and the column, or no value; a refusal of the making stays one
+    ∷ case (numbers (viewerSays 4 (1 ∷ []) (0 ∷ []))) (0 ∷ [])
+    ∷ case (numbers (lookSays 4 (2 ∷ 3 ∷ 3 ∷ 4 ∷ []) (0 ∷ 1 ∷ 0 ∷ 1 ∷ []) 3)) (0 ∷ 4 ∷ 2 ∷ 1 ∷ [])
+    ∷ case (numbers (throughSays passed (1 ∷ 4 ∷ []) (0 ∷ 0 ∷ []) 1)) (0 ∷ 4 ∷ 0 ∷ 1 ∷ [])
+    ∷ case (numbers (throughSays passed (1 ∷ 4 ∷ []) (0 ∷ 0 ∷ []) 2)) (0 ∷ [])
+    ∷ case (numbers (throughSays (refused 6 1) (1 ∷ []) (0 ∷ []) 0)) (6 ∷ 1 ∷ [])
+    -- cells of any two lists: as many as there are letters; the first mark is no step
+    ∷ case (cellAt (1 ∷ 4 ∷ []) (1 ∷ []) 1 ++ cellAt (1 ∷ []) (0 ∷ 1 ∷ []) 1) (4 ∷ 0 ∷ 0 ∷ [])
+    -- 8: entries that neither rise nor fall break no step
+    ∷ case (numbers (recordingJudged (1 ∷ 1 ∷ 1 ∷ []) (0 ∷ 0 ∷ 1 ∷ []))) (0 ∷ [])
+    -- 12: one cell is left of 1,024
+    ∷ case (numbers (fullJudged 1023)) (0 ∷ [])
+    -- 13: each output in turn, with the elements that are needed; as many as needed are enough
+    ∷ case (outcomes (tableauRun 4 w433 (9 ∷ 9 ∷ []) (8 ∷ 8 ∷ 8 ∷ []))) (13 ∷ 3 ∷ 9 ∷ 9 ∷ 8 ∷ 8 ∷ 8 ∷ [])
+    ∷ case (outcomes (tableauRun 4 w433 (9 ∷ 9 ∷ 9 ∷ []) (8 ∷ 8 ∷ []))) (13 ∷ 3 ∷ 9 ∷ 9 ∷ 9 ∷ 8 ∷ 8 ∷ [])
+    ∷ case (numbers (insertSays 4 1 3 (pair (1 ∷ 0 ∷ []) (0 ∷ []) (1 ∷ 0 ∷ [])))) (13 ∷ 2 ∷ [])
+    ∷ case (numbers (insertSays 4 1 3 (pair (1 ∷ 0 ∷ []) (0 ∷ 0 ∷ []) (1 ∷ [])))) (13 ∷ 2 ∷ [])
+    ∷ case (outcome (wordRun 4 (1 ∷ 2 ∷ []) (0 ∷ 1 ∷ []) (2 ∷ 1 ∷ []) (9 ∷ []))) (13 ∷ 2 ∷ 9 ∷ [])
+    ∷ case (outcome (readingRun 4 (1 ∷ 2 ∷ []) (0 ∷ 1 ∷ []) (9 ∷ []))) (13 ∷ 2 ∷ 9 ∷ [])
+    ∷ case (numbers (roomJudged 2 2)) (0 ∷ [])
+    -- results: the elements written, and lent lists longer than needed
+    ∷ case (outcomes (tableauRun 4 w433 (9 ∷ 9 ∷ 9 ∷ 9 ∷ []) (8 ∷ 8 ∷ 8 ∷ 8 ∷ []))) (0 ∷ 3 ∷ 3 ∷ 3 ∷ 4 ∷ 9 ∷ 0 ∷ 0 ∷ 1 ∷ 8 ∷ [])
+    ∷ case (outcome (wordRun 4 (1 ∷ 2 ∷ []) (0 ∷ 1 ∷ []) (2 ∷ 1 ∷ []) (9 ∷ 9 ∷ 9 ∷ []))) (0 ∷ 2 ∷ 2 ∷ 1 ∷ 9 ∷ [])
+    ∷ case (outcome (readingRun 4 (1 ∷ 2 ∷ []) (0 ∷ 1 ∷ []) (9 ∷ 9 ∷ 9 ∷ []))) (0 ∷ 2 ∷ 2 ∷ 1 ∷ 9 ∷ [])
+    -- insertion gives the new used count; 3 by the letters; lists longer than 1,024 and cells that are not used are not judged; 7 takes the used count
+    ∷ case (inserted (insertRun 4 2 3 (pair (2 ∷ 4 ∷ 9 ∷ 9 ∷ []) (0 ∷ 1 ∷ 8 ∷ 8 ∷ []) (2 ∷ 1 ∷ 7 ∷ 7 ∷ []))))
+    (0 ∷ 3 ∷ 2 ∷ 3 ∷ 4 ∷ 9 ∷ 0 ∷ 0 ∷ 1 ∷ 8 ∷ 2 ∷ 3 ∷ 1 ∷ 7 ∷ [])
+    ∷ case (numbers (insertSays 4 2 1 (pair (1 ∷ []) (0 ∷ 0 ∷ []) (1 ∷ 2 ∷ [])))) (3 ∷ 0 ∷ [])
+    ∷ case (numbers (insertSays 4 0 1 (pair (replicate 1025 0) (replicate 1025 2) (replicate 1025 0)))) (0 ∷ 1 ∷ [])
+    ∷ case (numbers (insertSays 4 2 1 (pair (1 ∷ 2 ∷ 0 ∷ []) (0 ∷ 0 ∷ 0 ∷ []) (1 ∷ 3 ∷ 0 ∷ [])))) (7 ∷ 1 ∷ [])
+    ∷ []
+
+-- ---- lines
+
+unfoldable pub lineCases : List Case
+lineCases =
+    -- the program: more than 4,096 bytes are refused at that place, exactly 4,096 are judged as any text
+    case (output (replicate 4097 65)) (text "E,14,4096\n")
+    ∷ case (output (replicate 4096 65)) (text "E,14,0\n")
+    -- 14 before 1 and 2; numbers of up to four digits; what breaks a line
+    ∷ case (outcome (readWRun (text "W,0,1025,1\n") (9 ∷ []))) (14 ∷ 10 ∷ 9 ∷ [])
+    ∷ case (outcomes (readTRun (text "T,0,1025,1\n") (9 ∷ []) (8 ∷ []))) (14 ∷ 10 ∷ 9 ∷ 8 ∷ [])
+    ∷ case (outcome (readNRun (text "N,1025,1\n") (9 ∷ []))) (14 ∷ 8 ∷ 9 ∷ [])
+    ∷ case (numbers ((readWRun (text "W,9999,0\n") []) .0)) (1 ∷ 0 ∷ [])
+    ∷ case (numbers ((readWRun (text "W,10000,0\n") []) .0)) (14 ∷ 6 ∷ [])
+    ∷ case (numbers ((readWRun (text "W,4,0\n\n") []) .0)) (14 ∷ 6 ∷ [])
+    -- readers give rank and length, or length; 13 for each output
+    ∷ case (outcome (readWRun (text "W,64,2,13,1\n") (9 ∷ 9 ∷ 9 ∷ []))) (0 ∷ 64 ∷ 2 ∷ 13 ∷ 1 ∷ 9 ∷ [])
+    ∷ case (outcome (readWRun (text "W,4,2,3,1\n") (9 ∷ []))) (13 ∷ 2 ∷ 9 ∷ [])
+    ∷ case (outcomes (readTRun (text "T,4,2,1,d,3\n") (9 ∷ 9 ∷ 9 ∷ []) (8 ∷ 8 ∷ 8 ∷ []))) (0 ∷ 4 ∷ 2 ∷ 1 ∷ 3 ∷ 9 ∷ 0 ∷ 1 ∷ 8 ∷ [])
+    ∷ case (outcomes (readTRun (text "T,4,2,1,d,3\n") (9 ∷ []) (8 ∷ 8 ∷ []))) (13 ∷ 2 ∷ 9 ∷ 8 ∷ 8 ∷ [])
+    ∷ case (outcomes (readTRun (text "T,4,2,1,d,3\n") (9 ∷ 9 ∷ []) (8 ∷ []))) (13 ∷ 2 ∷ 9 ∷ 9 ∷ 8 ∷ [])
+    ∷ case (outcome (readNRun (text "N,2,2,1\n") (9 ∷ []))) (13 ∷ 2 ∷ 9 ∷ [])
+    -- writers give the bytes written; 13 has the bytes needed
+    ∷ case (outcome (wLineRun 4 (3 ∷ []) (replicate 9 7))) (0 ∷ 8 ∷ (text "W,4,1,3\n" ++ 7 ∷ []))
+    ∷ case (outcome (wLineRun 4 (3 ∷ []) (7 ∷ []))) (13 ∷ 8 ∷ 7 ∷ [])
+    ∷ case (outcome (tLineRun 4 (1 ∷ 3 ∷ []) (0 ∷ 1 ∷ []) (replicate 13 7))) (0 ∷ 12 ∷ (text "T,4,2,1,d,3\n" ++ 7 ∷ []))
+    ∷ case (outcome (tLineRun 4 (1 ∷ 3 ∷ []) (0 ∷ 1 ∷ []) (7 ∷ []))) (13 ∷ 12 ∷ 7 ∷ [])
+    ∷ case (outcome (nLineRun (2 ∷ 1 ∷ []) (replicate 9 7))) (0 ∷ 8 ∷ (text "N,2,2,1\n" ++ 7 ∷ []))
+    ∷ case (outcome (nLineRun (2 ∷ 1 ∷ []) (7 ∷ []))) (13 ∷ 8 ∷ 7 ∷ [])
+    ∷ case (outcome (tableauLineRun 4 (3 ∷ 1 ∷ []) (replicate 13 7))) (0 ∷ 12 ∷ (text "T,4,2,1,d,3\n" ++ 7 ∷ []))
+    ∷ case (outcome (tableauLineRun 4 (3 ∷ 1 ∷ []) (7 ∷ []))) (13 ∷ 12 ∷ 7 ∷ [])
+    ∷ case (outcome (jLineRun 4 w4323 (replicate 7 7))) (0 ∷ 6 ∷ (text "J,6,3\n" ++ 7 ∷ []))
+    ∷ case (outcome (jLineRun 4 w4323 (7 ∷ []))) (13 ∷ 6 ∷ 7 ∷ [])
+    ∷ case (outcome (eLineRun 4 0 (replicate 7 7))) (0 ∷ 6 ∷ (text "E,4,0\n" ++ 7 ∷ []))
+    ∷ case (outcome (eLineRun 4 0 (7 ∷ []))) (13 ∷ 6 ∷ 7 ∷ [])
+    ∷ case (outcome (roomRun (1 ∷ 2 ∷ []) (7 ∷ 7 ∷ 7 ∷ []))) (0 ∷ 2 ∷ 1 ∷ 2 ∷ 7 ∷ [])
+    ∷ case (outcome (roomRun (1 ∷ 2 ∷ []) (7 ∷ []))) (13 ∷ 2 ∷ 7 ∷ [])
+    -- numbers of one and of two digits
+    ∷ case (eLine 9 10) (text "E,9,10\n")
+    -- the whole output into lent memory: its bytes, or 13 with the bytes needed
+    ∷ case (outcome (answerRun (text "W,4,1,5\n") (replicate 7 7))) (0 ∷ 6 ∷ (text "E,4,0\n" ++ 7 ∷ []))
+    ∷ case (outcome (answerRun (text "W,4,1,5\n") (7 ∷ []))) (13 ∷ 6 ∷ 7 ∷ [])
+    ∷ []
