@@ -62,4 +62,3 @@ pub mod Together
 -- ---- cases
 pub mod Examples
 pub mod Starred
-pub mod Pinned

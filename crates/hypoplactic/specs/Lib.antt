@@ -17,4 +17,3 @@ pub mod LineOperations
 pub mod LineReadings
 pub mod Classes
 pub mod Starred
-pub mod Pinned

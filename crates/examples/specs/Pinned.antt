@@ -8,15 +8,15 @@ use mathlib.Core.Bool.{true}
 use mathlib.Core.List.{List, [], _∷_, _++_}
 use lib.ListN.{length, replicate}
 use Rattle.grammar.specs.Lines.{eLine}
 use Rattle.hypoplactic.specs.Insertion.{Pair}
 use Rattle.hypoplactic.specs.Junctions.{junctionSet}
 use Rattle.hypoplactic.specs.Replies.{Said, first, passed, refused}
 use Rattle.hypoplactic.specs.Judgements.{fullJudged, recordingJudged, roomJudged}
 use Rattle.hypoplactic.specs.WordOperations.{junctionSays, moveJudgements, moveWordSays, repeatWordSays, sameClassSays, weightsSays}
 use Rattle.hypoplactic.specs.TableauOperations.{cellAt, insertRun, insertSays, lookSays, moveTableauSays, readingRun, readingSays, recordingSays, repeatTableauSays, tableauRun, tableauSays, throughSays, viewerSays, wordRun, wordSays}
 use Rattle.hypoplactic.specs.LineOperations.{eLineRun, jLineRun, nLineRun, roomRun, tLineRun, tableauLineRun, wLineRun}
 use Rattle.hypoplactic.specs.LineReadings.{answerRun, output, readNRun, readTRun, readWRun, recordingRead, tableauRead, wordRead}
-use Rattle.hypoplactic.specs.Starred.{Case, case, lower, numbers, outcome, pair, raise, text, w433, w4323}
+use Rattle.hypoplactic.specs.Starred.{Case, case, lower, numbers, outcome, outcomes, pair, raise, text, w433, w4323}
 
 -- ---- inputs that break two checks
 
@@ -69,11 +69,7 @@ onPairs says =
 abbrev pub pairOrder : List ℕ
 pairOrder = 1 ∷ 0 ∷ 2 ∷ 0 ∷ 3 ∷ 0 ∷ 3 ∷ 0 ∷ 4 ∷ 2 ∷ 5 ∷ 1 ∷ 6 ∷ 1 ∷ 7 ∷ 2 ∷ 8 ∷ 1 ∷ []
 
--- A reply and two lent lists after it.
-abbrev pub outcomes : Said × (List ℕ × List ℕ) → List ℕ
-outcomes r = numbers (r .0) ++ (r .1 .0 ++ r .1 .1)
-
--- The same of insertion, with three.
+-- A reply and three lent lists after it.
 abbrev pub inserted : Said × Pair → List ℕ
 inserted r = numbers (r .0) ++ (r .1 .letters ++ (r .1 .marks ++ r .1 .recording))
 

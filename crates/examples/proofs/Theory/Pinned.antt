@@ -10,24 +10,25 @@ use lib.Count.{ones, onesIn}
 use Rattle.grammar.specs.Numbers.{decimal}
 use Rattle.grammar.specs.Lines.{wLine, tLine, nLine, jLine, eLine}
 use Rattle.grammar.specs.Reading.{readW, readT, readN}
+use Rattle.hypoplactic.specs.Words.{Inside}
 use Rattle.hypoplactic.specs.Ribbons.{TableauAt}
 use Rattle.hypoplactic.specs.Insertion.{Pair, insert, pairOf, wordOf}
 use Rattle.hypoplactic.specs.Reading.{columnReading}
 use Rattle.hypoplactic.specs.Moves.{repeatTableau}
 use Rattle.hypoplactic.specs.Junctions.{number, junctionSet, rowsOf, sameClass}
 use Rattle.hypoplactic.specs.Weights.{compareWeights}
-use Rattle.hypoplactic.specs.Replies.{orElse, refused}
+use Rattle.hypoplactic.specs.Replies.{Passes, orElse, refused}
 use Rattle.hypoplactic.specs.Judgements.{rankJudged, lengthJudged, lettersJudged, indexJudged, inversionJudged, alikeJudged, usedJudged, risingJudged, marksJudged, entriesJudged, recordingJudged, fullJudged, roomJudged}
 use Rattle.hypoplactic.specs.WordOperations.{junctionSays, moveWordSays, repeatWordSays, sameClassSays, weightsSays}
 use Rattle.hypoplactic.specs.TableauOperations.{insertRun, insertSays, lookSays, moveTableauSays, readingRun, readingSays, recordingSays, repeatTableauSays, tableauRun, tableauSays, throughSays, viewerSays, wordRun, wordSays}
 use Rattle.hypoplactic.specs.LineOperations.{program, tableauLine, eLineRun, jLineRun, nLineRun, roomRun, tLineRun, tableauLineRun, wLineRun}
 use Rattle.hypoplactic.specs.LineReadings.{answerRun, output, readNRun, readTRun, readWRun}
 use Rattle.hypoplactic.specs.Starred.{Case}
-use Rattle.hypoplactic.specs.Pinned.{lineCases, orderCases, valueCases}
-use Rattle.hypoplactic.proofs.Theory.Passing.{Passes, first-past}
-use Rattle.hypoplactic.proofs.Theory.Contents.{Inside, within-snoc}
+use Rattle.examples.specs.Pinned.{lineCases, orderCases, valueCases}
+use Rattle.hypoplactic.proofs.Theory.Passing.{first-past}
+use Rattle.hypoplactic.proofs.Theory.Contents.{within-snoc}
 use Rattle.hypoplactic.proofs.Theory.Judgements.{letters-judged, used-judged}
 use Rattle.hypoplactic.proofs.Theory.Judged.{tableau-passing}
 
 -- Every operation makes its checks in document 01's order.
 pub orders-pinned : map (λ (c : Case). c .meaning) orderCases ≡ map (λ (c : Case). c .document) orderCases
