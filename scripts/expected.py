@@ -1,6 +1,6 @@
-"""Input files and expected output of the program crates cases and operations.
+"""Input files and expected output of the program crates cases, word_operations and ribbon_operations.
 
-    python3 scripts/expected.py write    makes them: crates/cases/{data/*,args,stdout}, crates/operations/{data/table,args,stdout}
+    python3 scripts/expected.py write    makes them: in crates/cases/ {data/*,args,stdout}, in the two others {data/table,args,stdout}
     python3 scripts/expected.py check    makes them in memory and says whether what stands in the repository is the same (exit status 1 if not)
 
 The output comes from the plain Python beside this file (meaning.py, lines.py), which follows document 01 and its open points and calls no code of the
@@ -13,7 +13,7 @@ sys.dont_write_bytecode = True
 
 from lines import program
 from operation_calls import came_of
-from operation_table import operation_table
+from operation_table import TABLES, operation_table
 from program_inputs import program_inputs
 
 ROOT = os.path.dirname(os.path.dirname(os.path.abspath(__file__)))
@@ -28,20 +28,20 @@ def files_of_cases():
     return files
 
 
-def files_of_operations():
-    """The table, its name as the argument, and each line with what came of it."""
-    table = operation_table()
+def files_of_calls(crate):
+    """The table of a crate, its name as the argument, and each line with what came of it."""
+    table = operation_table(crate)
     return {
-        "crates/operations/data/table": "".join(call + "\n" for call in table).encode(),
-        "crates/operations/args": b"table\n",
-        "crates/operations/stdout": "".join(came_of(call) for call in table).encode(),
+        "crates/%s/data/table" % crate: "".join(call + "\n" for call in table).encode(),
+        "crates/%s/args" % crate: b"table\n",
+        "crates/%s/stdout" % crate: "".join(came_of(call) for call in table).encode(),
     }
 
 
 def standing():
     """The files that stand in the repository where expected ones belong."""
-    names = ["crates/%s/%s" % (crate, name) for crate in ("cases", "operations") for name in ("args", "stdout")]
-    for crate in ("cases", "operations"):
+    names = ["crates/%s/%s" % (crate, name) for crate in ("cases", *TABLES) for name in ("args", "stdout")]
+    for crate in ("cases", *TABLES):
         folder = "crates/%s/data" % crate
         if os.path.isdir(os.path.join(ROOT, folder)):
             names += [folder + "/" + name for name in sorted(os.listdir(os.path.join(ROOT, folder)))]
@@ -75,7 +75,9 @@ def check(expected):
 
 
 def main():
-    expected = {**files_of_cases(), **files_of_operations()}
+    expected = files_of_cases()
+    for crate in TABLES:
+        expected.update(files_of_calls(crate))
     if sys.argv[1:] == ["write"]:
         write(expected)
     elif sys.argv[1:] == ["check"]:

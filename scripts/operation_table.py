@@ -1,6 +1,7 @@
-"""The lines of the crate operations' table, by operation: document 01's checked words, one case at least for each refusal number of each operation, outputs
-longer than needed and too short by one, and the order of the checks."""
-from line_table import READERS, WRITERS
+"""The tables of calls, by operation: document 01's checked words, one case at least for each refusal number of each operation, outputs longer than needed
+and too short by one, and the order of the checks. The program that makes the calls of a table knows its operations alone: at the end of each table it is
+asked for one that it does not know."""
+from line_table import RIBBON_LINES, WORD_LINES
 
 WORDS = """
 junctions 4 4,3,2,3
@@ -327,17 +328,21 @@ lower_count_tableau 4 1 1 -
 lower_count_tableau 4 1 1,5 0,0
 """
 
-OTHERS = """
-no_such_operation 1 2 3
+NO_WORDS = """
 junction 4 -
 """
 
+NO_RIBBONS = """
+no_such_operation 1 2 3
+"""
 
-def table_lines(*parts):
-    """The lines of some parts of the table."""
-    return [line for part in parts for line in part.split("\n") if line]
+# The table of each program crate.
+TABLES = {
+    "word_operations": (WORDS, COMPARISONS, WORD_LINES, NO_WORDS),
+    "ribbon_operations": (RIBBONS, PAIRS, TABLEAUX, RIBBON_LINES, NO_RIBBONS),
+}
 
 
-def operation_table():
-    """All lines of the table."""
-    return table_lines(WORDS, COMPARISONS, RIBBONS, PAIRS, TABLEAUX, READERS, WRITERS, OTHERS)
+def operation_table(crate):
+    """All lines of a crate's table."""
+    return [line for part in TABLES[crate] for line in part.split("\n") if line]

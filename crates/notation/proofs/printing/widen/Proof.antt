@@ -1,0 +1,19 @@
+-- `notation::printing::widen` meets its contract, by the laws of specs/Bounds. Assumes nothing.
+use Prim.Native.Nat.{_-_}
+use lib.ListN.{length}
+use Rattle.notation.specs.Bounds.{filling, Filling}
+use Rattle.notation.proofs.printing.widen.Statement.{statement}
+use Rattle.notation.proofs.printing.widen.Tie as tie
+
+abbrev Inv-loop : tie.InvT-loop
+Inv-loop list out₀ i₀ out i = Filling i out out₀
+
+abbrev μ-loop : tie.MeasureT-loop
+μ-loop list out₀ i₀ out i = length list - i
+
+pub widen-spec : {M : Type 1} → statement M
+widen-spec =
+    tie.close
+    (tie.spec Inv-loop μ-loop (λ c. search filling) (λ c. search filling) (λ c. search filling)
+    (λ c. search filling) (λ c κs. search filling) (λ c. search filling) (λ c. search filling) (λ c. search filling)
+    (λ c. search filling) (λ c. search filling) (λ c. search filling) (λ c. search filling))

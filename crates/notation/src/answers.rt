@@ -1,0 +1,52 @@
+// Answers, printed: `gives` and the values, or `refused`, number and place.
+use crate::printing::print;
+use crate::printing::print_number;
+use refusals::answers::Move;
+use refusals::answers::Repeat;
+use refusals::answers::Written;
+use refusals::refusal::Refusal;
+use refusals::refusal::number_and_place;
+
+// A call that gives one value.
+pub fn print_gives(value: usize) {
+    print(b"gives");
+    print_number(b' ', value);
+}
+
+// A call that gives two values.
+pub fn print_gives_two(value: usize, other: usize) {
+    print_gives(value);
+    print_number(b' ', other);
+}
+
+// A refusal: number and place.
+pub fn print_refusal(refusal: Refusal) {
+    let returned = number_and_place(refusal);
+    print(b"refused");
+    print_number(b' ', returned.number);
+    print_number(b' ', returned.place);
+}
+
+// A move gives no value.
+pub fn print_move(answer: Move) {
+    match answer {
+        Move::Made => print(b"gives"),
+        Move::Refused(refusal) => print_refusal(refusal),
+    }
+}
+
+// How often.
+pub fn print_repeat(answer: Repeat) {
+    match answer {
+        Repeat::Times(times) => print_gives(times),
+        Repeat::Refused(refusal) => print_refusal(refusal),
+    }
+}
+
+// The elements written.
+pub fn print_written(answer: Written) {
+    match answer {
+        Written::Elements(count) => print_gives(count),
+        Written::Refused(refusal) => print_refusal(refusal),
+    }
+}

@@ -1,0 +1,166 @@
+// Lists and texts of the table, into lent elements. An item of a list is a number, `v*k` for k times v, or `a-b` for the numbers from a to b. A text has `$`
+// for the line feed, and may end in a group and a line feed, `(t)*k$` for k times t. `-` is the empty list and the empty text. Elements beyond the room are
+// dropped.
+use crate::fields::argument;
+use crate::fields::field;
+use crate::fields::has;
+use crate::fields::number_at;
+use crate::fields::place_of;
+use crate::fields::wide;
+ghost use Prim.Native.Nat.{_≤_};
+ghost use lib.ListN.{length};
+
+// How many elements an item has. A dash alone has none.
+fn times_of(item: &[u8]) -> usize {
+    let star = place_of(item, 0, b'*');
+    if star < item.len() {
+        return number_at(item, star + 1);
+    }
+    let dash = place_of(item, 0, b'-');
+    if dash < 1 {
+        return 0;
+    }
+    if dash < item.len() {
+        let after = std::num::wrapping_add_usize(number_at(item, dash + 1), 1);
+        return std::num::wrapping_sub_usize(after, number_at(item, 0));
+    }
+    1
+}
+
+// The element of an item at a place.
+fn in_item(item: &[u8], place: usize) -> usize {
+    let first = number_at(item, 0);
+    if place_of(item, 0, b'*') < item.len() {
+        return first;
+    }
+    std::num::wrapping_add_usize(first, place)
+}
+
+// The element of a list at a place; 65,536 past its end.
+fn in_list(list: &[u8], place: usize) -> usize {
+    let mut left = place;
+    let mut from = 0;
+    while from < list.len() {
+        let end = place_of(list, from, b',');
+        let item = &list[from..end];
+        let times = times_of(item);
+        if left < times {
+            return in_item(item, left);
+        }
+        if list.len() <= end {
+            return 65536;
+        }
+        left -= times;
+        from = end + 1;
+    }
+    65536
+}
+
+// What a byte of a text stands for; 65,536 for the dash, and past the text's end.
+fn meant(text: &[u8], at: usize) -> usize {
+    if text.len() <= at {
+        return 65536;
+    }
+    let byte = text[at];
+    if byte == b'$' {
+        return 10;
+    }
+    if byte == b'-' {
+        return 65536;
+    }
+    wide(byte)
+}
+
+// The byte at a place of so many times a group and the line feed after them; 65,536 past it.
+fn in_group(group: &[u8], times: usize, place: usize) -> usize {
+    if group.len() < 1 {
+        return 65536;
+    }
+    let round = place / group.len();
+    let at = place % group.len();
+    if round < times {
+        return meant(group, at);
+    }
+    meant(b"$", std::num::wrapping_add_usize(round - times, at))
+}
+
+// The byte of a text at a place; 65,536 past its end.
+fn in_text(text: &[u8], place: usize) -> usize {
+    let open = place_of(text, 0, b'(');
+    if place < open {
+        return meant(text, place);
+    }
+    let star = place_of(text, open, b'*');
+    if text.len() <= star {
+        return 65536;
+    }
+    let inner = open + 1;
+    let close = place_of(text, inner, b')');
+    in_group(&text[inner..close], number_at(text, star + 1), place - open)
+}
+
+// The element of a text or a list at a place; 65,536 past its end.
+fn in_either(is_text: bool, list: &[u8], place: usize) -> usize {
+    if is_text {
+        return in_text(list, place);
+    }
+    in_list(list, place)
+}
+
+// A number as a byte.
+fn byte(number: usize) -> u8 {
+    (number % 256) as u8
+}
+
+// A text or a list of bytes; answers how many there are.
+fn bytes(is_text: bool, list: &[u8], out: &mut [u8]) -> usize
+    ensures { λ r. ⌜ r ≤ length (now (out .exit)) ⌝ }
+{
+    let mut i = 0;
+    while i < out.len() {
+        let value = in_either(is_text, list, i);
+        if 65535 < value {
+            return i;
+        }
+        out[i] = byte(value);
+        i += 1;
+    }
+    i
+}
+
+// The bytes of a line's argument of one of two kinds, t for a text, by the kinds of all its arguments; answers how many there are, none where it has no such
+// argument.
+pub fn bytes_of(kinds: &[u8], line: &[u8], kind: u8, other: u8, out: &mut [u8]) -> usize
+    ensures { λ r. ⌜ r ≤ length (now (out .exit)) ⌝ }
+{
+    let list = field(line, argument(kinds, kind, other));
+    bytes(kind == b't' && has(kinds, b't'), list, out)
+}
+
+// A number as a 16-bit element.
+fn element(number: usize) -> u16 {
+    (number % 65536) as u16
+}
+
+// A list of 16-bit elements; answers how many there are.
+fn entries(list: &[u8], out: &mut [u16]) -> usize
+    ensures { λ r. ⌜ r ≤ length (now (out .exit)) ⌝ }
+{
+    let mut i = 0;
+    while i < out.len() {
+        let value = in_list(list, i);
+        if 65535 < value {
+            return i;
+        }
+        out[i] = element(value);
+        i += 1;
+    }
+    i
+}
+
+// The same for 16-bit elements: an argument of the kind e or E.
+pub fn entries_of(kinds: &[u8], line: &[u8], out: &mut [u16]) -> usize
+    ensures { λ r. ⌜ r ≤ length (now (out .exit)) ⌝ }
+{
+    entries(field(line, argument(kinds, b'e', b'E')), out)
+}
