@@ -1,4 +1,4 @@
-// The words, what is answered of each, and the comparison of two answers: they differ in each part that is not the same.
+// What is answered of a word, and the comparison of two answers: they differ in each part that is not the same.
 //
 // The answers to all questions of one word are seven parts of 1,024 numbers each, in one array: letters, marks and entries of its pair, the word back, the
 // column reading, junction set and rows. Each part has its numbers first, and 0 after them.
@@ -6,14 +6,6 @@ ghost use Prim.Native.Nat.{_<_, _≤_};
 
 // How many parts there are.
 pub(crate) const PARTS: usize = 7;
-
-// A word with its rank, and the state of the generator after it.
-pub struct Word {
-    pub rank: usize,
-    pub length: usize,
-    pub letters: [u8; 1024],
-    pub state: u64,
-}
 
 // Answers with one number everywhere.
 pub(crate) fn filled(number: u64) -> [u64; 7168] {
@@ -53,13 +45,6 @@ pub(crate) fn put_numbers(set: u64, rows: usize, answers: [u64; 7168]) -> [u64; 
     all[5120] = set;
     all[6144] = rows as u64;
     all
-}
-
-// 1 where a test passes, else 0.
-pub(crate) fn one_if(test: bool) -> usize
-    ensures { λ r. ⌜ r ≤ 1 ⌝ }
-{
-    if test { 1 } else { 0 }
 }
 
 // 1 where two answers differ in some number of a part, else 0.

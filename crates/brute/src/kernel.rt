@@ -1,7 +1,6 @@
 // The kernel's answers to the same questions. Arrays of 1,024 elements are lent whole, and compared whole. Each reply is held to the count that it must
 // tell: a refusal or another count leaves a number that is in no answer.
 use crate::comparing::filled;
-use crate::comparing::one_if;
 use crate::comparing::put;
 use crate::comparing::put_numbers;
 use crate::comparing::widened;
@@ -9,6 +8,7 @@ use acceptance::letters::wide as number;
 use columns::reading::column_reading;
 use inverses::way_back::word_of_pair;
 use pairs::insertion::insert_letter;
+use plain_words::one_if;
 use refusals::answers::Inserted;
 use refusals::answers::Junctions;
 use refusals::answers::Written;

@@ -1,27 +1,22 @@
 // A second implementation by plain insertion, run against the kernel: it prints how many words were compared and how many differences were found, and then
 // how many answers were spoilt on purpose and how many of these the same comparison found.
 mod comparing;
-mod drawn;
-mod insertion;
 mod junctions;
 mod kernel;
-mod known;
 mod picture;
 mod plain;
 
-use crate::comparing::Word;
 use crate::comparing::differences;
 use crate::comparing::spoilt;
-use crate::drawn::DRAWN;
-use crate::drawn::drawn_word;
 use crate::kernel::answers_at_once;
 use crate::kernel::answers_by_letters;
 use crate::kernel::first_bytes;
-use crate::known::KNOWN;
-use crate::known::known_word;
 use crate::plain::plain_answers;
 use libc::STDOUT_FILENO;
-ghost use Prim.Native.Nat.{_<_, _≤_};
+use plain_words::WORDS;
+use plain_words::Word;
+use plain_words::word_of;
+ghost use Prim.Native.Nat.{_≤_};
 
 // How many differences there are for one word: by its pair made at once and, for a word of at most 64 letters, by its pair made letter by letter.
 fn compare(word: Word) -> usize
@@ -40,23 +35,12 @@ fn compare(word: Word) -> usize
     at_once + differences(own, answers_by_letters(rank, given))
 }
 
-// The words of document 01, and then the drawn ones.
-fn word_of(k: usize, state: u64) -> Word
-    requires { ⌜ state < 2147483647 ⌝ }
-    ensures { λ r. ⌜ (r .length ≤ 1024) × (r .state < 2147483647) ⌝ }
-{
-    if k < KNOWN {
-        return known_word(k, state);
-    }
-    drawn_word(k - KNOWN, state)
-}
-
 // The differences over all words.
 fn compare_all() -> usize {
     let mut state: u64 = 20201;
     let mut found = 0;
     let mut k = 0;
-    while k < KNOWN + DRAWN {
+    while k < WORDS {
         let word = word_of(k, state);
         state = word.state;
         found += compare(word);
@@ -67,7 +51,7 @@ fn compare_all() -> usize {
 
 // How many of the spoilt answers for 4323 the comparison finds: each differs from the right ones in one part.
 fn compare_spoilt() -> usize {
-    let word = known_word(0, 0);
+    let word = word_of(0, 0);
     let letters = word.letters;
     let own = plain_answers(word.length, letters);
     let mut found = 0;
@@ -91,7 +75,7 @@ fn print(name: &[u8], number: usize) {
 
 // The four lines.
 fn main() {
-    print(b"words ", KNOWN + DRAWN);
+    print(b"words ", WORDS);
     print(b"differences ", compare_all());
     print(b"spoilt ", comparing::PARTS);
     print(b"found ", compare_spoilt());

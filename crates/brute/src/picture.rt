@@ -1,6 +1,6 @@
 // The picture of a ribbon: a right step leads to the next column, a down step to the next row of the same column. The column reading of
 // a tableau, by laying each letter where its column begins, and its rows.
-use crate::insertion::lay;
+use plain_words::insertion::lay;
 ghost use Prim.Native.Nat.{_≤_};
 
 // Where the column of a cell begins: at the cell itself after a right step, where it began before after a down step.

@@ -1,8 +1,8 @@
--- `brute::known::known_word` meets its contract. The invariant: the place is at most the length. Assumes nothing.
+-- `plain_words::known::known_word` meets its contract. The invariant: the place is at most the length. Assumes nothing.
 use Prim.Native.Nat.{_≤_}
 use borrow.Author.Needs.{needs}
-use Rattle.brute.proofs.known.known_word.Statement.{statement}
-use Rattle.brute.proofs.known.known_word.Tie as tie
+use Rattle.plain_words.proofs.known.known_word.Statement.{statement}
+use Rattle.plain_words.proofs.known.known_word.Tie as tie
 
 abbrev Inv-loop : tie.InvT-loop
 Inv-loop k state rest₀ length letters₀ i₀ rest letters i = i ≤ length

@@ -1,8 +1,8 @@
--- `brute::known::letters_in` meets its contract. The invariant: at most 20 digits are counted. Assumes nothing.
+-- `plain_words::known::letters_in` meets its contract. The invariant: at most 20 digits are counted. Assumes nothing.
 use Prim.Native.Nat.{_-_, _≤_}
 use borrow.Author.Needs.{needs}
-use Rattle.brute.proofs.known.letters_in.Statement.{statement}
-use Rattle.brute.proofs.known.letters_in.Tie as tie
+use Rattle.plain_words.proofs.known.letters_in.Statement.{statement}
+use Rattle.plain_words.proofs.known.letters_in.Tie as tie
 
 abbrev Inv-loop : tie.InvT-loop
 Inv-loop number count₀ rest₀ count rest = count ≤ 20

@@ -1,5 +1,5 @@
 // Words drawn by a repeatable generator, over all ranks from 1 to 64, all lengths up to 1,024 and in five ways.
-use crate::comparing::Word;
+use crate::Word;
 ghost use Prim.Native.Nat.{_<_, _≤_};
 
 // How many words are drawn.

@@ -1,8 +1,8 @@
--- `brute::drawn::drawn_word` meets its contract. The invariant: the state is below the modulus, the letter at most 64. Assumes nothing.
+-- `plain_words::drawn::drawn_word` meets its contract. The invariant: the state is below the modulus, the letter at most 64. Assumes nothing.
 use Prim.Native.Nat.{_-_, _<_, _≤_}
 use borrow.Author.Needs.{needs}
-use Rattle.brute.proofs.drawn.drawn_word.Statement.{statement}
-use Rattle.brute.proofs.drawn.drawn_word.Tie as tie
+use Rattle.plain_words.proofs.drawn.drawn_word.Statement.{statement}
+use Rattle.plain_words.proofs.drawn.drawn_word.Tie as tie
 
 abbrev Inv-loop : tie.InvT-loop
 Inv-loop k state rank way length letters₀ letter₀ now₀ i₀ letters letter now i = (now < 2147483647) × (letter ≤ 64)

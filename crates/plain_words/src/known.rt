@@ -1,5 +1,5 @@
 // The words that document 01 names, each with its rank.
-use crate::comparing::Word;
+use crate::Word;
 ghost use Prim.Native.Nat.{_≤_};
 ghost use mathlib.Core.Path.{_≡_};
 

@@ -1,8 +1,0 @@
--- `brute::drawn::below` meets its contract: a remainder is below its divisor. Assumes nothing.
-use native.Mathlib.Nat.{mod-lt}
-use borrow.Author.Needs.{needs}
-use Rattle.brute.proofs.drawn.below.Statement.{statement}
-use Rattle.brute.proofs.drawn.below.Tie as tie
-
-pub below-spec : {M : Type 1} → statement M
-below-spec = tie.close (tie.spec (λ c. search needs) (λ c. mod-lt _ (c .pre)))
