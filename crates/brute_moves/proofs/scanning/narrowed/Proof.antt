@@ -1,0 +1,17 @@
+-- `brute_moves::scanning::narrowed` is safe and ends. The invariant: the place is at most 1,024. Assumes nothing.
+use Prim.Native.Nat.{_-_, _≤_}
+use borrow.Author.Needs.{needs}
+use Rattle.brute_moves.proofs.scanning.narrowed.Statement.{statement}
+use Rattle.brute_moves.proofs.scanning.narrowed.Tie as tie
+
+abbrev Inv-loop : tie.InvT-loop
+Inv-loop list out₀ i₀ out i = i ≤ 1024
+
+abbrev μ-loop : tie.MeasureT-loop
+μ-loop list out₀ i₀ out i = 1024 - i
+
+pub narrowed-spec : {M : Type 1} → statement M
+narrowed-spec =
+    tie.close
+    (tie.spec Inv-loop μ-loop (λ c. search needs) (λ c. search needs) (λ c. search needs) (λ c. search needs)
+    (λ c. search needs) (λ c. search needs) (λ c. search needs) (λ c. search needs) (λ c. search needs))

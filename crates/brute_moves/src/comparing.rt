@@ -1,0 +1,16 @@
+// The comparison of two lists of bytes.
+ghost use Prim.Native.Nat.{_≤_};
+
+// 1 where two lists differ, else 0.
+pub(crate) fn unlike(one: [u8; 1024], other: [u8; 1024]) -> usize
+    ensures { λ r. ⌜ r ≤ 1 ⌝ }
+{
+    let mut i = 0;
+    while i < 1024 {
+        if one[i] != other[i] {
+            return 1;
+        }
+        i += 1;
+    }
+    0
+}

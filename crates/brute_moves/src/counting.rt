@@ -1,0 +1,106 @@
+// How often each answer came, in 16 numbers: moves made at 0, refused at the refusal's number, 9 to 11; words in two classes at 1, in one at 2; weights equal,
+// lower, higher and neither at 3 to 6; and at 15 the differences from the kernel.
+use crate::kernel::compare_on_tableau;
+use crate::kernel::compare_on_two;
+use crate::kernel::compare_on_word;
+use crate::partners::partner;
+use crate::scanning::Tableau;
+use crate::scanning::plain_move;
+use crate::scanning::plain_tableau;
+use crate::scanning::plain_times;
+use crate::scanning::tableau_after;
+use crate::two_words::plain_class;
+use crate::two_words::plain_weights;
+use operators::changes::Side;
+use plain_words::Word;
+use plain_words::one_if;
+ghost use Prim.Native.Nat.{_<_, _≤_};
+
+// One more answer, with so many differences.
+pub(crate) fn counted(answer: usize, found: usize, counts: [usize; 16]) -> [usize; 16] {
+    let mut all = counts;
+    all[15] = std::num::wrapping_add_usize(all[15], found);
+    if 14 < answer {
+        return all;
+    }
+    all[answer] = std::num::wrapping_add_usize(all[answer], 1);
+    all
+}
+
+// A move on a word and on its tableau.
+fn count_move(
+    raising: bool,
+    side: Side,
+    index: usize,
+    word: Word,
+    tableau: Tableau,
+    counts: [usize; 16],
+) -> [usize; 16]
+    requires { ⌜ word .length ≤ 1024 ⌝ }
+{
+    let rank = word.rank;
+    let length = word.length;
+    let letters = word.letters;
+    let moved = plain_move(raising, rank, index, length, letters);
+    let times = plain_times(raising, rank, index, length, letters);
+    let after = tableau_after(moved, length, tableau);
+    let on_word = compare_on_word(side, rank, index, length, letters, moved, times);
+    let before = tableau.letters;
+    let marks = tableau.marks;
+    let reply = moved.reply;
+    let on_tableau = compare_on_tableau(
+        side,
+        rank,
+        index,
+        length,
+        before,
+        marks,
+        reply,
+        after,
+        times,
+    );
+    counted(reply, on_word + on_tableau, counts)
+}
+
+// Both moves on a word at every index from 0 to the rank; for a word of more than 64 letters at every sixteenth.
+pub(crate) fn count_moves(k: usize, word: Word, counts: [usize; 16]) -> [usize; 16]
+    requires { ⌜ word .length ≤ 1024 ⌝ }
+{
+    let letters = word.letters;
+    let tableau = plain_tableau(word.length, letters);
+    let step = 1 + 15 * one_if(64 < word.length);
+    let mut all = counts;
+    let mut index = k % step;
+    while index < 65 {
+        if word.rank < index {
+            return all;
+        }
+        let raised = count_move(true, Side::Raising, index, word, tableau, all);
+        let lowered = count_move(false, Side::Lowering, index, word, tableau, raised);
+        all = lowered;
+        index += step;
+    }
+    all
+}
+
+// The word beside its partner.
+pub(crate) fn count_pair(k: usize, word: Word, counts: [usize; 16]) -> [usize; 16]
+    requires { ⌜ (word .length ≤ 1024) × (word .state < 2147483647) ⌝ }
+{
+    let other = partner(k, word);
+    let class = plain_class(word, other);
+    let weights = plain_weights(word, other);
+    let one = word.letters;
+    let two = other.letters;
+    let found = compare_on_two(
+        word.rank,
+        word.length,
+        one,
+        other.rank,
+        other.length,
+        two,
+        class,
+        weights,
+    );
+    counted(3 + weights, 0, counted(1 + class, found, counts))
+}

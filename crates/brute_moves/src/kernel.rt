@@ -1,0 +1,135 @@
+// The kernel's moves and repeat counts, classes and weights, each held to an answer of the second implementation: how many answers differ.
+use crate::comparing::unlike;
+use crate::scanning::Moved;
+use crate::scanning::Tableau;
+use comparisons::classes::same_class;
+use comparisons::weights::compare_weights;
+use operators::changes::Side;
+use operators::moves::move_word;
+use operators::moves::repeat_word;
+use plain_words::one_if;
+use refusals::answers::Class;
+use refusals::answers::Move;
+use refusals::answers::Repeat;
+use refusals::answers::Weights;
+use refusals::refusal::number_and_place;
+use tableaux::moves::move_tableau;
+use tableaux::moves::repeat_tableau;
+ghost use Prim.Native.Nat.{_≤_};
+
+// 0 for a move that was made, else the refusal's number.
+fn move_number(answer: Move) -> usize {
+    match answer {
+        Move::Made => 0,
+        Move::Refused(refusal) => {
+            let returned = number_and_place(refusal);
+            returned.number
+        }
+    }
+}
+
+// How often, or 2,048 more than the refusal's number.
+fn times_number(answer: Repeat) -> usize {
+    match answer {
+        Repeat::Times(times) => times,
+        Repeat::Refused(refusal) => {
+            let returned = number_and_place(refusal);
+            std::num::wrapping_add_usize(2048, returned.number)
+        }
+    }
+}
+
+// 1 for words of one class, 0 for others, and no such number for a refusal.
+fn class_number(answer: Class) -> usize {
+    match answer {
+        Class::Same => 1,
+        Class::Different => 0,
+        Class::Refused(_) => 99,
+    }
+}
+
+// 0 for equal weights, 1 lower, 2 higher, 3 neither, and no such number for a refusal.
+fn weights_number(answer: Weights) -> usize {
+    match answer {
+        Weights::Equal => 0,
+        Weights::Lower => 1,
+        Weights::Higher => 2,
+        Weights::Neither => 3,
+        Weights::Refused(_) => 99,
+    }
+}
+
+// A move on a word: reply, letters afterwards and repeat count.
+pub(crate) fn compare_on_word(
+    side: Side,
+    rank: usize,
+    index: usize,
+    length: usize,
+    word: [u8; 1024],
+    moved: Moved,
+    times: usize,
+) -> usize
+    requires { ⌜ length ≤ 1024 ⌝ }
+    ensures { λ r. ⌜ r ≤ 3 ⌝ }
+{
+    let mut letters = word;
+    let count = repeat_word(side, rank, index, &word[0..length]);
+    let made = move_word(side, rank, index, &mut letters[0..length]);
+    let own = moved.letters;
+    one_if(move_number(made) != moved.reply)
+        + unlike(letters, own)
+        + one_if(times_number(count) != times)
+}
+
+// A move on a tableau: reply, letters afterwards, marks, which stay, and repeat count.
+pub(crate) fn compare_on_tableau(
+    side: Side,
+    rank: usize,
+    index: usize,
+    length: usize,
+    letters: [u8; 1024],
+    marks: [u8; 1024],
+    reply: usize,
+    after: Tableau,
+    times: usize,
+) -> usize
+    requires { ⌜ length ≤ 1024 ⌝ }
+    ensures { λ r. ⌜ r ≤ 4 ⌝ }
+{
+    let mut changed = letters;
+    let count = repeat_tableau(side, rank, index, &letters[0..length], &marks[0..length]);
+    let made = move_tableau(
+        side,
+        rank,
+        index,
+        &mut changed[0..length],
+        &marks[0..length],
+    );
+    let own_letters = after.letters;
+    let own_marks = after.marks;
+    one_if(move_number(made) != reply)
+        + unlike(changed, own_letters)
+        + unlike(marks, own_marks)
+        + one_if(times_number(count) != times)
+}
+
+// Class and weights of two words.
+pub(crate) fn compare_on_two(
+    rank: usize,
+    length: usize,
+    word: [u8; 1024],
+    other_rank: usize,
+    other_length: usize,
+    other: [u8; 1024],
+    class: usize,
+    weights: usize,
+) -> usize
+    requires { ⌜ (length ≤ 1024) × («other_length» ≤ 1024) ⌝ }
+    ensures { λ r. ⌜ r ≤ 2 ⌝ }
+{
+    let one = &word[0..length];
+    let two = &other[0..other_length];
+    let told = same_class(rank, one, other_rank, two);
+    let compared = compare_weights(rank, one, other_rank, two);
+    one_if(class_number(told) != class) + one_if(weights_number(compared) != weights)
+}

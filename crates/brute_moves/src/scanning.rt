@@ -1,0 +1,164 @@
+// Moves on words and on tableaux (document 01, "Moves") by plain scans of the word. Nothing here is of the kernel.
+use plain_words::insertion::plain_pair;
+ghost use Prim.Native.Nat.{_<_, _≤_};
+
+// A word after a move: 0 or the number that the move is refused with, and its letters.
+pub struct Moved {
+    pub reply: usize,
+    pub letters: [u8; 1024],
+}
+
+// A tableau as the kernel takes it.
+pub struct Tableau {
+    pub letters: [u8; 1024],
+    pub marks: [u8; 1024],
+}
+
+// Where a letter stands first from a place on; the length where it does not stand.
+fn leftmost(letter: u8, from: usize, length: usize, word: [u8; 1024]) -> usize
+    requires { ⌜ length ≤ 1024 ⌝ }
+    ensures { λ r. ⌜ r ≤ length ⌝ }
+{
+    let mut place = from;
+    while place < length {
+        if word[place] == letter {
+            return place;
+        }
+        place += 1;
+    }
+    length
+}
+
+// Whether some i+1 stands left of some i: after each i+1 all letters are looked at.
+fn inverted(index: u8, length: usize, word: [u8; 1024]) -> bool
+    requires { ⌜ (index < 64) × (length ≤ 1024) ⌝ }
+{
+    let mut i = 0;
+    while i < length {
+        let letter = word[i];
+        i += 1;
+        if letter == index + 1 {
+            if leftmost(index, i, length, word) < length {
+                return true;
+            }
+        }
+    }
+    false
+}
+
+// Where a letter stands last; the length where it does not stand.
+fn rightmost(letter: u8, length: usize, word: [u8; 1024]) -> usize
+    requires { ⌜ length ≤ 1024 ⌝ }
+    ensures { λ r. ⌜ r ≤ length ⌝ }
+{
+    let mut after = length;
+    while 0 < after {
+        if word[after - 1] == letter {
+            return after - 1;
+        }
+        after -= 1;
+    }
+    length
+}
+
+// The word with another letter at a place; 11 where that is the word's end.
+fn with_letter(letter: u8, place: usize, length: usize, word: [u8; 1024]) -> Moved
+    requires { ⌜ length ≤ 1024 ⌝ }
+{
+    if length <= place {
+        return Moved {
+            reply: 11,
+            letters: word,
+        };
+    }
+    let mut letters = word;
+    letters[place] = letter;
+    Moved { reply: 0, letters }
+}
+
+// The word after a move: raising turns the leftmost i+1 into i, lowering the rightmost i into i+1.
+pub(crate) fn plain_move(
+    raising: bool,
+    rank: usize,
+    index: usize,
+    length: usize,
+    word: [u8; 1024],
+) -> Moved
+    requires { ⌜ length ≤ 1024 ⌝ }
+{
+    if index < 1 || rank <= index {
+        return Moved {
+            reply: 9,
+            letters: word,
+        };
+    }
+    let low = (index % 64) as u8;
+    if inverted(low, length, word) {
+        return Moved {
+            reply: 10,
+            letters: word,
+        };
+    }
+    if raising {
+        return with_letter(low, leftmost(low + 1, 0, length, word), length, word);
+    }
+    with_letter(low + 1, rightmost(low, length, word), length, word)
+}
+
+// How often a move can be made, one after the other, by making it until it is refused; 2,048 more than the number of a refusal that counts have too.
+pub(crate) fn plain_times(
+    raising: bool,
+    rank: usize,
+    index: usize,
+    length: usize,
+    word: [u8; 1024],
+) -> usize
+    requires { ⌜ length ≤ 1024 ⌝ }
+{
+    let mut letters = word;
+    let mut times = 0;
+    while times < 2048 {
+        let moved = plain_move(raising, rank, index, length, letters);
+        if moved.reply == 9 {
+            return 2057;
+        }
+        if 0 < moved.reply {
+            return times;
+        }
+        let after = moved.letters;
+        letters = after;
+        times += 1;
+    }
+    times
+}
+
+// Numbers as bytes.
+fn narrowed(list: [u16; 1024]) -> [u8; 1024] {
+    let mut out = [0u8; 1024];
+    let mut i = 0;
+    while i < 1024 {
+        out[i] = (list[i] % 256) as u8;
+        i += 1;
+    }
+    out
+}
+
+// The tableau of a word, by plain insertion.
+pub(crate) fn plain_tableau(length: usize, word: [u8; 1024]) -> Tableau {
+    let pair = plain_pair(length, word);
+    let letters = pair.letters;
+    let marks = pair.marks;
+    Tableau {
+        letters: narrowed(letters),
+        marks: narrowed(marks),
+    }
+}
+
+// The tableau after a move on its word: that of the moved word. It stays where the move is refused.
+pub(crate) fn tableau_after(moved: Moved, length: usize, before: Tableau) -> Tableau {
+    if 0 < moved.reply {
+        return before;
+    }
+    let letters = moved.letters;
+    plain_tableau(length, letters)
+}

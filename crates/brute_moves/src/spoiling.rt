@@ -1,0 +1,84 @@
+// Answers of the second implementation spoilt on purpose, one at a time, to see that the comparison with the kernel finds each: of moves and repeat counts,
+// and of two words.
+use crate::kernel::compare_on_tableau;
+use crate::kernel::compare_on_two;
+use crate::kernel::compare_on_word;
+use crate::scanning::Moved;
+use crate::scanning::Tableau;
+use crate::scanning::plain_tableau;
+use operators::changes::Side;
+use plain_words::one_if;
+use plain_words::word_of;
+ghost use Prim.Native.Nat.{_≤_};
+
+// How many answers are spoilt.
+pub(crate) const SPOILT: usize = 9;
+
+// The lowest bit of the first byte turned.
+fn turned(list: [u8; 1024]) -> [u8; 1024] {
+    let mut all = list;
+    all[0] = all[0] ^ 1;
+    all
+}
+
+// Lowering 1 in 3113 at rank 3, which gives 3123 and can be made twice: reply, letters and count.
+pub(crate) fn spoilt_on_word() -> usize
+    ensures { λ r. ⌜ r ≤ 3 ⌝ }
+{
+    let word = word_of(6, 0);
+    let after = word_of(7, 0);
+    let before = word.letters;
+    let letters = after.letters;
+    let right = Moved { reply: 0, letters };
+    let wrong = Moved {
+        reply: 0,
+        letters: turned(letters),
+    };
+    let refused = Moved { reply: 10, letters };
+    let reply = compare_on_word(Side::Lowering, 3, 1, 4, before, refused, 2);
+    let letter = compare_on_word(Side::Lowering, 3, 1, 4, before, wrong, 2);
+    let times = compare_on_word(Side::Lowering, 3, 1, 4, before, right, 1);
+    one_if(reply == 1) + one_if(letter == 1) + one_if(times == 1)
+}
+
+// The same on its tableau: reply, letters, marks and count.
+pub(crate) fn spoilt_on_tableau() -> usize
+    ensures { λ r. ⌜ r ≤ 4 ⌝ }
+{
+    let word = word_of(6, 0);
+    let moved = word_of(7, 0);
+    let word_letters = word.letters;
+    let moved_letters = moved.letters;
+    let before = plain_tableau(4, word_letters);
+    let right = plain_tableau(4, moved_letters);
+    let from = before.letters;
+    let steps = before.marks;
+    let letters = right.letters;
+    let marks = right.marks;
+    let wrong = Tableau {
+        letters: turned(letters),
+        marks,
+    };
+    let stepped = Tableau {
+        letters,
+        marks: turned(marks),
+    };
+    let reply = compare_on_tableau(Side::Lowering, 3, 1, 4, from, steps, 10, right, 2);
+    let letter = compare_on_tableau(Side::Lowering, 3, 1, 4, from, steps, 0, wrong, 2);
+    let mark = compare_on_tableau(Side::Lowering, 3, 1, 4, from, steps, 0, stepped, 2);
+    let times = compare_on_tableau(Side::Lowering, 3, 1, 4, from, steps, 0, right, 3);
+    one_if(reply == 1) + one_if(letter == 1) + one_if(mark == 1) + one_if(times == 1)
+}
+
+// 3243 beside 4323 at rank 4, which are of one class: class and weights.
+pub(crate) fn spoilt_on_two() -> usize
+    ensures { λ r. ⌜ r ≤ 2 ⌝ }
+{
+    let one = word_of(12, 0);
+    let other = word_of(0, 0);
+    let letters = one.letters;
+    let other_letters = other.letters;
+    let class = compare_on_two(4, 4, letters, 4, 4, other_letters, 0, 0);
+    let weights = compare_on_two(4, 4, letters, 4, 4, other_letters, 1, 1);
+    one_if(class == 1) + one_if(weights == 1)
+}
