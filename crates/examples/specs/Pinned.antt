@@ -1,22 +1,26 @@
 -- Cases that pin what the starred, worked and refusal cases leave open, in the same form: the order of the checks of each operation, each number, place
 -- and value that it replies, and each limit on both sides. So none of them can be changed in definitions and code together.
---     onWords, onTableaux, onPairs     what an operation says of inputs that each break one check and the one after it, in the order of the checks
---     orderCases, valueCases, lineCases     the cases
+--     onWords, onTwo, onTableaux, onPairs              what an operation says of inputs that each break one check and the one after it
+--     wordOrder, twoOrder, tableauOrder, pairOrder     what it must say: the first of the two
+--     outcomes, inserted                               a reply beside two and three lent lists
+--     orderCases, valueCases, lineCases                the cases
 -- That the two sides of every case are equal is proved in proofs/Theory/Pinned.antt. Assumes nothing.
 use Prim.Native.Nat.{ℕ}
 use mathlib.Core.Bool.{true}
 use mathlib.Core.List.{List, [], _∷_, _++_}
 use lib.ListN.{length, replicate}
 use Rattle.grammar.specs.Lines.{eLine}
+use Rattle.hypoplactic.specs.Words.{tick}
 use Rattle.hypoplactic.specs.Insertion.{Pair}
+use Rattle.hypoplactic.specs.Moves.{below}
 use Rattle.hypoplactic.specs.Junctions.{junctionSet}
 use Rattle.hypoplactic.specs.Replies.{Said, first, passed, refused}
 use Rattle.hypoplactic.specs.Judgements.{fullJudged, recordingJudged, roomJudged}
-use Rattle.hypoplactic.specs.WordOperations.{junctionSays, moveJudgements, moveWordSays, repeatWordSays, sameClassSays, weightsSays}
+use Rattle.hypoplactic.specs.WordOperations.{junctionSays, moveJudgements, moveWordRun, moveWordSays, repeatWordSays, sameClassSays, weightsSays}
 use Rattle.hypoplactic.specs.TableauOperations.{cellAt, insertRun, insertSays, lookSays, moveTableauSays, readingRun, readingSays, recordingSays, repeatTableauSays, tableauRun, tableauSays, throughSays, viewerSays, wordRun, wordSays}
-use Rattle.hypoplactic.specs.LineOperations.{eLineRun, jLineRun, nLineRun, roomRun, tLineRun, tableauLineRun, wLineRun}
+use Rattle.hypoplactic.specs.LineOperations.{eLineRun, jLineRun, nLineRun, program, roomRun, tLineRun, tableauLineRun, wLineRun}
 use Rattle.hypoplactic.specs.LineReadings.{answerRun, output, readNRun, readTRun, readWRun, recordingRead, tableauRead, wordRead}
-use Rattle.hypoplactic.specs.Starred.{Case, case, lower, numbers, outcome, outcomes, pair, raise, text, w433, w4323}
+use Rattle.hypoplactic.specs.Starred.{Case, case, lower, numbers, outcome, outcomes, pair, raise, text, w4323, w433}
 
 -- ---- inputs that break two checks
 
@@ -24,6 +28,7 @@ use Rattle.hypoplactic.specs.Starred.{Case, case, lower, numbers, outcome, outc
 abbrev pub onWords : (ℕ → List ℕ → Said) → List ℕ
 onWords says = numbers (says 65 (replicate 1025 1)) ++ numbers (says 4 (replicate 1025 5)) ++ numbers (says 4 (2 ∷ 5 ∷ 0 ∷ []))
 
+-- Each by the first check that it breaks.
 abbrev pub wordOrder : List ℕ
 wordOrder = 1 ∷ 0 ∷ 2 ∷ 0 ∷ 4 ∷ 1 ∷ []
 
@@ -47,27 +52,28 @@ onTableaux says =
     ++ numbers (says 4 (replicate 1025 1) [])
     ++ numbers (says 4 (5 ∷ []) [])
     ++ numbers (says 4 (3 ∷ 2 ∷ 5 ∷ []) (0 ∷ 0 ∷ 0 ∷ []))
-    ++ numbers (says 4 (2 ∷ 1 ∷ []) (1 ∷ 0 ∷ []))
+    ++ numbers (says 4 (2 ∷ 1 ∷ []) (1 ∷ 1 ∷ []))
     ++ numbers (says 4 (1 ∷ 1 ∷ []) (0 ∷ 1 ∷ []))
 
 abbrev pub tableauOrder : List ℕ
 tableauOrder = 1 ∷ 0 ∷ 2 ∷ 0 ∷ 3 ∷ 0 ∷ 4 ∷ 2 ∷ 5 ∷ 1 ∷ 6 ∷ 1 ∷ []
 
--- Pairs that break 1 and 2, 2 and 3, 3 by the marks and 4, 3 by the entries and 4, 4 and 5, 5 and 6, 6 and 7, 7 and 8, 8 and whatever comes next.
+-- Pairs that break 1 and 2, 2 and 3, 3 by both parts or by one and 4, 4 and 5, 5 and 6, 6 and 7, 7 and 8, 8 and whatever comes next.
 abbrev pub onPairs : (ℕ → List ℕ → List ℕ → List ℕ → Said) → List ℕ
 onPairs says =
     numbers (says 65 (replicate 1025 1) [] [])
     ++ numbers (says 4 (replicate 1025 1) [] [])
+    ++ numbers (says 4 (5 ∷ []) [] [])
     ++ numbers (says 4 (5 ∷ []) [] (1 ∷ []))
     ++ numbers (says 4 (5 ∷ []) (0 ∷ []) [])
     ++ numbers (says 4 (3 ∷ 2 ∷ 5 ∷ []) (0 ∷ 0 ∷ 0 ∷ []) (1 ∷ 2 ∷ 3 ∷ []))
-    ++ numbers (says 4 (2 ∷ 1 ∷ []) (1 ∷ 0 ∷ []) (1 ∷ 2 ∷ []))
-    ++ numbers (says 4 (1 ∷ 1 ∷ []) (0 ∷ 1 ∷ []) (0 ∷ 0 ∷ []))
+    ++ numbers (says 4 (2 ∷ 1 ∷ []) (1 ∷ 1 ∷ []) (1 ∷ 2 ∷ []))
+    ++ numbers (says 4 (1 ∷ 1 ∷ []) (0 ∷ 1 ∷ []) (0 ∷ 1 ∷ []))
     ++ numbers (says 4 (1 ∷ 2 ∷ 2 ∷ []) (0 ∷ 0 ∷ 0 ∷ []) (2 ∷ 1 ∷ 1 ∷ []))
     ++ numbers (says 4 (1 ∷ 2 ∷ []) (0 ∷ 0 ∷ []) (2 ∷ 1 ∷ []))
 
 abbrev pub pairOrder : List ℕ
-pairOrder = 1 ∷ 0 ∷ 2 ∷ 0 ∷ 3 ∷ 0 ∷ 3 ∷ 0 ∷ 4 ∷ 2 ∷ 5 ∷ 1 ∷ 6 ∷ 1 ∷ 7 ∷ 2 ∷ 8 ∷ 1 ∷ []
+pairOrder = 1 ∷ 0 ∷ 2 ∷ 0 ∷ 3 ∷ 0 ∷ 3 ∷ 0 ∷ 3 ∷ 0 ∷ 4 ∷ 2 ∷ 5 ∷ 1 ∷ 6 ∷ 1 ∷ 7 ∷ 2 ∷ 8 ∷ 1 ∷ []
 
 -- A reply and three lent lists after it.
 abbrev pub inserted : Said × Pair → List ℕ
@@ -119,7 +125,7 @@ valueCases =
     ∷ case (junctionSet (65 ∷ 64 ∷ []) ∷ junctionSet (66 ∷ 65 ∷ []) ∷ []) (9223372036854775808 ∷ 0 ∷ [])
     -- classes: words of different rank are in none; the letters 1 to 64 count
     ∷ case (numbers (sameClassSays 4 w433 5 w433)) (0 ∷ 0 ∷ [])
-    ∷ case (numbers (sameClassSays 64 (1 ∷ []) 64 [])) (0 ∷ 0 ∷ [])
+    ∷ case (numbers (sameClassSays 64 [] 64 (1 ∷ []))) (0 ∷ 0 ∷ [])
     ∷ case (numbers (sameClassSays 64 (64 ∷ []) 64 [])) (0 ∷ 0 ∷ [])
     -- weights: 0 equal, 1 lower, 2 higher, 3 neither; sums up to 64
     ∷ case (numbers (weightsSays 4 (1 ∷ 2 ∷ []) 4 (2 ∷ 1 ∷ []))) (0 ∷ 0 ∷ [])
@@ -132,6 +138,12 @@ valueCases =
     ∷ case (numbers (repeatTableauSays 3 (raise 1) (1 ∷ 2 ∷ 2 ∷ []) (0 ∷ 0 ∷ 0 ∷ []))) (0 ∷ 2 ∷ [])
     ∷ case (numbers (repeatTableauSays 3 (lower 1) (1 ∷ 2 ∷ 2 ∷ []) (0 ∷ 0 ∷ 0 ∷ []))) (0 ∷ 1 ∷ [])
     ∷ case (numbers (repeatTableauSays 3 (raise 1) (1 ∷ 2 ∷ 2 ∷ []) (0 ∷ 1 ∷ 0 ∷ []))) (0 ∷ 0 ∷ [])
+    -- a move takes i itself, no smaller letter
+    ∷ case (outcome (moveWordRun 3 (lower 2) (2 ∷ 1 ∷ []))) (0 ∷ 3 ∷ 1 ∷ [])
+    -- i+1 directly below i, in any two lists: no other letters, no step without a mark, none in an empty tableau
+    ∷ case (tick (below 1 (1 ∷ 3 ∷ []) (0 ∷ 1 ∷ [])) 0 ∷ tick (below 2 (1 ∷ 3 ∷ []) (0 ∷ 1 ∷ [])) 0 ∷ tick (below 2 (2 ∷ 1 ∷ []) (0 ∷ 1 ∷ [])) 0 ∷ [])
+    (0 ∷ 0 ∷ 0 ∷ [])
+    ∷ case (tick (below 1 (1 ∷ 2 ∷ []) (0 ∷ [])) 0 ∷ tick (below 1 (1 ∷ []) []) 0 ∷ tick (below 1 [] (0 ∷ [])) 0 ∷ []) (0 ∷ 0 ∷ 0 ∷ [])
     -- a viewer gives no value, a look the letter, the row and the column, or no value; a refusal of the making stays one
     ∷ case (numbers (viewerSays 4 (1 ∷ []) (0 ∷ []))) (0 ∷ [])
     ∷ case (numbers (lookSays 4 (2 ∷ 3 ∷ 3 ∷ 4 ∷ []) (0 ∷ 1 ∷ 0 ∷ 1 ∷ []) 3)) (0 ∷ 4 ∷ 2 ∷ 1 ∷ [])
@@ -140,13 +152,21 @@ valueCases =
     ∷ case (numbers (throughSays (refused 6 1) (1 ∷ []) (0 ∷ []) 0)) (6 ∷ 1 ∷ [])
     -- cells of any two lists: as many as there are letters; the first mark is no step
     ∷ case (cellAt (1 ∷ 4 ∷ []) (1 ∷ []) 1 ++ cellAt (1 ∷ []) (0 ∷ 1 ∷ []) 1) (4 ∷ 0 ∷ 0 ∷ [])
+    -- 4, 5, 6, 7, 8 at a fourth place
+    ∷ case
+    (numbers (junctionSays 9 (5 ∷ 7 ∷ 8 ∷ 0 ∷ []))
+    ++ numbers (viewerSays 9 (2 ∷ 5 ∷ 7 ∷ 6 ∷ []) (0 ∷ 0 ∷ 0 ∷ 0 ∷ []))
+    ++ numbers (viewerSays 9 (2 ∷ 5 ∷ 7 ∷ 7 ∷ []) (0 ∷ 1 ∷ 0 ∷ 1 ∷ []))
+    ++ numbers (wordSays 9 (2 ∷ 5 ∷ 7 ∷ 8 ∷ []) (0 ∷ 0 ∷ 0 ∷ 0 ∷ []) (1 ∷ 2 ∷ 4 ∷ 9 ∷ []) 4)
+    ++ numbers (wordSays 9 (2 ∷ 5 ∷ 7 ∷ 8 ∷ []) (0 ∷ 0 ∷ 0 ∷ 0 ∷ []) (2 ∷ 3 ∷ 4 ∷ 1 ∷ []) 4))
+    (4 ∷ 3 ∷ 5 ∷ 3 ∷ 6 ∷ 3 ∷ 7 ∷ 3 ∷ 8 ∷ 3 ∷ [])
     -- 8: entries that neither rise nor fall break no step
     ∷ case (numbers (recordingJudged (1 ∷ 1 ∷ 1 ∷ []) (0 ∷ 0 ∷ 1 ∷ []))) (0 ∷ [])
     -- 12: one cell is left of 1,024
     ∷ case (numbers (fullJudged 1023)) (0 ∷ [])
     -- 13: each output in turn, with the elements that are needed; as many as needed are enough
-    ∷ case (outcomes (tableauRun 4 w433 (9 ∷ 9 ∷ []) (8 ∷ 8 ∷ 8 ∷ []))) (13 ∷ 3 ∷ 9 ∷ 9 ∷ 8 ∷ 8 ∷ 8 ∷ [])
-    ∷ case (outcomes (tableauRun 4 w433 (9 ∷ 9 ∷ 9 ∷ []) (8 ∷ 8 ∷ []))) (13 ∷ 3 ∷ 9 ∷ 9 ∷ 9 ∷ 8 ∷ 8 ∷ [])
+    ∷ case (outcomes (tableauRun 4 w433 (9 ∷ 9 ∷ []) (8 ∷ 8 ∷ 8 ∷ 8 ∷ []))) (13 ∷ 3 ∷ 9 ∷ 9 ∷ 8 ∷ 8 ∷ 8 ∷ 8 ∷ [])
+    ∷ case (outcomes (tableauRun 4 w433 (9 ∷ 9 ∷ 9 ∷ 9 ∷ []) (8 ∷ 8 ∷ []))) (13 ∷ 3 ∷ 9 ∷ 9 ∷ 9 ∷ 9 ∷ 8 ∷ 8 ∷ [])
     ∷ case (numbers (insertSays 4 1 3 (pair (1 ∷ 0 ∷ []) (0 ∷ []) (1 ∷ 0 ∷ [])))) (13 ∷ 2 ∷ [])
     ∷ case (numbers (insertSays 4 1 3 (pair (1 ∷ 0 ∷ []) (0 ∷ 0 ∷ []) (1 ∷ [])))) (13 ∷ 2 ∷ [])
     ∷ case (outcome (wordRun 4 (1 ∷ 2 ∷ []) (0 ∷ 1 ∷ []) (2 ∷ 1 ∷ []) (9 ∷ []))) (13 ∷ 2 ∷ 9 ∷ [])
@@ -155,11 +175,14 @@ valueCases =
     -- results: the elements written, and lent lists longer than needed
     ∷ case (outcomes (tableauRun 4 w433 (9 ∷ 9 ∷ 9 ∷ 9 ∷ []) (8 ∷ 8 ∷ 8 ∷ 8 ∷ []))) (0 ∷ 3 ∷ 3 ∷ 3 ∷ 4 ∷ 9 ∷ 0 ∷ 0 ∷ 1 ∷ 8 ∷ [])
     ∷ case (outcome (wordRun 4 (1 ∷ 2 ∷ []) (0 ∷ 1 ∷ []) (2 ∷ 1 ∷ []) (9 ∷ 9 ∷ 9 ∷ []))) (0 ∷ 2 ∷ 2 ∷ 1 ∷ 9 ∷ [])
-    ∷ case (outcome (readingRun 4 (1 ∷ 2 ∷ []) (0 ∷ 1 ∷ []) (9 ∷ 9 ∷ 9 ∷ []))) (0 ∷ 2 ∷ 2 ∷ 1 ∷ 9 ∷ [])
-    -- insertion gives the new used count; 3 by the letters; lists longer than 1,024 and cells that are not used are not judged; 7 takes the used count
+    ∷ case (outcome (readingRun 4 (1 ∷ 2 ∷ 3 ∷ []) (0 ∷ 1 ∷ 0 ∷ []) (9 ∷ 9 ∷ 9 ∷ 9 ∷ []))) (0 ∷ 3 ∷ 2 ∷ 1 ∷ 3 ∷ 9 ∷ [])
+    -- insertion gives the new used count; a refusal leaves all three lists
     ∷ case (inserted (insertRun 4 2 3 (pair (2 ∷ 4 ∷ 9 ∷ 9 ∷ []) (0 ∷ 1 ∷ 8 ∷ 8 ∷ []) (2 ∷ 1 ∷ 7 ∷ 7 ∷ []))))
     (0 ∷ 3 ∷ 2 ∷ 3 ∷ 4 ∷ 9 ∷ 0 ∷ 0 ∷ 1 ∷ 8 ∷ 2 ∷ 3 ∷ 1 ∷ 7 ∷ [])
+    ∷ case (inserted (insertRun 4 1 5 (pair (1 ∷ 9 ∷ []) (0 ∷ 8 ∷ []) (1 ∷ 7 ∷ [])))) (4 ∷ 1 ∷ 1 ∷ 9 ∷ 0 ∷ 8 ∷ 1 ∷ 7 ∷ [])
+    -- 3 by the letters; 6 by every used mark; lists longer than 1,024 and cells that are not used are not judged; 7 takes the used count
     ∷ case (numbers (insertSays 4 2 1 (pair (1 ∷ []) (0 ∷ 0 ∷ []) (1 ∷ 2 ∷ [])))) (3 ∷ 0 ∷ [])
+    ∷ case (numbers (insertSays 1 2 1 (pair (1 ∷ 1 ∷ 0 ∷ []) (0 ∷ 1 ∷ 0 ∷ []) (1 ∷ 2 ∷ 0 ∷ [])))) (6 ∷ 1 ∷ [])
     ∷ case (numbers (insertSays 4 0 1 (pair (replicate 1025 0) (replicate 1025 2) (replicate 1025 0)))) (0 ∷ 1 ∷ [])
     ∷ case (numbers (insertSays 4 2 1 (pair (1 ∷ 2 ∷ 0 ∷ []) (0 ∷ 0 ∷ 0 ∷ []) (1 ∷ 3 ∷ 0 ∷ [])))) (7 ∷ 1 ∷ [])
     ∷ []
@@ -171,7 +194,9 @@ lineCases =
     -- the program: more than 4,096 bytes are refused at that place, exactly 4,096 are judged as any text
     case (output (replicate 4097 65)) (text "E,14,4096\n")
     ∷ case (output (replicate 4096 65)) (text "E,14,0\n")
-    -- 14 before 1 and 2; numbers of up to four digits; what breaks a line
+    -- of the values of a line: 1 before 2 before 4
+    ∷ case (program 65 (replicate 1025 1) ++ program 4 (replicate 1025 5) ++ program 4 (2 ∷ 5 ∷ 0 ∷ [])) (text "E,1,0\nE,2,0\nE,4,1\n")
+    -- 14 before 1 and 2; numbers of up to four digits; nothing after the line feed
     ∷ case (outcome (readWRun (text "W,0,1025,1\n") (9 ∷ []))) (14 ∷ 10 ∷ 9 ∷ [])
     ∷ case (outcomes (readTRun (text "T,0,1025,1\n") (9 ∷ []) (8 ∷ []))) (14 ∷ 10 ∷ 9 ∷ 8 ∷ [])
     ∷ case (outcome (readNRun (text "N,1025,1\n") (9 ∷ []))) (14 ∷ 8 ∷ 9 ∷ [])
@@ -182,13 +207,13 @@ lineCases =
     ∷ case (outcome (readWRun (text "W,64,2,13,1\n") (9 ∷ 9 ∷ 9 ∷ []))) (0 ∷ 64 ∷ 2 ∷ 13 ∷ 1 ∷ 9 ∷ [])
     ∷ case (outcome (readWRun (text "W,4,2,3,1\n") (9 ∷ []))) (13 ∷ 2 ∷ 9 ∷ [])
     ∷ case (outcomes (readTRun (text "T,4,2,1,d,3\n") (9 ∷ 9 ∷ 9 ∷ []) (8 ∷ 8 ∷ 8 ∷ []))) (0 ∷ 4 ∷ 2 ∷ 1 ∷ 3 ∷ 9 ∷ 0 ∷ 1 ∷ 8 ∷ [])
-    ∷ case (outcomes (readTRun (text "T,4,2,1,d,3\n") (9 ∷ []) (8 ∷ 8 ∷ []))) (13 ∷ 2 ∷ 9 ∷ 8 ∷ 8 ∷ [])
-    ∷ case (outcomes (readTRun (text "T,4,2,1,d,3\n") (9 ∷ 9 ∷ []) (8 ∷ []))) (13 ∷ 2 ∷ 9 ∷ 9 ∷ 8 ∷ [])
+    ∷ case (outcomes (readTRun (text "T,4,2,1,d,3\n") (9 ∷ []) (8 ∷ 8 ∷ 8 ∷ []))) (13 ∷ 2 ∷ 9 ∷ 8 ∷ 8 ∷ 8 ∷ [])
+    ∷ case (outcomes (readTRun (text "T,4,2,1,d,3\n") (9 ∷ 9 ∷ 9 ∷ []) (8 ∷ []))) (13 ∷ 2 ∷ 9 ∷ 9 ∷ 9 ∷ 8 ∷ [])
     ∷ case (outcome (readNRun (text "N,2,2,1\n") (9 ∷ []))) (13 ∷ 2 ∷ 9 ∷ [])
     -- writers give the bytes written; 13 has the bytes needed
     ∷ case (outcome (wLineRun 4 (3 ∷ []) (replicate 9 7))) (0 ∷ 8 ∷ (text "W,4,1,3\n" ++ 7 ∷ []))
     ∷ case (outcome (wLineRun 4 (3 ∷ []) (7 ∷ []))) (13 ∷ 8 ∷ 7 ∷ [])
-    ∷ case (outcome (tLineRun 4 (1 ∷ 3 ∷ []) (0 ∷ 1 ∷ []) (replicate 13 7))) (0 ∷ 12 ∷ (text "T,4,2,1,d,3\n" ++ 7 ∷ []))
+    ∷ case (outcome (tLineRun 4 (1 ∷ 3 ∷ []) (0 ∷ 0 ∷ []) (replicate 13 7))) (0 ∷ 12 ∷ (text "T,4,2,1,r,3\n" ++ 7 ∷ []))
     ∷ case (outcome (tLineRun 4 (1 ∷ 3 ∷ []) (0 ∷ 1 ∷ []) (7 ∷ []))) (13 ∷ 12 ∷ 7 ∷ [])
     ∷ case (outcome (nLineRun (2 ∷ 1 ∷ []) (replicate 9 7))) (0 ∷ 8 ∷ (text "N,2,2,1\n" ++ 7 ∷ []))
     ∷ case (outcome (nLineRun (2 ∷ 1 ∷ []) (7 ∷ []))) (13 ∷ 8 ∷ 7 ∷ [])

@@ -18,8 +18,8 @@ use Rattle.hypoplactic.specs.Moves.{repeatTableau}
 use Rattle.hypoplactic.specs.Junctions.{number, junctionSet, rowsOf, sameClass}
 use Rattle.hypoplactic.specs.Weights.{compareWeights}
 use Rattle.hypoplactic.specs.Replies.{Passes, orElse, refused}
-use Rattle.hypoplactic.specs.Judgements.{rankJudged, lengthJudged, lettersJudged, indexJudged, inversionJudged, alikeJudged, usedJudged, risingJudged, marksJudged, entriesJudged, recordingJudged, fullJudged, roomJudged}
-use Rattle.hypoplactic.specs.WordOperations.{junctionSays, moveWordSays, repeatWordSays, sameClassSays, weightsSays}
+use Rattle.hypoplactic.specs.Judgements.{rankJudged, lengthJudged, lettersJudged, indexJudged, inversionJudged, letterJudged, alikeJudged, usedJudged, risingJudged, marksJudged, entriesJudged, recordingJudged, fullJudged, roomJudged}
+use Rattle.hypoplactic.specs.WordOperations.{junctionSays, moveWordRun, moveWordSays, repeatWordSays, sameClassSays, weightsSays}
 use Rattle.hypoplactic.specs.TableauOperations.{insertRun, insertSays, lookSays, moveTableauSays, readingRun, readingSays, recordingSays, repeatTableauSays, tableauRun, tableauSays, throughSays, viewerSays, wordRun, wordSays}
 use Rattle.hypoplactic.specs.LineOperations.{program, tableauLine, eLineRun, jLineRun, nLineRun, roomRun, tLineRun, tableauLineRun, wLineRun}
 use Rattle.hypoplactic.specs.LineReadings.{answerRun, output, readNRun, readTRun, readWRun}
@@ -37,7 +37,7 @@ orders-pinned = refl
 
 -- Every reply has its values, and every limit its place.
 pub values-pinned : map (λ (c : Case). c .meaning) valueCases ≡ map (λ (c : Case). c .document) valueCases
-unfolding valueCases pairOf insert wordOf columnReading number junctionSet rowsOf ones onesIn sameClass compareWeights repeatTableau rankJudged lengthJudged alikeJudged usedJudged lettersJudged risingJudged marksJudged entriesJudged recordingJudged indexJudged fullJudged roomJudged junctionSays repeatWordSays sameClassSays weightsSays tableauSays tableauRun insertSays insertRun wordSays wordRun readingSays readingRun repeatTableauSays viewerSays throughSays lookSays
+unfolding valueCases pairOf insert wordOf columnReading number junctionSet rowsOf ones onesIn sameClass compareWeights repeatTableau rankJudged lengthJudged alikeJudged usedJudged lettersJudged risingJudged marksJudged entriesJudged recordingJudged indexJudged inversionJudged letterJudged fullJudged roomJudged junctionSays moveWordSays moveWordRun repeatWordSays sameClassSays weightsSays tableauSays tableauRun insertSays insertRun wordSays wordRun readingSays readingRun repeatTableauSays viewerSays throughSays lookSays
 values-pinned = refl
 
 -- The same of readers, writers and the program.
