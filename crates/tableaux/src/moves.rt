@@ -54,7 +54,7 @@ fn some_step_below(here: u8, letters: &[u8], marks: &[u8]) -> bool
 }
 
 // Whether i+1 stands directly below i. From 255 on, i+1 is no byte, and so no letter.
-pub fn has_below(index: usize, letters: &[u8], marks: &[u8]) -> bool
+fn has_below(index: usize, letters: &[u8], marks: &[u8]) -> bool
     ensures { λ r. ⌜ r ≡ below index (now (letters .entry)) (now (marks .entry)) ⌝ }
 {
     if 254 < index {

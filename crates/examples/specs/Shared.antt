@@ -1,0 +1,61 @@
+-- Cases for the definitions of code crates that public contracts rest on beside those of hypoplactic, in the form of the starred ones: what crates lend each
+-- other, each in its smallest inputs.
+--     sharedCases     the cases; tests stand as 1 and 0
+-- That the two sides of every case are equal is proved in proofs/Theory/Shared.antt. Assumes nothing.
+use Prim.Native.Nat.{ℕ}
+use mathlib.Core.Bool.{Bool, true, false}
+use mathlib.Core.List.{List, [], _∷_, _++_, map}
+use mathlib.Core.Option.{none, some}
+use lib.ListN.{length, replicate}
+use Rattle.hypoplactic.specs.Words.{tick}
+use Rattle.hypoplactic.specs.Starred.{Case, case, lower, numbers, outcome, raise, w4323}
+use Rattle.buffers.specs.Copies.{copied}
+use Rattle.buffers.specs.Shifts.{pushed}
+use Rattle.numerals.specs.Bytes.{startsWith}
+use Rattle.occurrences.specs.Places.{standsLeft}
+use Rattle.words.specs.Given.{countGiven, junctionGiven}
+use Rattle.words.specs.Junctions.{bitAt}
+use Rattle.operators.specs.Changes.{moveLettersRun, repeatLettersSays}
+use Rattle.admissions.specs.Checks.{insertChecks, pairWith}
+use Rattle.examples.specs.Pinned.{onPairs, pairOrder}
+
+-- A test as a number.
+abbrev pub told : Bool → ℕ
+told b = tick b 0
+
+unfoldable pub sharedCases : List Case
+sharedCases =
+    -- values copied as far as there is room; a tail shifted by one, the last element falling off
+    case (copied (1 ∷ 2 ∷ 3 ∷ []) (9 ∷ 9 ∷ [])) (1 ∷ 2 ∷ [])
+    ∷ case (copied (1 ∷ []) (9 ∷ 9 ∷ [])) (1 ∷ 9 ∷ [])
+    ∷ case (pushed 1 (8 ∷ 9 ∷ []) ++ pushed 1 []) (1 ∷ 8 ∷ [])
+    -- the byte that stands first
+    ∷ case (map (λ t. told (startsWith 44 t)) ((44 ∷ []) ∷ (45 ∷ 44 ∷ []) ∷ [] ∷ [])) (1 ∷ 0 ∷ 0 ∷ [])
+    -- one of two places left of the other
+    ∷ case
+    (told (standsLeft (some 1) (some 3)) ∷ told (standsLeft (some 3) (some 1)) ∷ told (standsLeft (some 1) (some 1))
+    ∷ told (standsLeft none (some 1)) ∷ told (standsLeft (some 1) none) ∷ [])
+    (1 ∷ 0 ∷ 0 ∷ 0 ∷ 0 ∷ [])
+    -- letter counts and junction set of an accepted word, and 0 where 1, 2 or 4 refuses it
+    ∷ case
+    (countGiven 4 (1 ∷ 2 ∷ 1 ∷ []) 1 ∷ countGiven 65 (1 ∷ []) 1 ∷ countGiven 4 (replicate 1025 1) 1 ∷ countGiven 4 (1 ∷ 5 ∷ []) 1 ∷ [])
+    (2 ∷ 0 ∷ 0 ∷ 0 ∷ [])
+    ∷ case (junctionGiven 4 w4323 ∷ junctionGiven 65 w4323 ∷ junctionGiven 3 w4323 ∷ []) (6 ∷ 0 ∷ 0 ∷ [])
+    -- bit a - 1 of a set, none of the letter 0
+    ∷ case (map (λ a. told (bitAt 6 a)) (0 ∷ 1 ∷ 2 ∷ 3 ∷ 4 ∷ [])) (0 ∷ 0 ∷ 1 ∷ 1 ∷ 0 ∷ [])
+    -- a move once its inversion is known: 1, 9, 10, 11, or made
+    ∷ case (outcome (moveLettersRun 65 (raise 0) true [])) (1 ∷ 0 ∷ [])
+    ∷ case (outcome (moveLettersRun 4 (raise 0) true [])) (9 ∷ 0 ∷ [])
+    ∷ case (outcome (moveLettersRun 4 (raise 1) true [])) (10 ∷ 0 ∷ [])
+    ∷ case (outcome (moveLettersRun 4 (raise 1) false (3 ∷ []))) (11 ∷ 0 ∷ 3 ∷ [])
+    ∷ case (outcome (moveLettersRun 4 (raise 1) false (3 ∷ 2 ∷ 2 ∷ []))) (0 ∷ 3 ∷ 1 ∷ 2 ∷ [])
+    ∷ case (outcome (moveLettersRun 4 (lower 2) false (3 ∷ 2 ∷ 2 ∷ []))) (0 ∷ 3 ∷ 2 ∷ 3 ∷ [])
+    -- its repeat count: 1, 2, 9, or the count, none under an inversion
+    ∷ case (numbers (repeatLettersSays 65 (raise 0) false (replicate 1025 1))) (1 ∷ 0 ∷ [])
+    ∷ case (numbers (repeatLettersSays 4 (raise 0) false (replicate 1025 1))) (2 ∷ 0 ∷ [])
+    ∷ case (numbers (repeatLettersSays 4 (raise 0) false [])) (9 ∷ 0 ∷ [])
+    ∷ case (numbers (repeatLettersSays 4 (lower 2) false (3 ∷ 2 ∷ 2 ∷ []))) (0 ∷ 2 ∷ [])
+    ∷ case (numbers (repeatLettersSays 4 (lower 2) true (3 ∷ 2 ∷ 2 ∷ []))) (0 ∷ 0 ∷ [])
+    -- the checks of insertion, in their order
+    ∷ case (onPairs (λ n xs ms rs. insertChecks n (length xs) 1 (pairWith xs ms rs))) pairOrder
+    ∷ []
