@@ -53,12 +53,11 @@ fn step_place(length: usize, word: [u8; 1024]) -> usize
 
 // The letters of the second word, where it is no other drawn word. The move is one that changes the first letter, or one like it: raising for an odd number,
 // else lowering.
-fn changed_letters(k: usize, word: Word) -> [u8; 1024]
+fn changed_letters(way: usize, k: usize, word: Word) -> [u8; 1024]
     requires { ⌜ (word .length ≤ 1024) × (word .state < 2147483647) ⌝ }
 {
     let length = word.length;
     let letters = word.letters;
-    let way = k % 5;
     if way == 1 {
         return exchanged(word.state as usize % (length + 1), length, letters);
     }
@@ -74,16 +73,17 @@ fn changed_letters(k: usize, word: Word) -> [u8; 1024]
     moved.letters
 }
 
-// The second word of the pair whose first word, of this number, is given.
+// The second word of the pair whose first word, of this number, is given. Words are drawn in five ways too, by the number's remainder: each of these ways
+// meets each of those.
 pub(crate) fn partner(k: usize, word: Word) -> Word
     requires { ⌜ (word .length ≤ 1024) × (word .state < 2147483647) ⌝ }
     ensures { λ r. ⌜ r .length ≤ 1024 ⌝ }
 {
-    let way = k % 5;
+    let way = k / 5 % 5;
     if way == 0 {
         return word_of(std::num::wrapping_add_usize(k, 64), word.state);
     }
-    let letters = changed_letters(k, word);
+    let letters = changed_letters(way, k, word);
     let mut rank = word.rank;
     if way == 3 {
         rank = 64;
