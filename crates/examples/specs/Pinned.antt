@@ -2,7 +2,7 @@
 -- and value that it replies, and each limit on both sides. So none of them can be changed in definitions and code together.
 --     onWords, onTwo, onTableaux, onPairs              what an operation says of inputs that each break one check and the one after it
 --     wordOrder, twoOrder, tableauOrder, pairOrder     what it must say: the first of the two
---     outcomes, inserted                               a reply beside two and three lent lists
+--     inserted                                         a reply beside three lent lists
 --     orderCases, valueCases, lineCases                the cases
 -- That the two sides of every case are equal is proved in proofs/Theory/Pinned.antt. Assumes nothing.
 use Prim.Native.Nat.{ℕ}
@@ -120,9 +120,8 @@ orderCases =
 
 unfoldable pub valueCases : List Case
 valueCases =
-    -- junctions: the set, then the rows; 64 bits, whatever the letters
-    case (numbers (junctionSays 4 w4323)) (0 ∷ 6 ∷ 3 ∷ [])
-    ∷ case (junctionSet (65 ∷ 64 ∷ []) ∷ junctionSet (66 ∷ 65 ∷ []) ∷ []) (9223372036854775808 ∷ 0 ∷ [])
+    -- the junction set: 64 bits, whatever the letters
+    case (junctionSet (65 ∷ 64 ∷ []) ∷ junctionSet (66 ∷ 65 ∷ []) ∷ []) (9223372036854775808 ∷ 0 ∷ [])
     -- classes: words of different rank are in none; the letters 1 to 64 count
     ∷ case (numbers (sameClassSays 4 w433 5 w433)) (0 ∷ 0 ∷ [])
     ∷ case (numbers (sameClassSays 64 [] 64 (1 ∷ []))) (0 ∷ 0 ∷ [])

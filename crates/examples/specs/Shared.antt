@@ -7,12 +7,16 @@ use mathlib.Core.Bool.{Bool, true, false}
 use mathlib.Core.List.{List, [], _∷_, _++_, map}
 use mathlib.Core.Option.{none, some}
 use lib.ListN.{length, replicate}
+use Rattle.grammar.specs.Reading.{letters, marks}
 use Rattle.hypoplactic.specs.Words.{tick}
-use Rattle.hypoplactic.specs.Starred.{Case, case, lower, numbers, outcome, raise, w4323}
+use Rattle.hypoplactic.specs.Starred.{Case, case, lower, numbers, outcome, raise, text, w4323}
 use Rattle.buffers.specs.Copies.{copied}
 use Rattle.buffers.specs.Shifts.{pushed}
 use Rattle.numerals.specs.Bytes.{startsWith}
 use Rattle.occurrences.specs.Places.{standsLeft}
+use Rattle.scans.specs.Items.{stepMarks}
+use Rattle.scans.specs.Kept.{kept}
+use Rattle.scans.specs.Scans.{wholeCells}
 use Rattle.words.specs.Given.{countGiven, junctionGiven}
 use Rattle.words.specs.Junctions.{bitAt}
 use Rattle.operators.specs.Changes.{moveLettersRun, repeatLettersSays}
@@ -29,6 +33,12 @@ sharedCases =
     case (copied (1 ∷ 2 ∷ 3 ∷ []) (9 ∷ 9 ∷ [])) (1 ∷ 2 ∷ [])
     ∷ case (copied (1 ∷ []) (9 ∷ 9 ∷ [])) (1 ∷ 9 ∷ [])
     ∷ case (pushed 1 (8 ∷ 9 ∷ []) ++ pushed 1 []) (1 ∷ 8 ∷ [])
+    -- a line by the grammar alone: the cells read before it breaks, of which as many are kept as have room, and marks only where the line tells steps
+    ∷ case (kept (1 ∷ 2 ∷ 3 ∷ []) (9 ∷ 9 ∷ []) ++ kept (1 ∷ []) (9 ∷ 9 ∷ [])) (1 ∷ 2 ∷ 1 ∷ 9 ∷ [])
+    ∷ case (letters (wholeCells 87 true false (text "W,4,3,3,1x"))) (3 ∷ 1 ∷ [])
+    ∷ case (letters (wholeCells 78 false false (text "N,2,2,1\n"))) (2 ∷ 1 ∷ [])
+    ∷ case (marks (wholeCells 84 true true (text "T,4,3,1,d,2,r"))) (0 ∷ 1 ∷ [])
+    ∷ case (stepMarks true ((1, 0) ∷ (2, 1) ∷ []) ++ stepMarks false ((1, 0) ∷ (2, 1) ∷ [])) (0 ∷ 1 ∷ [])
     -- the byte that stands first
     ∷ case (map (λ t. told (startsWith 44 t)) ((44 ∷ []) ∷ (45 ∷ 44 ∷ []) ∷ [] ∷ [])) (1 ∷ 0 ∷ 0 ∷ [])
     -- one of two places left of the other

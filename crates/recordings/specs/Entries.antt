@@ -3,7 +3,7 @@
 --     stepFault          8: the entry at a place breaks the step into its cell
 --     Meeting            the invariant of the scan for 7
 --     meeting, stepping  the rulesets of the two checks
--- The table of entries met is in Seen, the pass before the scan for 8 in Clear. Assumes nothing.
+-- The table of entries met is in Seen, the pass before the scan for 8 in Clear of shapes. Assumes nothing.
 use Prim.Native.Nat.{ℕ, zero, suc, _+_, _-_, _<_, _≤_, min}
 use mathlib.Core.Path.{_≡_, refl, _∙_}
 use mathlib.Core.Bool.{Bool, true, false, _||_}

@@ -18,7 +18,7 @@ pub fn or_else(one: Verdict, other: Verdict) -> Verdict
     }
 }
 
-// 1 and 2: the limits that every operation but a reader of entries checks first.
+// 1 and 2: the limits of a word, a tableau or a pair.
 pub fn check_limits(rank: usize, length: usize) -> Verdict
     ensures { λ r. ⌜ saidVerdict r ≡ first (rankJudged rank ∷ lengthJudged length ∷ []) passed ⌝ }
 {

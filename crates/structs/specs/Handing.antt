@@ -1,4 +1,4 @@
--- The kernel's answers handed on as structs: the laws that every function of src/ cites.
+-- The kernel's answers handed on as structs: the laws that every function here, and every C function above (crate capi), cites.
 --     passed-on           an answer's struct beside the memory that the operation leaves
 --     done-said, ..       the same said, the same replied
 --     done-refused, ..    a refusal told by its number and place

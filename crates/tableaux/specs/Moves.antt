@@ -3,7 +3,7 @@
 --     none-below                  an index whose next letter is no byte
 --     stepping, walking           the rulesets of one step and of the scan
 --     moving, repeating           the rulesets of moves and of repeat counts
--- What follows the checks and the inversion is in Changes of words. Assumes nothing.
+-- What follows the checks and the inversion is in Changes of operators. Assumes nothing.
 use Prim.Native.Nat.{ℕ, suc, _+_, _-_, _≤_, _<_, min}
 use mathlib.Core.Path.{_≡_, refl, sym, _∙_}
 use mathlib.Core.Logic.{_⊎_, inl, inr}

@@ -16,7 +16,7 @@ ghost use Rattle.hypoplactic.specs.Replies.{first, passed};
 ghost use Rattle.hypoplactic.specs.Judgements.{alikeJudged, entriesJudged, lengthJudged, lettersJudged, marksJudged, pairJudgements, rankJudged, recordingJudged, risingJudged, tableauJudgements};
 ghost use Rattle.refusals.specs.Said.{saidVerdict};
 
-// 4, 5 and 6: the cells of a tableau, of a pair, or the used cells of one.
+// 4, 5 and 6: the cells of a tableau or of a pair.
 fn check_cells(rank: usize, letters: &[u8], marks: &[u8]) -> Verdict
     ensures { λ r. ⌜
         saidVerdict r

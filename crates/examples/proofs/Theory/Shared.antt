@@ -10,6 +10,8 @@ use Rattle.hypoplactic.specs.Judgements.{entriesJudged, fullJudged, indexJudged
 use Rattle.hypoplactic.specs.Starred.{Case, lower, raise}
 use Rattle.buffers.specs.Shifts.{pushed}
 use Rattle.refusals.specs.Running.{checksThen}
+use Rattle.scans.specs.Heads.{readCounted, readHead}
+use Rattle.scans.specs.Scans.{wholeCells}
 use Rattle.words.specs.Given.{countGiven, junctionGiven}
 use Rattle.operators.specs.Changes.{moveLettersRun, repeatLettersSays}
 use Rattle.operators.specs.Targets.{moveOf}
@@ -17,7 +19,7 @@ use Rattle.operators.specs.declared.changes.Side.the-variants.{Lowering, Raisin
 use Rattle.examples.specs.Shared.{sharedCases}
 
 pub shared-pinned : map (λ (c : Case). c .meaning) sharedCases ≡ map (λ (c : Case). c .document) sharedCases
-unfolding sharedCases pushed number junctionSet rankJudged lengthJudged usedJudged lettersJudged risingJudged marksJudged entriesJudged recordingJudged indexJudged inversionJudged letterJudged fullJudged roomJudged checksThen countGiven junctionGiven moveLettersRun repeatLettersSays
+unfolding sharedCases pushed wholeCells readHead readCounted number junctionSet rankJudged lengthJudged usedJudged lettersJudged risingJudged marksJudged entriesJudged recordingJudged indexJudged inversionJudged letterJudged fullJudged roomJudged checksThen countGiven junctionGiven moveLettersRun repeatLettersSays
 shared-pinned = refl
 
 pub sides-named : (i : ℕ) → (moveOf Raising i ≡ raise i) × (moveOf Lowering i ≡ lower i)

@@ -1,4 +1,4 @@
--- `streams::answer_stream` meets its contract, by the laws of specs/Answer of the crate lines. Assumes nothing.
+-- `streams::answer_stream` meets its contract, by the laws of outputs' specs/Answer. Assumes nothing.
 use Rattle.outputs.specs.Answer.{taking}
 use Rattle.streams.proofs.answer_stream.Statement.{statement}
 use Rattle.streams.proofs.answer_stream.Tie as tie

@@ -1,4 +1,4 @@
--- `acceptance::letters::first_outside` meets its contract, by the laws of specs/Faults and Scanning. Assumes nothing.
+-- `acceptance::letters::first_outside` meets its contract, by the laws of specs/Letters and refusals' specs/Scanning. Assumes nothing.
 use Prim.Native.Nat.{_-_}
 use lib.ListN.{length}
 use Rattle.acceptance.specs.Letters.{scanning, letterFault}

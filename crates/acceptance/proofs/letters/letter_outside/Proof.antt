@@ -1,4 +1,4 @@
--- `acceptance::letters::letter_outside` meets its contract, by the laws of specs/Faults. Assumes nothing.
+-- `acceptance::letters::letter_outside` meets its contract, by the laws of specs/Letters. Assumes nothing.
 use Rattle.acceptance.specs.Letters.{scanning}
 use borrow.Author.Needs.{needs}
 use Rattle.acceptance.proofs.letters.letter_outside.Statement.{statement}

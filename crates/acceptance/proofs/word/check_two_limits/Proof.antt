@@ -1,4 +1,4 @@
--- `acceptance::word::check_two_limits` meets its contract, by the laws of specs/Chains. Assumes nothing.
+-- `acceptance::word::check_two_limits` meets its contract, by the laws of refusals' specs/Chains. Assumes nothing.
 use Rattle.refusals.specs.Chains.{chaining}
 use borrow.Author.Needs.{needs}
 use Rattle.acceptance.proofs.word.check_two_limits.Statement.{statement}

@@ -1,4 +1,4 @@
--- `capi::on_words::luchtrav_same_class` meets its contract, by the laws of specs/Handing. Assumes nothing.
+-- `capi::on_words::luchtrav_same_class` meets its contract, by the laws of structs' specs/Handing. Assumes nothing.
 use Rattle.structs.specs.Handing.{replying}
 use Rattle.capi.proofs.on_words.luchtrav_same_class.Statement.{statement}
 use Rattle.capi.proofs.on_words.luchtrav_same_class.Tie as tie

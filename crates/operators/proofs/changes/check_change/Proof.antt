@@ -1,4 +1,4 @@
--- `operators::changes::check_change` meets its contract, by the laws of specs/Chains. Assumes nothing.
+-- `operators::changes::check_change` meets its contract, by the laws of refusals' specs/Chains. Assumes nothing.
 use Rattle.refusals.specs.Chains.{chaining}
 use Rattle.operators.proofs.changes.check_change.Statement.{statement}
 use Rattle.operators.proofs.changes.check_change.Tie as tie

@@ -1,4 +1,4 @@
--- `recordings::recording::check_recording` meets its contract, by the laws of specs/Entries, Clear and Scanning. Assumes nothing.
+-- `recordings::recording::check_recording` meets its contract, by the laws of specs/Entries, shapes' specs/Clear and refusals' specs/Scanning. Assumes nothing.
 use Prim.Native.Nat.{_-_, _≤_}
 use Rattle.recordings.specs.Entries.{stepFault, stepping}
 use Rattle.refusals.specs.Scanning.{Scanning}

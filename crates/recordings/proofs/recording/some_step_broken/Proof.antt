@@ -1,4 +1,4 @@
--- `recordings::recording::some_step_broken` meets its contract, by the laws of specs/Entries and Clear. Assumes nothing.
+-- `recordings::recording::some_step_broken` meets its contract, by the laws of specs/Entries and shapes' specs/Clear. Assumes nothing.
 use Prim.Native.Nat.{_-_, _≤_}
 use Rattle.shapes.specs.Clear.{Clearing}
 use Rattle.recordings.specs.Entries.{stepFault, stepping}

@@ -1,4 +1,4 @@
--- `shapes::marks::check_marks` meets its contract, by the laws of specs/Faults, Clear and Scanning. Assumes nothing.
+-- `shapes::marks::check_marks` meets its contract, by the laws of specs/Faults and Clear, and refusals' specs/Scanning. Assumes nothing.
 use Prim.Native.Nat.{_-_}
 use Rattle.shapes.specs.Faults.{scanning}
 use Rattle.refusals.specs.Scanning.{Scanning}

@@ -1,4 +1,4 @@
--- `shapes::rising::check_rising` meets its contract, by the laws of specs/Faults, Clear and Scanning. Assumes nothing.
+-- `shapes::rising::check_rising` meets its contract, by the laws of specs/Faults and Clear, and refusals' specs/Scanning. Assumes nothing.
 use Prim.Native.Nat.{_-_, _≤_}
 use lib.ListN.{length}
 use Rattle.shapes.specs.Faults.{scanning, fallFault}

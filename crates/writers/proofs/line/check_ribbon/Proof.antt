@@ -1,4 +1,4 @@
--- `writers::line::check_ribbon` meets its contract, by the laws of `refusals`, specs/Chains. Assumes nothing.
+-- `writers::line::check_ribbon` meets its contract, by the laws of refusals' specs/Chains. Assumes nothing.
 use Rattle.refusals.specs.Chains.{stopping}
 use borrow.Author.Needs.{needs}
 use Rattle.writers.proofs.line.check_ribbon.Statement.{statement}
