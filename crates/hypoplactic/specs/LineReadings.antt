@@ -65,10 +65,10 @@ printedFor text (broken rest) = eLine 14 (breakPlace text rest)
 unfoldable pub output : List ℕ → List ℕ
 output text = cond (ltb 4096 (length text)) (eLine 14 4096) (printedFor text (readW text))
 
--- The two kinds of output: the four lines of the accepted word that the text holds, or one E line, its number at most 14 and its place at most 4,096.
+-- The two kinds of output: the four lines of the accepted word that the text holds, or one E line, its number 1 to 14 and its place at most 4,096.
 pub data Outputs (text : List ℕ) : Type 0 where
   lines : (n : ℕ) (w : List ℕ) → Accepted n w → text ≡ wLine n w → output text ≡ fourLines n w → Outputs text
-  refusal : (k p : ℕ) → k ≤ 14 → p ≤ 4096 → output text ≡ eLine k p → Outputs text
+  refusal : (k p : ℕ) → 1 ≤ k → k ≤ 14 → p ≤ 4096 → output text ≡ eLine k p → Outputs text
 
 -- The output into lent memory. Nothing but room is judged: a refusal of the text is itself printed.
 unfoldable pub answerRun : List ℕ → List ℕ → Said × List ℕ

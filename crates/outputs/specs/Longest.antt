@@ -1,10 +1,12 @@
 -- The longest output: how much room a buffer must have for it.
 --     enough              16,384 bytes
 --     output-short        for every text
+--     accepted-output     the W line of an accepted word is short enough to be read, so that its output is the word's four lines
 --     four-ready          for the four lines of an accepted word
 --     refusal-short       for the E line of a refusal of a text
 -- Assumes nothing.
 use Prim.Native.Nat.{ℕ, _+_, _^_, _≤_, _<_}
+use mathlib.Core.Path.{_≡_}
 use mathlib.Core.List.{List, [], _∷_, _++_}
 use native.Mathlib.Omega.{arith}
 use lib.Count.{ones-le}
@@ -19,7 +21,7 @@ use Rattle.hypoplactic.proofs.Theory.Bits.{number-below}
 use Rattle.hypoplactic.proofs.Theory.Closure.{reading-accepted, word-tableau-at}
 use Rattle.hypoplactic.proofs.Theory.Correspondence.{pair-valid}
 use Rattle.hypoplactic.proofs.Theory.Once.{once-entries}
-use Rattle.hypoplactic.proofs.Theory.Outputs.{outputs}
+use Rattle.hypoplactic.proofs.Theory.Outputs.{output-accepted, outputs}
 use Rattle.hypoplactic.proofs.Theory.Pairs.{length-recording}
 use Rattle.writers.specs.Lengths.{e-length, j-length, n-length, t-length, w-length}
 use Rattle.outputs.specs.Printing.{Ready, readingOf}
@@ -60,7 +62,11 @@ output-short text = go (outputs text)
   where
     go : Outputs text → length (output text) ≤ 16384
     go (lines n w a t e) = rw e (four-short a)
-    go (refusal k p low high e) = rw e (omega (arith, e-length k p low (omega arith)))
+    go (refusal k p some low high e) = rw e (omega (arith, e-length k p low (omega arith)))
+
+-- The W line of an accepted word is never too long.
+pub accepted-output : {n : ℕ} {w : List ℕ} → Accepted n w → output (wLine n w) ≡ fourLines n w
+accepted-output a = output-accepted a (omega (arith, w-length a))
 
 -- A buffer of so many bytes is ready for them.
 pub four-ready : {n : ℕ} {w : List ℕ} (have : ℕ) → Accepted n w → 16384 ≤ have → Ready n w (fourLines n w) have

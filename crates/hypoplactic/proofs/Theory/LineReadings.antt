@@ -1,5 +1,6 @@
 -- Readers of lines: the line of values within the limits is read back (theorem i), and 14 is replied exactly where the kind of line breaks.
 --     read-w-result, read-t-result, read-n-result      what a writer's line gives back
+--     accepted-small                                   the numbers of an accepted word can stand in a line
 --     w-broken, t-broken, n-broken                     14 at p, exactly when the first p bytes of the text begin some line of the kind and no more do
 -- Assumes nothing.
 use Prim.Native.Nat.{ℕ, suc, _≤_, _<_}
@@ -36,7 +37,7 @@ short-items n (x ∷ xs) l h = let high : x ≤ n = h .1 in (omega arith, short-
 small : (n : ℕ) (xs : List ℕ) → n < 10000 → length xs ≤ 1024 → Within n xs → Small xs
 small n xs l s h = (omega arith, short-items n xs l h)
 
-accepted-small : {n : ℕ} {w : List ℕ} → Accepted n w → Short n × Small w
+pub accepted-small : {n : ℕ} {w : List ℕ} → Accepted n w → Short n × Small w
 accepted-small {n} {w} a = let high : n ≤ 64 = a .rank-high in (omega arith, small n w (omega arith) (a .short) (a .letters))
 
 pub read-w-result : (n : ℕ) (w out : List ℕ) → Accepted n w → length w ≤ length out
