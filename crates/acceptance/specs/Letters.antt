@@ -10,7 +10,7 @@
 --     fault-judged, fault-decides            the verdict from the fault that was found
 --     bounding                               the ruleset of the check by bounds
 -- Assumes nothing.
-use Prim.Native.Nat.{ℕ, suc, _+_, _<_, _≤_}
+use Prim.Native.Nat.{ℕ, suc, _+_, _<_, _≤_, max, min}
 use native.Mathlib.Nat.{not-suc-le-zero}
 use native.Mathlib.Omega.{arith}
 use mathlib.Core.Path.{_≡_, refl, sym, ap, _∙_}
@@ -67,12 +67,12 @@ pub bounds-start : (xs : List ℕ) (least largest : ℕ) → Bounding xs least l
 bounds-start xs least largest = record { bounds = λ k l. absurd (not-suc-le-zero l) }
 
 -- One more letter.
-pub bounds-turn : {xs : List ℕ} {least largest i low high : ℕ} → Bounding xs least largest i → (low ≤ least) × (low ≤ getD xs i 0)
-    → (largest ≤ high) × (getD xs i 0 ≤ high) → Bounding xs low high (i + 1)
+pub bounds-turn : {xs : List ℕ} {least largest i low high : ℕ} → Bounding xs least largest i → low ≡ min least (getD xs i 0)
+    → high ≡ max largest (getD xs i 0) → Bounding xs low high (i + 1)
 bounds-turn {xs} {least} {largest} {i} {low} {high} b l h = record { bounds = λ k s. at k (le-or-lt i k) s }
   where
     at : (k : ℕ) → (i ≤ k) ⊎ (k < i) → k < i + 1 → (low ≤ getD xs k 0) × (getD xs k 0 ≤ high)
-    at k (inl f) s = let e : k ≡ i = omega arith in rw e (l .1, h .1)
+    at k (inl f) s = let e : k ≡ i = omega arith in rw e (omega arith, omega arith)
     at k (inr f) s = let (p, q) = b .bounds k f in (omega arith, omega arith)
 
 -- A list whose letters are inside at every place.

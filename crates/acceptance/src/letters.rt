@@ -3,7 +3,7 @@ use refusals::answers::Fault;
 use refusals::answers::Verdict;
 use refusals::numbers::either;
 use refusals::refusal::Refusal;
-ghost use Prim.Native.Nat.{_<_, _≤_};
+ghost use Prim.Native.Nat.{_<_, max, min};
 ghost use mathlib.Core.Path.{_≡_};
 ghost use lib.ListN.{length};
 ghost use Rattle.hypoplactic.specs.Judgements.{lettersJudged};
@@ -28,14 +28,14 @@ fn letter_outside(rank: usize, letters: &[u8], place: usize) -> bool
 
 // The smaller of two bytes.
 fn smaller(a: u8, b: u8) -> u8
-    ensures { λ r. ⌜ (r ≤ a) × (r ≤ b) ⌝ }
+    ensures { λ r. ⌜ r ≡ min a b ⌝ }
 {
     if a < b { a } else { b }
 }
 
 // The larger of two bytes.
 fn larger(a: u8, b: u8) -> u8
-    ensures { λ r. ⌜ (a ≤ r) × (b ≤ r) ⌝ }
+    ensures { λ r. ⌜ r ≡ max a b ⌝ }
 {
     if a < b { b } else { a }
 }
