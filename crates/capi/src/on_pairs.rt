@@ -2,9 +2,9 @@
 // struct of numbers.
 use inverses::way_back::word_of_pair;
 use pairs::insertion::insert_letter;
-use structs::converters::count_inserted;
-use structs::converters::count_written;
-use structs::converters::done_verdict;
+use structs::counts::count_inserted;
+use structs::counts::count_written;
+use structs::counts::done_verdict;
 use structs::replies::CountReply;
 use structs::replies::DoneReply;
 use validity::tableau::check_pair;

@@ -1,10 +1,10 @@
 // The C interface to tableaux: checks, column reading, moves, a look at a cell. Each function is one of the kernel's, its answer as a struct of numbers.
 use columns::reading::column_reading;
 use structs::converters::cell_reply;
-use structs::converters::count_repeat;
-use structs::converters::count_written;
-use structs::converters::done_move;
-use structs::converters::done_verdict;
+use structs::counts::count_repeat;
+use structs::counts::count_written;
+use structs::counts::done_move;
+use structs::counts::done_verdict;
 use structs::replies::CellReply;
 use structs::replies::CountReply;
 use structs::replies::DoneReply;

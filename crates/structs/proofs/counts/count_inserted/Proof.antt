@@ -1,7 +1,7 @@
--- `structs::converters::count_inserted` meets its contract, by the laws of specs/Handing. Assumes nothing.
+-- `structs::counts::count_inserted` meets its contract, by the laws of specs/Handing. Assumes nothing.
 use Rattle.structs.specs.Handing.{replying}
-use Rattle.structs.proofs.converters.count_inserted.Statement.{statement}
-use Rattle.structs.proofs.converters.count_inserted.Tie as tie
+use Rattle.structs.proofs.counts.count_inserted.Statement.{statement}
+use Rattle.structs.proofs.counts.count_inserted.Tie as tie
 
 pub count-inserted-spec : {M : Type 1} → statement M
 count-inserted-spec =

@@ -1,7 +1,7 @@
--- `structs::converters::done_move` meets its contract, by the laws of specs/Handing. Assumes nothing.
+-- `structs::counts::done_move` meets its contract, by the laws of specs/Handing. Assumes nothing.
 use Rattle.structs.specs.Handing.{replying}
-use Rattle.structs.proofs.converters.done_move.Statement.{statement}
-use Rattle.structs.proofs.converters.done_move.Tie as tie
+use Rattle.structs.proofs.counts.done_move.Statement.{statement}
+use Rattle.structs.proofs.counts.done_move.Tie as tie
 
 pub done-move-spec : {M : Type 1} → statement M
 done-move-spec =

@@ -1,7 +1,7 @@
--- `structs::converters::word_line_reply` meets its contract, by the laws of specs/Handing. Assumes nothing.
+-- `structs::readings::word_line_reply` meets its contract, by the laws of specs/Handing. Assumes nothing.
 use Rattle.structs.specs.Handing.{replying}
-use Rattle.structs.proofs.converters.word_line_reply.Statement.{statement}
-use Rattle.structs.proofs.converters.word_line_reply.Tie as tie
+use Rattle.structs.proofs.readings.word_line_reply.Statement.{statement}
+use Rattle.structs.proofs.readings.word_line_reply.Tie as tie
 
 pub word-line-reply-spec : {M : Type 1} → statement M
 word-line-reply-spec =
