@@ -29,7 +29,7 @@ pub enum Side {
 }
 
 // The place that a move changes, or why there is none: an inversion, or no letter to change.
-pub enum Target {
+enum Target {
     At(usize),
     Inverted,
     Missing,
