@@ -8,7 +8,7 @@
 -- Single bytes are in Bytes. Assumes nothing.
 use Prim.Native.Nat.{ℕ, zero, suc, _+_, _-_, _*_, _^_, _≤_, _<_, min}
 use mathlib.Core.Path.{_≡_, refl, sym, ap, _∙_}
-use mathlib.Core.Bool.{Bool, true, false, cond, and-eq-true-iff, true≢false}
+use mathlib.Core.Bool.{Bool, true, false, cond, true≢false}
 use mathlib.Core.List.{List, [], _∷_}
 use native.Mathlib.Decide.{decLe}
 use native.Mathlib.Nat.{min-eq-left, min-eq-right}
@@ -17,8 +17,9 @@ use lib.ListN.{length, getD, drop, drop-of-length-le}
 use mir.Syntax.{w16}
 use mir.Val.{Fits}
 use borrow.Author.Needs.{needs}
-use borrow.Author.Tests.{eq-eqb, leb-true, ne-eqb}
+use borrow.Author.Tests.{eq-eqb, ne-eqb}
 use Rattle.grammar.specs.Reading.{Read, broken, digit, furtherDigits, got, moreDigits, readField, readNumber}
+use Rattle.grammar.proofs.Theory.NumbersExact.{digit-range}
 use Rattle.numerals.specs.Bytes.{after-none, after-there, digit-inside, digitOf, left-there, next-fits, starts-within, startsWith}
 use Rattle.numerals.specs.declared.numbers.Number.{Number}
 use Rattle.numerals.specs.declared.numbers.Number.the-variants as number
@@ -52,9 +53,6 @@ module _ (text : List ℕ) (reading : Read ℕ) {r : Number} (h : Numbered text 
   number-not e = rw e at h
 
 -- ---- digits
-
-digit-range : (b : ℕ) → digit b ≡ true → (48 ≤ b) × (b ≤ 57)
-digit-range b e = let (low, high) = and-eq-true-iff _ _ .0 e in (leb-true 48 b low, leb-true b 57 high)
 
 digit-is : (b : ℕ) (t : List ℕ) → digitOf (b ∷ t) ≤ 9 → digit b ≡ true
 digit-is b t h = go (digit b) h

@@ -1,4 +1,4 @@
--- Numbers, fields and steps are read exactly: number-exact, field-exact, step-exact.
+-- Numbers, fields and steps are read exactly: number-exact, field-exact, step-exact; the bytes of digits are 48 to 57: digit-range.
 -- Assumes nothing.
 use Prim.Native.Nat.{ℕ, zero, suc, _+_, _-_, _*_, _/_, _%_, _^_, _≤_, _<_}
 use mathlib.Core.Path.{_≡_, refl, sym, ap, _∙_}
@@ -16,7 +16,7 @@ use Rattle.grammar.proofs.Theory.Decimal.{decimal-digit, decimal-more}
 use Rattle.grammar.proofs.Theory.Numbers.{number-digits, number-zero}
 use Rattle.grammar.proofs.Theory.Exact.{Broke, Exact, not-both, at-once, after-exact}
 
-digit-range : (b : ℕ) → digit b ≡ true → (48 ≤ b) × (b ≤ 57)
+pub digit-range : (b : ℕ) → digit b ≡ true → (48 ≤ b) × (b ≤ 57)
 digit-range b h = go (leb 48 b) (leb b 57) refl refl h
   where
     go : (x y : Bool) → leb 48 b ≡ x → leb b 57 ≡ y → x && y ≡ true → (48 ≤ b) × (b ≤ 57)

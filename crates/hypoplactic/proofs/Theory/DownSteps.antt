@@ -18,8 +18,7 @@ use Rattle.hypoplactic.specs.Ribbons.{downAfter}
 use Rattle.hypoplactic.specs.Insertion.{lettersOf, marksOf}
 use Rattle.hypoplactic.specs.Junctions.{outOf, downOut, junction, leftOf, nextLarger}
 use Rattle.hypoplactic.specs.Places.{marksAfter, marksBy}
-use Rattle.hypoplactic.proofs.Theory.Letters.{count-low, count-letters}
-use Rattle.hypoplactic.proofs.Theory.Limits.{occurs-none}
+use Rattle.hypoplactic.proofs.Theory.Letters.{count-letters, occurs-low}
 use Rattle.hypoplactic.proofs.Theory.Marks.{marks-before}
 use Rattle.hypoplactic.proofs.Theory.NextLarger.{next-rising, next-same}
 use Rattle.hypoplactic.proofs.Theory.Occurrences.{occurs-count}
@@ -32,9 +31,6 @@ pub down-above : (a x : ℕ) (xs ms : List ℕ) → a < x → Rising x xs → do
 down-above a x [] ms l r = refl
 down-above a x (y ∷ ys) [] l r = refl
 down-above a x (y ∷ ys) (m ∷ ms) l r = rw (ne-eqb x a (λ e. omega arith)) (down-above a y ys ms (omega arith) (r .1))
-
-occurs-above : (a k : ℕ) (xs : List ℕ) → a < k → Rising k xs → occurs a xs ≡ false
-occurs-above a k xs l r = occurs-none a xs (count-low a k xs l r)
 
 -- The mark that a test makes is 1 where the test passes.
 mark-is : (b : Bool) → eqb (tick b 0) 1 ≡ b
@@ -56,7 +52,7 @@ down-next w a x (y ∷ ys) h r = go (λ l. down-next w a y ys l (r .1)) (eq-or-l
         rw (next-rising a y ys l (r .1), e, eq-eqb a a refl, lt-ltb a y l, mark-is (before w a y), down-above a y ys (marksAfter (before w) y ys) l (r .1))
         (or-false (before w a y))
     go rest (inr k) (inr l) =
-        rw (ne-eqb x a (λ e. omega arith), down-above a y ys (marksAfter (before w) y ys) l (r .1), occurs-above a y (y ∷ ys) l (omega arith, r .1))
+        rw (ne-eqb x a (λ e. omega arith), down-above a y ys (marksAfter (before w) y ys) l (r .1), occurs-low a y (y ∷ ys) l (omega arith, r .1))
 
 -- The same from the first cell on.
 down-letters : (w : List ℕ) (a k : ℕ) (xs : List ℕ) → Rising k xs → downOut a xs (marksBy (before w) xs) ≡ (occurs a xs && leftOf w a (nextLarger a xs))
@@ -65,7 +61,7 @@ down-letters w a k (x ∷ xs) r = go (le-or-lt x a)
   where
     go : (x ≤ a) ⊎ (a < x) → downOut a (x ∷ xs) (marksBy (before w) (x ∷ xs)) ≡ (occurs a (x ∷ xs) && leftOf w a (nextLarger a (x ∷ xs)))
     go (inl h) = rw (le-ltb a x h) (down-next w a x xs h (r .1))
-    go (inr h) = rw (down-above a x xs (marksAfter (before w) x xs) h (r .1), occurs-above a x (x ∷ xs) h (omega arith, r .1))
+    go (inr h) = rw (down-above a x xs (marksAfter (before w) x xs) h (r .1), occurs-low a x (x ∷ xs) h (omega arith, r .1))
 
 -- ---- junctions
 

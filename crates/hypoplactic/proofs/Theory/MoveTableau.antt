@@ -20,17 +20,13 @@ use Rattle.hypoplactic.specs.Moves.{Move, taken, inverted, fromTo, below
 use Rattle.hypoplactic.specs.Places.{marksAfter, marksBy}
 use Rattle.hypoplactic.proofs.Theory.Pairs.{Rising, le-or-lt, letters-rising}
 use Rattle.hypoplactic.proofs.Theory.Occurrences.{occurs-count, before-absent}
-use Rattle.hypoplactic.proofs.Theory.Letters.{count-low, count-letters}
+use Rattle.hypoplactic.proofs.Theory.Letters.{count-letters, occurs-low}
 use Rattle.hypoplactic.proofs.Theory.Marks.{marks-before}
 use Rattle.hypoplactic.proofs.Theory.Undo.{occurs-lacks, lacks-before, moved-turned}
 use Rattle.hypoplactic.proofs.Theory.MoveRecording.{turned-pair}
 use Rattle.hypoplactic.proofs.Theory.MoveCounts.{Counted, moved-counted}
 
 -- ---- letters that never fall
-
--- A letter below all of them does not occur.
-occurs-low : (a k : ℕ) (xs : List ℕ) → a < k → Rising k xs → occurs a xs ≡ false
-occurs-low a k xs h r = rw (occurs-count, count-low a k xs h r)
 
 -- Letters that never fall have no inversion.
 pub rising-upright : (i k : ℕ) (xs : List ℕ) → Rising k xs → inverted i xs ≡ false
