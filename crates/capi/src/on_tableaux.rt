@@ -1,5 +1,6 @@
 // The C interface to tableaux: checks, column reading, moves, a look at a cell. Each function is one of the kernel's, its answer as a struct of numbers.
 use columns::reading::column_reading;
+use coordinates::cells::cell_at;
 use structs::converters::cell_reply;
 use structs::counts::count_repeat;
 use structs::counts::count_written;
@@ -13,7 +14,6 @@ use tableaux::moves::lower_tableau;
 use tableaux::moves::raise_count_tableau;
 use tableaux::moves::raise_tableau;
 use validity::tableau::check_tableau;
-use viewer::cells::cell_at;
 use viewer::viewers::look_once;
 ghost use mathlib.Core.Path.{_≡_};
 ghost use Rattle.hypoplactic.specs.Judgements.{tableauJudgements};

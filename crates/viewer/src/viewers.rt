@@ -1,5 +1,5 @@
 // The viewer itself: a thin struct that holds references to the caller's letters and marks, beside the verdict of its making.
-use crate::cells::cell_through;
+use coordinates::cells::cell_through;
 use refusals::answers::Cell;
 use refusals::answers::Verdict;
 use validity::tableau::check_tableau;

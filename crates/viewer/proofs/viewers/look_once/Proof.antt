@@ -42,7 +42,7 @@ use Rattle.refusals.specs.Said.{saidCell, saidVerdict}
 use Rattle.refusals.specs.declared.answers.Cell.{Cell}
 use Rattle.refusals.proofs.answers.Cell as S
 use Rattle.refusals.proofs.answers.Cell.Laws as S′
-use Rattle.viewer.specs.Looking.{look-made}
+use Rattle.coordinates.specs.Looking.{look-made}
 use Rattle.viewer.specs.declared.viewers.Viewer.{Viewer}
 use Rattle.viewer.proofs.Held.{B, both, gathers, keeps, lent, params, tokens, value}
 use Rattle.viewer.proofs.viewers.Viewer as T

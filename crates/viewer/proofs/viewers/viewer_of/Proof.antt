@@ -53,7 +53,7 @@ use Rattle.validity.proofs.tableau.check_tableau as check
 use Rattle.validity.proofs.tableau.check_tableau.Symbol as check-def
 use Rattle.validity.proofs.tableau.check_tableau.Symbol.{name as #check-tableau}
 use Rattle.validity.proofs.tableau.check_tableau.Met as check-thm
-use Rattle.viewer.specs.Looking.{made-says}
+use Rattle.coordinates.specs.Looking.{made-says}
 use Rattle.viewer.specs.declared.viewers.Viewer.{Viewer}
 use Rattle.viewer.proofs.Held.{D, L, again, both, gathers, keeps, lent, params, tokens, value}
 use Rattle.viewer.proofs.viewers.viewer_of.Key.{name as #viewer-of}

@@ -52,10 +52,10 @@ use Rattle.refusals.proofs.answers.Verdict as U
 use Rattle.refusals.proofs.answers.Verdict.Laws as U′
 use Rattle.viewer.proofs.Held.{B, D, L, tokens, value}
 use Rattle.viewer.proofs.viewers.Viewer.Laws as T′
-use Rattle.viewer.proofs.cells.cell_through as ct
-use Rattle.viewer.proofs.cells.cell_through.Symbol as ct-def
-use Rattle.viewer.proofs.cells.cell_through.Symbol.{name as #cell-through}
-use Rattle.viewer.proofs.cells.cell_through.Met as ct-thm
+use Rattle.coordinates.proofs.cells.cell_through as ct
+use Rattle.coordinates.proofs.cells.cell_through.Symbol as ct-def
+use Rattle.coordinates.proofs.cells.cell_through.Symbol.{name as #cell-through}
+use Rattle.coordinates.proofs.cells.cell_through.Met as ct-thm
 use Rattle.viewer.proofs.viewers.Viewer.look.Key.{name as #look}
 use Rattle.viewer.proofs.viewers.Viewer.look as this
 use Rattle.viewer.proofs.viewers.Viewer.look.Statement as stated
@@ -159,4 +159,4 @@ look-spec 𝓤 H 𝓜 𝓖 𝓡 =
     entered 𝓤 H (tripleOf 𝓤 H (𝓖 .A) this.signature (this.spec 𝓤 H (𝓖 .A) (𝓜 .mem) (𝓡 .run)))
     (tables 𝓤 H 𝓜 𝓡 code.env .C) (tables 𝓤 H 𝓜 𝓡 code.env .Λ) #look code.function (code.unfolded 𝓤 H 𝓜 𝓡)
     (look-meets 𝓤 H (𝓖 .A) (givenOf 𝓤 H 𝓜 𝓖) (𝓜 .mem) (𝓡 .run) (tablesOf 𝓤 H 𝓜 (tables 𝓤 H 𝓜 𝓡 code.env))
-    (cited 𝓤 H (Through 𝓤 H (𝓖 .A) (𝓜 .mem) (𝓡 .run)) 𝓜 𝓡 code.env #cell-through ct-def.routine code.calls-viewer·cells·cell-through (ct-thm.met 𝓤 H 𝓜 𝓖 𝓡)))
+    (cited 𝓤 H (Through 𝓤 H (𝓖 .A) (𝓜 .mem) (𝓡 .run)) 𝓜 𝓡 code.env #cell-through ct-def.routine code.calls-coordinates·cells·cell-through (ct-thm.met 𝓤 H 𝓜 𝓖 𝓡)))

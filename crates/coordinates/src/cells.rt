@@ -34,7 +34,7 @@ pub fn cell_at(letters: &[u8], marks: &[u8], place: usize) -> Cell
 }
 
 // The cell at a place, through a viewer whose making gave the verdict `made`: a refusal is passed on, so that no cell is called missing for it.
-pub(crate) fn cell_through(place: usize, letters: &[u8], marks: &[u8], made: Verdict) -> Cell
+pub fn cell_through(place: usize, letters: &[u8], marks: &[u8], made: Verdict) -> Cell
     ensures { λ r. ⌜ saidCell r ≡ throughSays (saidVerdict made) (now (letters .entry)) (now (marks .entry)) place ⌝ }
 {
     match made {

@@ -1,7 +1,7 @@
--- `viewer::cells::steps_to` meets its contract, by the laws of specs/Looking. Assumes nothing.
-use Rattle.viewer.specs.Looking.{stepping}
-use Rattle.viewer.proofs.cells.steps_to.Statement.{statement}
-use Rattle.viewer.proofs.cells.steps_to.Tie as tie
+-- `coordinates::cells::steps_to` meets its contract, by the laws of specs/Looking. Assumes nothing.
+use Rattle.coordinates.specs.Looking.{stepping}
+use Rattle.coordinates.proofs.cells.steps_to.Statement.{statement}
+use Rattle.coordinates.proofs.cells.steps_to.Tie as tie
 
 pub steps-to-spec : {M : Type 1} → statement M
 steps-to-spec =
