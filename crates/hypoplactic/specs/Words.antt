@@ -1,5 +1,6 @@
 -- Words over the letters 1, 2, 3, .. (paper, section 2.1). A word is a list of numbers, and its places count from 0.
 --     count a w       how often the letter a stands in w
+--     countUpTo a w   how many letters of w are at most a
 --     occurs a w      whether a stands in w
 --     before w p q    whether some q stands left of some p in w, adjacent or not
 --     Inside n x      x is one of 1 to n
@@ -10,7 +11,7 @@
 use Prim.Native.Nat.{ℕ, suc, _≤_}
 use mathlib.Core.List.{List, [], _∷_}
 use mathlib.Core.Bool.{Bool, true, false, _&&_, _||_}
-use lib.Dec.{eqb}
+use lib.Dec.{eqb, leb}
 use lib.ListN.{length}
 
 -- One more where the test passes.
@@ -22,6 +23,11 @@ tick false n = n
 abbrev pub count : ℕ → List ℕ → ℕ
 count a [] = 0
 count a (x ∷ xs) = tick (eqb x a) (count a xs)
+
+-- How many letters are at most a.
+abbrev pub countUpTo : ℕ → List ℕ → ℕ
+countUpTo a [] = 0
+countUpTo a (x ∷ xs) = tick (leb x a) (countUpTo a xs)
 
 -- Whether a stands in the word.
 abbrev pub occurs : ℕ → List ℕ → Bool

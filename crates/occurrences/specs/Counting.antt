@@ -1,8 +1,8 @@
 -- The scan for a count of letters, in 16 bits: of one letter, or of those that pass some other test.
 --     Counting c w i n                               c counts n of the letters before place i of w
---     tick-one, tick-none                            what a letter counts in the count of one letter
+--     tick-one, tick-none, up-to-one, up-to-none     what a letter counts in the count of one letter, and of the letters up to one
 --     count-start, count-turn, count-fits, counted-all   the scan, of any count that each letter raises by 1 or leaves
---     count-end                                      its end in the count of one letter
+--     count-end, up-to-end                           its end in these two counts
 --     counting                                       the ruleset of the scan
 -- Assumes nothing.
 use Prim.Native.Nat.{ℕ, _+_, _≤_, _<_}
@@ -13,12 +13,12 @@ use native.Mathlib.Numerals.{add-one}
 use native.Mathlib.Omega.{arith}
 use mir.Syntax.{w16}
 use mir.Val.{Fits}
-use lib.Dec.{eqb}
+use lib.Dec.{eqb, leb}
 use lib.ListN.{length, getD, drop, drop-of-length-le}
 use lib.Seq.{drop-cons}
 use borrow.Author.Needs.{needs}
-use borrow.Author.Tests.{eq-eqb, ne-eqb}
-use Rattle.hypoplactic.specs.Words.{tick, count}
+use borrow.Author.Tests.{eq-eqb, le-leb, lt-leb, ne-eqb}
+use Rattle.hypoplactic.specs.Words.{tick, count, countUpTo}
 
 -- n letters before place i are counted.
 pub record Counting (c : List ℕ → ℕ) (w : List ℕ) (i n : ℕ) : Type 0 where
@@ -40,6 +40,12 @@ tick-one {x} {a} e = rw (eq-eqb x a e)
 
 pub tick-none : {x a : ℕ} → (x ≡ a → ⊥) → 0 ≡ tick (eqb x a) 0
 tick-none {x} {a} ne = rw (ne-eqb x a ne)
+
+pub up-to-one : {x a : ℕ} → x ≤ a → 1 ≡ tick (leb x a) 0
+up-to-one {x} {a} l = rw (le-leb x a l)
+
+pub up-to-none : {x a : ℕ} → a < x → 0 ≡ tick (leb x a) 0
+up-to-none {x} {a} l = rw (lt-leb x a l)
 
 pub count-start : (c : List ℕ → ℕ) (w : List ℕ) → Counting c w 0 0
 count-start c w = record { within = omega arith; small = omega arith; left = omega arith }
@@ -64,4 +70,7 @@ module _ {c : List ℕ → ℕ} {w : List ℕ} {i n : ℕ} (s : Counting c w i n
 pub count-end : {a : ℕ} {w : List ℕ} {i n : ℕ} → Counting (count a) w i n → length w ≤ i → n ≡ count a w
 count-end s h = counted-all s h refl
 
-pub ruleset counting = (tick-one, tick-none, count-start, count-turn, count-fits, count-end, needs)
+pub up-to-end : {a : ℕ} {w : List ℕ} {i n : ℕ} → Counting (countUpTo a) w i n → length w ≤ i → n ≡ countUpTo a w
+up-to-end s h = counted-all s h refl
+
+pub ruleset counting = (tick-one, tick-none, up-to-one, up-to-none, count-start, count-turn, count-fits, count-end, up-to-end, needs)

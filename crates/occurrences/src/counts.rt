@@ -1,9 +1,9 @@
-// How often a letter stands in a word. Each function takes whatever slice it is given.
+// How often a letter stands in a word, and how many letters are at most one. Each public function takes whatever slice it is given.
 ghost use Prim.Native.Nat.{_≤_};
 ghost use mathlib.Core.Path.{_≡_};
-ghost use lib.Dec.{eqb};
+ghost use lib.Dec.{eqb, leb};
 ghost use lib.ListN.{length};
-ghost use Rattle.hypoplactic.specs.Words.{count, tick};
+ghost use Rattle.hypoplactic.specs.Words.{count, countUpTo, tick};
 ghost use Rattle.occurrences.specs.Parts.{Part};
 
 // 1 where `x` is `letter`, else 0.
@@ -14,7 +14,7 @@ fn one_if(letter: u8, x: u8) -> u16
 }
 
 // How often `letter` stands among at most 1,024 letters. Their count fits 16 bits, and the narrower it is, the more letters the compiled code counts at once.
-fn count_of(letter: u8, word: &[u8]) -> usize
+fn count_few(letter: u8, word: &[u8]) -> usize
     requires { ⌜ length (now word) ≤ 1024 ⌝ }
     ensures { λ r. ⌜ r ≡ count letter (now (word .entry)) ⌝ }
 {
@@ -43,7 +43,42 @@ pub fn count_letters(letter: u8, letters: &[u8]) -> usize
     let mut i = 0;
     while i < letters.len() {
         let end = part_end(i, letters.len());
-        found += count_of(letter, &letters[i..end]);
+        found += count_few(letter, &letters[i..end]);
+        i = end;
+    }
+    found
+}
+
+// 1 where `x` is at most `letter`, else 0.
+fn one_up_to(letter: u8, x: u8) -> u16
+    ensures { λ r. ⌜ r ≡ tick (leb x letter) 0 ⌝ }
+{
+    if x <= letter { 1 } else { 0 }
+}
+
+// How many of at most 1,024 letters are at most `letter`, counted in 16 bits likewise.
+fn count_few_up_to(letter: u8, letters: &[u8]) -> usize
+    requires { ⌜ length (now letters) ≤ 1024 ⌝ }
+    ensures { λ r. ⌜ r ≡ countUpTo letter (now (letters .entry)) ⌝ }
+{
+    let mut found: u16 = 0;
+    let mut i = 0;
+    while i < letters.len() {
+        found += one_up_to(letter, letters[i]);
+        i += 1;
+    }
+    found as usize
+}
+
+// How many of any number of letters are at most `letter`. Among letters that rise it is the place after the last of these.
+pub fn count_up_to(letter: u8, letters: &[u8]) -> usize
+    ensures { λ r. ⌜ r ≡ countUpTo letter (now (letters .entry)) ⌝ }
+{
+    let mut found = 0;
+    let mut i = 0;
+    while i < letters.len() {
+        let end = part_end(i, letters.len());
+        found += count_few_up_to(letter, &letters[i..end]);
         i = end;
     }
     found

@@ -2,6 +2,7 @@
 --     count-append, occurs-append, before-append     count, occurs and before of u ++ v, from those of u and v
 --     count-tail           a list has each letter at least as often as its tail
 --     count-length         no letter stands in a list more often than the list has letters
+--     up-to-append, up-to-length     the same two of the count of letters up to a
 --     before-snoc          before of w with one letter more at its end
 --     occurs-count         a letter occurs where its count is not 0
 --     before-absent        no absent letter stands left of another
@@ -11,10 +12,10 @@ use mathlib.Core.Path.{_≡_, refl, sym}
 use mathlib.Core.List.{List, [], _∷_, _++_}
 use mathlib.Core.Bool.{Bool, true, false, _&&_, _||_, and-false, or-assoc, or-false}
 use native.Mathlib.Omega.{arith}
-use lib.Dec.{eqb, ltb}
+use lib.Dec.{eqb, leb, ltb}
 use lib.ListN.{length}
 use borrow.Author.Tests.{lt-ltb}
-use Rattle.hypoplactic.specs.Words.{tick, count, occurs, before}
+use Rattle.hypoplactic.specs.Words.{tick, count, countUpTo, occurs, before}
 
 tick-add : (b : Bool) (m n : ℕ) → tick b (m + n) ≡ tick b m + n
 tick-add true m n = omega arith
@@ -32,14 +33,23 @@ count-tail a x w = go (eqb x a)
     go true = omega arith
     go false = omega arith
 
+tick-less : (b : Bool) {m n : ℕ} → m ≤ n → tick b m ≤ suc n
+tick-less true h = omega arith
+tick-less false h = omega arith
+
 -- No letter stands in a list more often than the list has letters.
 pub count-length : (a : ℕ) (w : List ℕ) → count a w ≤ length w
 count-length a [] = omega arith
-count-length a (x ∷ w) = go (eqb x a) (count-length a w)
-  where
-    go : (b : Bool) → count a w ≤ length w → tick b (count a w) ≤ suc (length w)
-    go true h = omega arith
-    go false h = omega arith
+count-length a (x ∷ w) = tick-less (eqb x a) (count-length a w)
+
+-- The same of the count of letters up to a.
+pub up-to-append : (a : ℕ) (u v : List ℕ) → countUpTo a (u ++ v) ≡ countUpTo a u + countUpTo a v
+up-to-append a [] v = omega arith
+up-to-append a (x ∷ u) v = rw (up-to-append a u v, tick-add)
+
+pub up-to-length : (a : ℕ) (w : List ℕ) → countUpTo a w ≤ length w
+up-to-length a [] = omega arith
+up-to-length a (x ∷ w) = tick-less (leb x a) (up-to-length a w)
 
 pub occurs-append : (a : ℕ) (u v : List ℕ) → occurs a (u ++ v) ≡ (occurs a u || occurs a v)
 occurs-append a [] v = refl
