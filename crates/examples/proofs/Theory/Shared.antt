@@ -1,18 +1,34 @@
--- What crates lend each other, pinned: the list of specs/Shared.antt, computed by the checker, and the names of the sides of a move.
---     shared-pinned     the list
---     sides-named       raising is raising and lowering is lowering, each with its index
+-- What crates lend each other, pinned: the list of specs/Shared.antt, computed by the checker, and what no list of numbers can say.
+--     shared-pinned               the list
+--     sides-named                 raising is raising and lowering is lowering, each with its index
+--     places-told                 a place that was found is that place
+--     table-ends                  a table has 64 numbers, that of the letter 1 first and that of 64 last
+--     field-told, break-told      a number of a line with the place after it, and the place of a break
+--     line-told, line-broken      a whole line with its values and what is kept of them, and one that breaks
 -- Assumes nothing.
 use Prim.Native.Nat.{ℕ}
 use mathlib.Core.Path.{_≡_, refl}
-use mathlib.Core.List.{map}
+use mathlib.Core.Bool.{true, false}
+use mathlib.Core.List.{List, [], _∷_, map}
+use mathlib.Core.Option.{none, some}
+use native.Mathlib.Omega.{arith}
+use lib.ListN.{length, getD}
+use Rattle.grammar.specs.Reading.{readField}
 use Rattle.hypoplactic.specs.Junctions.{number, junctionSet}
 use Rattle.hypoplactic.specs.Judgements.{entriesJudged, fullJudged, indexJudged, inversionJudged, lengthJudged, letterJudged, lettersJudged, marksJudged, rankJudged, recordingJudged, risingJudged, roomJudged, usedJudged}
-use Rattle.hypoplactic.specs.Starred.{Case, lower, raise}
+use Rattle.hypoplactic.specs.Starred.{Case, lower, raise, text}
 use Rattle.buffers.specs.Shifts.{pushed}
 use Rattle.refusals.specs.Running.{checksThen}
-use Rattle.scans.specs.Heads.{readCounted, readHead}
-use Rattle.scans.specs.Scans.{wholeCells}
+use Rattle.numerals.specs.Numbers.{Numbered}
+use Rattle.numerals.specs.declared.numbers.Number.the-variants as number-at
+use Rattle.occurrences.specs.Places.{foundPlace}
+use Rattle.occurrences.specs.declared.places.Found.the-variants.{At, Nothing}
+use Rattle.scans.specs.Cells.{readMarked}
+use Rattle.scans.specs.Heads.{readCounted, readEnd, readHead}
+use Rattle.scans.specs.Scans.{Scanned, readBody, readWhole, wholeCells}
+use Rattle.scans.specs.declared.line.Line.the-variants as line
 use Rattle.words.specs.Given.{countGiven, junctionGiven}
+use Rattle.words.specs.Tables.{Table}
 use Rattle.operators.specs.Changes.{moveLettersRun, repeatLettersSays}
 use Rattle.operators.specs.Targets.{moveOf}
 use Rattle.operators.specs.declared.changes.Side.the-variants.{Lowering, Raising}
@@ -24,3 +40,31 @@ shared-pinned = refl
 
 pub sides-named : (i : ℕ) → (moveOf Raising i ≡ raise i) × (moveOf Lowering i ≡ lower i)
 sides-named i = (refl, refl)
+
+pub places-told : (k : ℕ) → (foundPlace (At k) ≡ some k) × (foundPlace Nothing ≡ none)
+places-told k = (refl, refl)
+
+pub table-ends : (f : ℕ → ℕ) (xs : List ℕ) → Table f xs → (length xs ≡ 64) × (getD xs 0 0 ≡ f 1) × (getD xs 63 0 ≡ f 64)
+table-ends f xs t = (t .size, t .entry 0 (omega arith), t .entry 63 (omega arith))
+
+-- ---- lines
+
+pub field-told : Numbered (text ",12,3") (readField (text ",12,3")) (number-at.Read 12 3)
+field-told = record { says = refl; within = omega arith }
+
+pub break-told : Numbered (text ",x") (readField (text ",x")) (number-at.Broken 1)
+break-told = record { says = refl; within = omega arith }
+
+-- The first cell of two that are lent is kept, with its mark on a line with steps.
+pub line-told :
+    Scanned (text "T,4,1,3\n") true (readWhole 84 true true (text "T,4,1,3\n")) (wholeCells 84 true true (text "T,4,1,3\n")) (9 ∷ 9 ∷ []) (8 ∷ 8 ∷ [])
+    (3 ∷ 9 ∷ []) (0 ∷ 8 ∷ []) (line.Read 4 1 8)
+unfolding readWhole readBody readHead readCounted readEnd readMarked wholeCells
+line-told = record { told = record { says = refl; within = omega arith }; long = refl; letters-are = refl; marks-are = refl }
+
+-- A line without steps leaves the marks; what was read before the break is kept.
+pub line-broken :
+    Scanned (text "W,4,2,3x") false (readWhole 87 true false (text "W,4,2,3x")) (wholeCells 87 true false (text "W,4,2,3x")) (9 ∷ 9 ∷ []) (8 ∷ [])
+    (3 ∷ 9 ∷ []) (8 ∷ []) (line.Broken 7)
+unfolding readWhole readBody readHead readCounted readEnd readMarked wholeCells
+line-broken = record { told = record { says = refl; within = omega arith }; long = refl; letters-are = refl; marks-are = refl }
