@@ -1,9 +1,11 @@
--- What document 01 demands of classes (demand 3), as one statement about two words: a record whose fields are its sentences. The theorem that it
--- holds, for any rank and any two words accepted at it, stands in proofs/Theory/Classes.antt.
+-- What document 01 demands of classes (demand 3), as one statement about any two words: a record whose fields are its sentences, and the claim that
+-- it holds at every rank of any two words accepted at it.
 --     Faithful line move u v    lines and moves tell of u and v what the rewriting rules tell
+--     FaithfulLines             the demand: Faithful of tableau lines and of moves on words. Theorem `classes`, proofs/Theory/Classes.antt
 --     FaithfullyWritten n u v   the same of what the operations reply and leave in lent memory
--- Read at `tableauLine n` and `moveWord n` the first is the demand at rank n. The second speaks of the very definitions that the contracts of the tableau
--- line, of the moves on words and of the recording ribbon cite. Assumes nothing.
+--     FaithfulWriting           the demand over what is written. Theorem `written-classes`, proofs/Theory/WrittenClasses.antt
+-- FaithfulLines is the one to read first: it has neither buffers nor replies. FaithfulWriting speaks of the very definitions that the contracts of the
+-- tableau line, of the moves on words and of the recording ribbon cite, and so of the programs. Assumes nothing.
 use mathlib.Core.Path.{_≡_}
 use mathlib.Core.List.{List, [], _∷_}
 use mathlib.Core.Logic.{_↔_}
@@ -11,7 +13,8 @@ use mathlib.Core.Option.{Option, some}
 use Prim.Native.Nat.{ℕ, _≤_}
 use lib.ListN.{length, take}
 use Rattle.hypoplactic.specs.Insertion.{recordingOf}
-use Rattle.hypoplactic.specs.Moves.{Move, Defined}
+use Rattle.hypoplactic.specs.Words.{Accepted}
+use Rattle.hypoplactic.specs.Moves.{Move, Defined, moveWord}
 use Rattle.hypoplactic.specs.Rewriting.{Joined}
 use Rattle.hypoplactic.specs.Replies.{Said, gives, refused}
 use Rattle.hypoplactic.specs.WordOperations.{moveWordRun}
@@ -27,6 +30,10 @@ pub record Faithful {A : Type 0} (line : List ℕ → A) (move : Move → List �
   pub results : Joined u v → (m : Move) (u′ v′ : List ℕ) → move m u ≡ some u′ → move m v ≡ some v′ → line u′ ≡ line v′
   -- 3. Where a move is defined, the result's recording ribbon is the word's own.
   pub recordings : (m : Move) (u′ : List ℕ) → move m u ≡ some u′ → recordingOf u′ ≡ recordingOf u
+
+-- Demand 3: at every rank, of any two words accepted at it.
+abbrev pub FaithfulLines : Type 0
+FaithfulLines = (n : ℕ) (u v : List ℕ) → Accepted n u → Accepted n v → Faithful (tableauLine n) (moveWord n) u v
 
 -- What an operation has written: as many elements from the front of lent memory as its reply tells, none where it refuses.
 abbrev pub elements : Said → List ℕ → List ℕ
@@ -53,3 +60,7 @@ pub record FaithfullyWritten (n : ℕ) (u v : List ℕ) : Type 0 where
       → length (tableauLine n (moveLeft n m v)) ≤ length out′ → lineBytes n (moveLeft n m u) out ≡ lineBytes n (moveLeft n m v) out′
   -- 3. A move keeps what the recording ribbon's operation replies and writes, whatever memory it is lent.
   pub recordings : (m : Move) (entries : List ℕ) → recordingRun n (moveLeft n m u) entries ≡ recordingRun n u entries
+
+-- Demand 3 over what is written: at every rank, of any two words accepted at it.
+abbrev pub FaithfulWriting : Type 0
+FaithfulWriting = (n : ℕ) (u v : List ℕ) → Accepted n u → Accepted n v → FaithfullyWritten n u v

@@ -1,5 +1,5 @@
--- Demand 3 of document 01, as one theorem (theorem a). The statement is the record `Faithful` of specs/Classes.antt: lines shared exactly by joined
--- words, moves that respect joining, recording ribbons that moves keep.
+-- Demand 3 of document 01, as one theorem (theorem a). The statement is `FaithfulLines` of specs/Classes.antt: lines shared exactly by joined words,
+-- moves that respect joining, recording ribbons that moves keep.
 --     same-tableau-joined   words of one tableau are joined
 --     faithful              the core: any line that tells tableaux apart, any set of allowed moves, no bound on rank or length
 --     classes               demand 3: at every rank, for any two words accepted at it, with the tableau line and the moves of that rank
@@ -15,14 +15,13 @@ use mathlib.Core.Option.{Option, none, some, Option·map, Option·none-ne-some, 
 use Rattle.grammar.specs.Lines.{tLine}
 use Rattle.grammar.specs.Values.{Marked, Stepped}
 use Rattle.grammar.proofs.Theory.Determined.{t-determined}
-use Rattle.hypoplactic.specs.Words.{Accepted}
 use Rattle.hypoplactic.specs.Rewriting.{Joined}
 use Rattle.hypoplactic.specs.Ribbons.{Tableau, Along, LetterStep}
 use Rattle.hypoplactic.specs.Insertion.{lettersOf, marksOf}
 use Rattle.hypoplactic.specs.Reading.{columnReading}
 use Rattle.hypoplactic.specs.Moves.{Move, Defined, movedWord, movedTableau, moveWord, indexOf}
 use Rattle.hypoplactic.specs.LineOperations.{tableauLine}
-use Rattle.hypoplactic.specs.Classes.{Faithful}
+use Rattle.hypoplactic.specs.Classes.{Faithful, FaithfulLines}
 use Rattle.hypoplactic.proofs.Theory.Joining.{_⨾_, joined-eq, joined-sym}
 use Rattle.hypoplactic.proofs.Theory.NormalForm.{word-reading}
 use Rattle.hypoplactic.proofs.Theory.Boundary.{tableau-of-word}
@@ -109,6 +108,6 @@ line-tells n xs ms ys ns h k e = let t = t-determined n n xs ys ms ns (marked xs
 -- Demand 3. For any rank n and any two words u and v accepted at it: (1) their tableau lines are equal byte for byte exactly when a chain of rewriting
 -- steps joins them; (2) if a chain joins them, each of the two moves with every index is defined on both or on neither, and the results' tableau
 -- lines are equal; (3) each move keeps the recording ribbon wherever it is defined.
-pub classes : (n : ℕ) (u v : List ℕ) → Accepted n u → Accepted n v → Faithful (tableauLine n) (moveWord n) u v
+pub classes : FaithfulLines
 unfolding tableauLine moveWord
 classes n u v a b = faithful (tLine n) (λ m. indexOf n (m .index)) (line-tells n) u v

@@ -1,4 +1,4 @@
--- Demand 3 of document 01 over what is written: the record `FaithfullyWritten` of specs/Classes.antt holds of any two words accepted at one rank.
+-- Demand 3 of document 01 over what is written, as one theorem. The statement is `FaithfulWriting` of specs/Classes.antt.
 --     line-bytes          the bytes in a buffer that is long enough are the tableau line
 --     move-left           a move leaves an accepted word accepted
 --     written-classes     the theorem
@@ -18,7 +18,7 @@ use Rattle.hypoplactic.specs.Judgements.{roomJudged, wordJudgements}
 use Rattle.hypoplactic.specs.WordOperations.{moveWordRun, orSame}
 use Rattle.hypoplactic.specs.TableauOperations.{recordingRun, recordingSays}
 use Rattle.hypoplactic.specs.LineOperations.{tableauLine}
-use Rattle.hypoplactic.specs.Classes.{Faithful, FaithfullyWritten, lineBytes, moveLeft}
+use Rattle.hypoplactic.specs.Classes.{Faithful, FaithfullyWritten, FaithfulWriting, lineBytes, moveLeft}
 use Rattle.hypoplactic.proofs.Theory.Classes.{classes}
 use Rattle.hypoplactic.proofs.Theory.Closure.{move-accepted}
 use Rattle.hypoplactic.proofs.Theory.JoinedReplies.{joined-reply}
@@ -77,9 +77,9 @@ module _ (n : ℕ) (u v : List ℕ) (a : Accepted n u) (b : Accepted n v) where
       go none e = refl
       go (some u′) e = faith .recordings m u′ e
 
-  pub written-classes : FaithfullyWritten n u v
+  faithfully-written : FaithfullyWritten n u v
   unfolding moveWordRun
-  written-classes =
+  faithfully-written =
       record {
         shared = λ out out′ l k. rw (line-bytes n u out a l, line-bytes n v out′ b k) (faith .shared);
         together = λ j m. joined-reply j n m a;
@@ -87,3 +87,6 @@ module _ (n : ℕ) (u v : List ℕ) (a : Accepted n u) (b : Accepted n v) where
             line-bytes n (moveLeft n m u) out (move-left n m u a) l ∙ left-lines j m ∙ sym (line-bytes n (moveLeft n m v) out′ (move-left n m v b) k);
         recordings = λ m entries. recording-same n (moveLeft n m u) u entries (move-left n m u a) a (left-recording m);
       }
+
+pub written-classes : FaithfulWriting
+written-classes n u v a b = faithfully-written n u v a b
