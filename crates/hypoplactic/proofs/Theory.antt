@@ -1,4 +1,4 @@
--- The theory, by topic. The README's table leads from each promise to its theorem.
+-- The theory, by topic. docs/PROMISES.md leads from each promise to its theorem.
 -- ---- words and their pairs
 pub mod Occurrences
 pub mod Pairs
