@@ -23,8 +23,6 @@ STANDS = r"(?<![\w-])NAME(?![\w-])"
 DECLARED = r"\b(fn|struct|enum) NAME\b|^ *pub NAME:|^ *(abbrev |unfoldable )?(pub )?((record|data) )?NAME [:({]"
 # As in: document 01, "Lines", "The program".
 CITATION = re.compile(r'document 01(?:\'s table)?,? \(?((?:"[^"]+"(?:, )?)+)')
-# The lists of cases that the checker computes.
-CASES = ("hypoplactic/specs/Starred.antt", "examples/specs/Pinned.antt", "examples/specs/Shared.antt")
 
 
 def pages():
@@ -63,13 +61,10 @@ def paths(text):
     return [span for span in code(text) if ("/" in span or span.endswith(SUFFIXES)) and not re.match(r"target/|PREFIX/|/|.*[\s(<]", span)]
 
 
-def directories(text):
-    return [path for path in paths(text) if path.endswith("/")]
-
-
-def find(path, page, named):
+def find(path, page, context, before=""):
     """The files of a path, in which a `*` stands for any name."""
     bases = [ROOT, CRATES, CRATES / "hypoplactic", page.parent]
+    named = [directory for directory in [*paths(context), before] if directory.endswith("/")]
     bases += [found for directory in named for base in bases for found in base.glob(directory.rstrip("/"))]
     return sorted({found.resolve() for base in bases for found in base.glob(path.rstrip("/"))})
 
@@ -78,11 +73,11 @@ def check_paths():
     for page in pages():
         for own, context in sections(page):
             for line in own.split("\n"):
-                before = []
+                before = ""
                 for path in paths(line):
-                    if not find(path, page, directories(context) + before):
+                    if not find(path, page, context, before):
                         yield page, "no such file: " + path
-                    before = [path.rpartition("/")[0]] if "/" in path else before
+                    before = path[:path.rfind("/") + 1] or before
 
 
 def some(form, name, files):
@@ -91,11 +86,10 @@ def some(form, name, files):
 
 def check_rows():
     for own, context in sections(PROMISES):
-        named = directories(context)
-        near = [file for path in paths(re.sub(r"^\|.*", "", context, flags=re.M)) for file in find(path, PROMISES, named) if file.is_file()]
+        near = [file for path in paths(re.sub(r"^\|.*", "", context, flags=re.M)) for file in find(path, PROMISES, context) if file.is_file()]
         for row in rows(own):
             *cells, last = row.strip("| ").split(" | ")
-            files = [file for path in paths(last) for file in find(path, PROMISES, named)]
+            files = [file for path in paths(last) for file in find(path, PROMISES, context)]
             if len(files) != 1:
                 yield PROMISES, f"a row has one file, this has {len(files)}: {row}"
             for name in [span for span in code(" ".join(cells)) if re.fullmatch(r"[A-Za-z][\w-]*", span)]:
@@ -110,8 +104,7 @@ def edits():
 def check_edits():
     blocks = re.findall(r"^Ruled out:\n\n((?:[- ] .*\n?)+)", PROMISES.read_text(), re.M)
     named = {name for block in blocks for name in code(block)}
-    yield from ((PROMISES, "no such edit: " + name) for name in sorted(named - set(edits())))
-    yield from ((PROMISES, "edit not named: " + name) for name in sorted(set(edits()) - named))
+    yield from ((PROMISES, ("no such edit: " if name in named else "edit not named: ") + name) for name in sorted(named ^ set(edits())))
 
 
 def functions():
@@ -153,7 +146,8 @@ def check_links():
 
 
 def cases(*lists):
-    text = "".join((CRATES / file).read_text() for file in CASES)
+    """How many computed cases some lists have."""
+    text = "".join(file.read_text() for crate in ("hypoplactic", "examples") for file in CRATES.glob(crate + "/specs/*.antt"))
     bodies = [re.search(rf"^{name} =(.*?)(?=^\S|\Z)", text, re.M | re.S).group(1) for name in lists]
     return sum(len(re.findall(r"^ *(?:∷ )?case\b", body, re.M)) for body in bodies)
 
