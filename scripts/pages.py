@@ -6,7 +6,8 @@
 A path in backticks has a slash or one of SUFFIXES. It is looked for below the root, crates/, crates/hypoplactic/, the page's directory, each
 directory that its section or one around it names in backticks with a slash at the end, and the directory of the path before it in its line. What is
 built (target/) or installed (PREFIX/) is not looked for. In docs/PROMISES.md the last cell of a row has the row's file: its names in code stand
-there, and are declared there or in a file that the section names. A name in code below "Ruled out:" is a must-fail edit. Standard library only.
+there, and are declared there or in a file that the section names. A name in code below "Ruled out:" is a must-fail edit. A block of code whose
+fence names a file has lines of that file only. Standard library only.
 """
 import re
 import sys
@@ -21,6 +22,8 @@ PROGRAMS = {"ribbon", "cases", "word_operations", "ribbon_operations", "brute", 
 # How a name stands in a file, and how it is declared: a function, a type or a field of the code; a definition or a theorem.
 STANDS = r"(?<![\w-])NAME(?![\w-])"
 DECLARED = r"\b(fn|struct|enum) NAME\b|^ *pub NAME:|^ *(abbrev |unfoldable )?(pub )?((record|data) )?NAME [:({]"
+EDITS = [edit.stem for edit in CRATES.glob("*/must-fail/*.edit")]
+EXPORTED = re.findall(r"^luchtrav_\w+ (luchtrav_\w+)\(", (ROOT / "include/luchtrav.h").read_text(), re.M)
 # As in: document 01, "Lines", "The program".
 CITATION = re.compile(r'document 01(?:\'s table)?,? \(?((?:"[^"]+"(?:, )?)+)')
 
@@ -31,8 +34,7 @@ def pages():
 
 def prose(page):
     """A page without its blocks of code."""
-    text = re.sub(r"^```.*?^```$", "", page.read_text(), flags=re.M | re.S)
-    return "\n".join(line for line in text.split("\n") if not line.startswith("    "))
+    return re.sub(r"(?ms)^```.*?^```$|^    [^\n]*", "", page.read_text())
 
 
 def sections(page):
@@ -49,8 +51,8 @@ def titles(page):
 
 
 def rows(text):
-    """The rows of tables, without heads and rules."""
-    return [row for row in re.findall(r"^\|.*$(?!\n\|-)", text, re.M) if not row.startswith("|-")]
+    """The rows of tables that have a column of files."""
+    return [row for table in re.findall(r"^\|.*\| file \|\n\|[-|]+\n((?:\|.*\n?)+)", text, re.M) for row in table.splitlines()]
 
 
 def code(text):
@@ -97,14 +99,10 @@ def check_rows():
                     yield PROMISES, f"{name} is not in the row's file, or declared in no file that row or section names: {row}"
 
 
-def edits():
-    return [edit.stem for edit in CRATES.glob("*/must-fail/*.edit")]
-
-
 def check_edits():
     blocks = re.findall(r"^Ruled out:\n\n((?:[- ] .*\n?)+)", PROMISES.read_text(), re.M)
     named = {name for block in blocks for name in code(block)}
-    yield from ((PROMISES, ("no such edit: " if name in named else "edit not named: ") + name) for name in sorted(named ^ set(edits())))
+    yield from ((PROMISES, ("no such edit: " if name in named else "edit not named: ") + name) for name in sorted(named ^ set(EDITS)))
 
 
 def functions():
@@ -114,14 +112,10 @@ def functions():
     return {name: ", ".join(re.findall(r"(\w+):", taken)) for name, taken in found}
 
 
-def exported():
-    return re.findall(r"^luchtrav_\w+ (luchtrav_\w+)\(", (ROOT / "include/luchtrav.h").read_text(), re.M)
-
-
 def check_functions():
     """Each public function and each function of the header has a row; calls are shown with the arguments that they take."""
     named = set(code("\n".join(rows(prose(PROMISES)))))
-    yield from ((PROMISES, "function without a row: " + name) for name in sorted({*functions(), *exported()} - named))
+    yield from ((PROMISES, "function without a row: " + name) for name in sorted({*functions(), *EXPORTED} - named))
     for name, shown in re.findall(r"`(\w+)\(([^`]*)\)`", prose(PROMISES)):
         if functions().get(name, shown) != shown:
             yield PROMISES, f"{name} takes ({functions()[name]})"
@@ -133,6 +127,13 @@ def check_lengths():
             yield PROMISES, f"line {place} is longer than 140 characters"
     if len(README.read_text().splitlines()) > 150:
         yield README, "more than 150 lines"
+
+
+def check_quotations():
+    for page in pages():
+        for path, block in re.findall(r"^```\S* (\S+)\n(.*?)^```$", page.read_text(), re.M | re.S):
+            lines = (ROOT / path).read_text().split("\n") if (ROOT / path).exists() else []
+            yield from ((page, f"not in {path}: {line}") for line in block.rstrip("\n").split("\n") if line not in lines)
 
 
 def check_links():
@@ -152,20 +153,20 @@ def cases(*lists):
     return sum(len(re.findall(r"^ *(?:∷ )?case\b", body, re.M)) for body in bodies)
 
 
-# What pages say of the tree in figures below 1,000: the words about a number, how it is counted, and the only page where these words mean that.
+# What pages say of the tree in figures below 1,000: the words about a number, its count, and the only page where these words mean that.
 FIGURES = [
-    ("# must-fail edits", lambda: len(edits()), None),
-    ("of their # names", lambda: len(set(edits())), PROMISES),
-    ("# stand in two crates", lambda: len(edits()) - len(set(edits())), PROMISES),
-    ("# crates", lambda: len(list(CRATES.iterdir())), None),
-    ("# (?:C )?functions", lambda: len(exported()), None),
-    ("# files", lambda: len(list(CRATES.glob("cases/data/*"))), README),
-    ("# calls", lambda: sum(len(table.read_text().splitlines()) for table in CRATES.glob("*/data/table")), README),
-    ("# starred cases", lambda: cases("starredCases"), None),
-    ("# worked examples", lambda: cases("workedCases"), None),
-    ("# checked words", lambda: cases("refusalCases"), None),
-    ("# (?:more )?(?:cases|fix)", lambda: cases("orderCases", "valueCases", "lineCases", "sharedCases"), README),
-    ("# tests of the (?:Python )?binding", lambda: (ROOT / "bindings/python/test_luchtrav.py").read_text().count("def test_"), None),
+    ("# must-fail edits", len(EDITS), None),
+    ("of their # names", len(set(EDITS)), PROMISES),
+    ("# stand in two crates", len(EDITS) - len(set(EDITS)), PROMISES),
+    ("# crates", len(list(CRATES.iterdir())), None),
+    ("# (?:C )?functions", len(EXPORTED), None),
+    ("# files", len(list(CRATES.glob("cases/data/*"))), README),
+    ("# calls", sum(len(table.read_text().splitlines()) for table in CRATES.glob("*/data/table")), README),
+    ("# starred cases", cases("starredCases"), None),
+    ("# worked examples", cases("workedCases"), None),
+    ("# checked words", cases("refusalCases"), None),
+    ("# (?:more )?(?:cases|fix)", cases("orderCases", "valueCases", "lineCases", "sharedCases"), README),
+    ("# tests of the (?:Python )?binding", (ROOT / "bindings/python/test_luchtrav.py").read_text().count("def test_"), None),
 ]
 
 
@@ -173,8 +174,8 @@ def check_figures():
     for words, count, only in FIGURES:
         for page in [only] if only else pages():
             for said in re.findall(words.replace("#", r"(?<![\d,])(\d+)"), re.sub(r"\s+", " ", page.read_text()), re.I):
-                if int(said) != count():
-                    yield page, f'"{words.replace("#", said)}", where the tree has {count()}'
+                if int(said) != count:
+                    yield page, f'"{words.replace("#", said)}", where the tree has {count}'
 
 
 def check_citations():
@@ -188,9 +189,9 @@ def check_citations():
 
 
 def main():
-    checks = [check_paths, check_rows, check_edits, check_functions, check_lengths, check_links, check_figures, check_citations]
+    checks = [check_paths, check_rows, check_edits, check_functions, check_lengths, check_quotations, check_links, check_figures, check_citations]
     faults = [f"{page.relative_to(ROOT)}: {fault}" for check in checks for page, fault in check()]
-    print("\n".join(faults) or f"{len(pages())} pages, {len(rows(prose(PROMISES)))} rows, {len(functions())} functions, {len(edits())} edits")
+    print("\n".join(faults) or f"{len(pages())} pages, {len(rows(prose(PROMISES)))} rows, {len(functions())} functions, {len(EDITS)} edits")
     sys.exit(1 if faults else 0)
 
 
