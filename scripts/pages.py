@@ -5,9 +5,8 @@
 
 A path in backticks has a slash or one of SUFFIXES. It is looked for below the root, crates/, crates/hypoplactic/, the page's directory, each
 directory that its section or one around it names in backticks with a slash at the end, and the directory of the path before it in its line. What is
-built (target/) or installed (PREFIX/) is not looked for. In docs/PROMISES.md the last cell of a row has the row's file: its names in code stand
-there, and are declared there or in a file that the section names. A name in code below "Ruled out:" is a must-fail edit. A block of code whose
-fence names a file has lines of that file only. Standard library only.
+MADE is not looked for. In docs/PROMISES.md the last cell of a row has the row's file: its names in code stand there, and are declared there or in a
+file that the section names. A name in code below "Ruled out:" is a must-fail edit. A block whose fence names a file has lines of that file only.
 """
 import re
 import sys
@@ -17,6 +16,8 @@ ROOT = Path(__file__).resolve().parent.parent
 CRATES = ROOT / "crates"
 README, PROMISES, SCOPE = ROOT / "README.md", ROOT / "docs/PROMISES.md", ROOT / "docs/SCOPE.md"
 SUFFIXES = (".antt", ".rt", ".py", ".md", ".h", ".txt")
+# Built or installed.
+MADE = r"target/|PREFIX/|luchtrav/native/"
 # Programs, and what only they use: no promise of theirs has a row.
 PROGRAMS = {"ribbon", "cases", "word_operations", "ribbon_operations", "brute", "brute_moves", "notation", "plain_words"}
 # How a name stands in a file, and how it is declared: a function, a type or a field of the code; a definition or a theorem.
@@ -60,7 +61,7 @@ def code(text):
 
 
 def paths(text):
-    return [span for span in code(text) if ("/" in span or span.endswith(SUFFIXES)) and not re.match(r"target/|PREFIX/|/|.*[\s(<]", span)]
+    return [span for span in code(text) if ("/" in span or span.endswith(SUFFIXES)) and not re.match(MADE + r"|/|.*[\s(<]", span)]
 
 
 def find(path, page, context, before=""):
@@ -166,7 +167,7 @@ FIGURES = [
     ("# worked examples", cases("workedCases"), None),
     ("# checked words", cases("refusalCases"), None),
     ("# (?:more )?(?:cases|fix)", cases("orderCases", "valueCases", "lineCases", "sharedCases"), README),
-    ("# tests of the (?:Python )?binding", (ROOT / "bindings/python/test_luchtrav.py").read_text().count("def test_"), None),
+    ("# tests of the (?:Python )?binding", sum(file.read_text().count("def test_") for file in ROOT.glob("bindings/python/test*.py")), None),
 ]
 
 
