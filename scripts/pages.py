@@ -16,8 +16,7 @@ ROOT = Path(__file__).resolve().parent.parent
 CRATES = ROOT / "crates"
 README, PROMISES, SCOPE = ROOT / "README.md", ROOT / "docs/PROMISES.md", ROOT / "docs/SCOPE.md"
 SUFFIXES = (".antt", ".rt", ".py", ".md", ".h", ".txt")
-# Built or installed.
-MADE = r"target/|PREFIX/|luchtrav/native/"
+MADE = r"target/|PREFIX/|luchtrav/native/"  # built or installed
 # Programs, and what only they use: no promise of theirs has a row.
 PROGRAMS = {"ribbon", "cases", "word_operations", "ribbon_operations", "brute", "brute_moves", "notation", "plain_words"}
 # How a name stands in a file, and how it is declared: a function, a type or a field of the code; a definition or a theorem.
