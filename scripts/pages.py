@@ -14,7 +14,7 @@ from pathlib import Path
 
 ROOT = Path(__file__).resolve().parent.parent
 CRATES = ROOT / "crates"
-README, PROMISES, SCOPE = ROOT / "README.md", ROOT / "docs/PROMISES.md", ROOT / "docs/SCOPE.md"
+README, PROMISES, SCOPE, TESTS = ROOT / "README.md", ROOT / "docs/PROMISES.md", ROOT / "docs/SCOPE.md", ROOT / "docs/TESTS.md"
 SUFFIXES = (".antt", ".rt", ".py", ".md", ".h", ".txt")
 MADE = r"target/|PREFIX/|luchtrav/native/"  # built or installed
 # Programs, and what only they use: no promise of theirs has a row.
@@ -153,26 +153,26 @@ def cases(*lists):
     return sum(len(re.findall(r"^ *(?:∷ )?case\b", body, re.M)) for body in bodies)
 
 
-# What pages say of the tree in figures below 1,000: the words about a number, its count, and the only page where these words mean that.
+# What pages say of the tree in figures below 1,000: the words about a number, its count, and the only pages where these words mean that.
 FIGURES = [
     ("# must-fail edits", len(EDITS), None),
-    ("of their # names", len(set(EDITS)), PROMISES),
-    ("# stand in two crates", len(EDITS) - len(set(EDITS)), PROMISES),
+    ("of their # names", len(set(EDITS)), [PROMISES]),
+    ("# stand in two crates", len(EDITS) - len(set(EDITS)), [PROMISES]),
     ("# crates", len(list(CRATES.iterdir())), None),
     ("# (?:C )?functions", len(EXPORTED), None),
-    ("# files", len(list(CRATES.glob("cases/data/*"))), README),
-    ("# calls", sum(len(table.read_text().splitlines()) for table in CRATES.glob("*/data/table")), README),
+    ("# files", len(list(CRATES.glob("cases/data/*"))), [README, TESTS]),
+    ("# calls", sum(len(table.read_text().splitlines()) for table in CRATES.glob("*/data/table")), [README, TESTS]),
     ("# starred cases", cases("starredCases"), None),
     ("# worked examples", cases("workedCases"), None),
     ("# checked words", cases("refusalCases"), None),
-    ("# (?:more )?(?:cases|fix)", cases("orderCases", "valueCases", "lineCases", "sharedCases"), README),
+    ("# (?:more )?(?:cases|fix)", cases("orderCases", "valueCases", "lineCases", "sharedCases"), [README, TESTS]),
     ("# tests of the (?:Python )?binding", sum(file.read_text().count("def test_") for file in ROOT.glob("bindings/python/test*.py")), None),
 ]
 
 
 def check_figures():
     for words, count, only in FIGURES:
-        for page in [only] if only else pages():
+        for page in only or pages():
             for said in re.findall(words.replace("#", r"(?<![\d,])(\d+)"), re.sub(r"\s+", " ", page.read_text()), re.I):
                 if int(said) != count:
                     yield page, f'"{words.replace("#", said)}", where the tree has {count}'
