@@ -14,18 +14,23 @@
  *             step down. Tableau and recording of one shape are a pair; each pair is that of one word.
  *   line      the text of a word (W), a tableau (T) or a recording ribbon (N): a letter, numbers in decimal parted by
  *             commas, one line feed at the end. Two words of one rank have the same T line, byte for byte, exactly
- *             when they are in one class of the hypoplactic monoid.
+ *             when they are in one class of the hypoplactic monoid. Lines of a junction set with its rows (J) and of
+ *             a refusal (E) are written, and never read.
  *   Places count from 0.
  *
  * BUFFERS
  *   A buffer is a pointer followed by the number of its elements (elements, not bytes: entries have 16 bits). The
  *   pointer may be NULL where the number is 0. A buffer without 'const' is lent for writing.
  *   - Buffers of one call must not overlap, unless both are 'const'.
- *   - A result fills the first elements of a buffer; those after it keep their values, and are not looked at.
+ *   - With each function stands how many elements its outputs need; shorter ones are refused with 13. A result fills
+ *     the first elements of a buffer; those after it keep their values, and are not looked at.
  *   - After a refusal every buffer holds what it held before the call.
  *   - 1, 2 and 3 (below) are judged by the numbers of the call, before memory: where one of them refuses, no buffer
  *     is read or written, whatever its pointer and its number. A number of (size_t)-1 is refused like 1,025. A reader
  *     of lines finds its numbers in the text, which it reads. (What is not read is tested, not proved.)
+ *   - NULL with a number above 0 is memory that is not there, as is a buffer shorter than its number. Where 1, 2 or 3
+ *     refuses it is not looked at; any other call with it is outside of all that is promised here, and the program
+ *     ends by a fault where the call reads or writes it.
  *   - Nothing is kept after a call, and nothing is allocated: a call needs up to 40,000 bytes of stack.
  *   - Any function may be called from any thread at any time, each call with its own buffers.
  *
@@ -34,28 +39,50 @@
  *   number refuses the input; the values are 0 then. The checks run in rising number, except that 14 comes first, and
  *   the first that fails is the reply:
  *
- *     1   place 0             rank is not 1 to 64
- *     2   place 0             more than 1,024 letters, cells or entries
- *     3   place 0             buffers of one tableau or pair differ in length; in insertion: a used count above one
- *     4   first such place    letter outside 1 to rank
- *     5   first such place    letter smaller than the one before it in the ribbon
- *     6   first such place    mark not 0 or 1, first mark not 0, or a step down between equal letters
- *     7   first such place    entry 0, above the number of cells, or met before
- *     8   first such place    entry that rises at a step down or falls at a step right
- *     9   place 0             move index not 1 to rank - 1
- *    10   place 0             move undefined by an inversion
- *    11   place 0             no inversion, and no letter to change
- *    12   place 1024          insertion into 1,024 cells
- *    13   elements needed     an output is too short; the first in the order letters, marks, entries
- *    14   byte place          first byte that breaks the grammar of the line; the text's length when it ends early
+ *    number and name            place       what luchtrav_refusal_text says of it
+ *     0 LUCHTRAV_OK             0           success
+ *     1 LUCHTRAV_BAD_RANK       0           rank is not 1 to 64
+ *     2 LUCHTRAV_BAD_LENGTH     0           more than 1,024 letters, cells or entries
+ *     3 LUCHTRAV_BAD_PARTS      0           parts of one tableau or pair differ in length, or end before the used count
+ *     4 LUCHTRAV_BAD_LETTER     first such  letter outside 1 to rank
+ *     5 LUCHTRAV_FALLS          first such  letter smaller than the one before it in the ribbon
+ *     6 LUCHTRAV_BAD_MARK       first such  mark not 0 or 1, first mark not 0, or a step down between equal letters
+ *     7 LUCHTRAV_BAD_ENTRY      first such  entry 0, above the number of cells, or met before
+ *     8 LUCHTRAV_BAD_RECORDING  first such  entry that rises at a step down or falls at a step right
+ *     9 LUCHTRAV_BAD_INDEX      0           move index not 1 to rank - 1
+ *    10 LUCHTRAV_INVERSION      0           move undefined by an inversion
+ *    11 LUCHTRAV_NO_LETTER      0           no inversion, and no letter to change
+ *    12 LUCHTRAV_FULL           1024        insertion into 1,024 cells
+ *    13 LUCHTRAV_NO_ROOM        needed      an output is too short
+ *    14 LUCHTRAV_BAD_LINE       byte        byte that breaks the grammar of the line, or a line that ends early
  *
  *   Of two words the first is searched first, and places in the second count on from the first's length. The letter
- *   to be inserted has the used count as its place. With each function stand the numbers that it can refuse with.
+ *   to be inserted has the used count as its place. The place of 13 is the number of elements that the output needs;
+ *   the first that is too short in the order letters, marks, entries. The place of 14 is that of the first byte that
+ *   breaks the grammar, or the text's length. With each function stand the numbers that it can refuse with, in order.
  *
- * The functions are for x86-64, Linux (System V calling convention), and C99 or later.
+ * EXAMPLE
+ *   The tableau of 4323 at rank 4, its steps in words. It prints '2 down 3 right 3 down 4'.
+ *
+ *     #include <stdio.h>
+ *     #include "luchtrav.h"
+ *     int main(void) {
+ *         uint8_t word[] = {4, 3, 2, 3}, letters[4], marks[4];
+ *         luchtrav_count t = luchtrav_tableau_of_word(4, word, 4, letters, 4, marks, 4);
+ *         if (t.number != LUCHTRAV_OK) return printf("place %zu: %s\n", t.place, luchtrav_refusal_text(t.number)), 1;
+ *         for (size_t i = 0; i < t.count; i++)
+ *             printf("%s%d", i == 0 ? "" : marks[i] ? " down " : " right ", letters[i]);
+ *         return printf("\n"), 0;
+ *     }
+ *
+ *   gcc example.c -lluchtrav, where the library is installed; else with -I, and libluchtrav.a in the place of the last.
  */
 #ifndef LUCHTRAV_H
 #define LUCHTRAV_H
+
+#if !defined(__x86_64__) || !defined(__linux__) || defined(__ILP32__)
+#error "luchtrav.h: the library is for x86-64 Linux with 64-bit pointers, and for nothing else."
+#endif
 
 #include <stddef.h>
 #include <stdint.h>
@@ -64,13 +91,61 @@
 extern "C" {
 #endif
 
+/* The version, and the number of the interface: the shared library is libluchtrav.so.0. It goes one up whenever a
+ * program must be compiled anew to run with the library. */
+#define LUCHTRAV_VERSION "0.2.0"
+#define LUCHTRAV_INTERFACE 0
+
 /* The limits. */
 #define LUCHTRAV_RANKS 64
 #define LUCHTRAV_LETTERS 1024
 
-/* What every T, W or N line fits into, and every answer of luchtrav_answer. */
+/* Bytes that are always enough for one line, whatever its kind, and for an answer of luchtrav_answer. The longest
+ * lines, line feed included: T 5,128 bytes and W 3,082 (1,024 letters of two digits), N 4,020 (1,024 entries), J 25
+ * (a set of 19 digits, rows of two), E 44 (number and place of 20 digits each). The longest answer: 12,255. */
 #define LUCHTRAV_LINE_BYTES 8192
 #define LUCHTRAV_ANSWER_BYTES 16384
+
+/* The numbers of the table above, by name. */
+enum luchtrav_refusal {
+    LUCHTRAV_OK = 0,
+    LUCHTRAV_BAD_RANK = 1,
+    LUCHTRAV_BAD_LENGTH = 2,
+    LUCHTRAV_BAD_PARTS = 3,
+    LUCHTRAV_BAD_LETTER = 4,
+    LUCHTRAV_FALLS = 5,
+    LUCHTRAV_BAD_MARK = 6,
+    LUCHTRAV_BAD_ENTRY = 7,
+    LUCHTRAV_BAD_RECORDING = 8,
+    LUCHTRAV_BAD_INDEX = 9,
+    LUCHTRAV_INVERSION = 10,
+    LUCHTRAV_NO_LETTER = 11,
+    LUCHTRAV_FULL = 12,
+    LUCHTRAV_NO_ROOM = 13,
+    LUCHTRAV_BAD_LINE = 14
+};
+
+/* What the table says of a number; of one that is not in it "no such number". Never NULL. It is not in the library. */
+static inline const char *luchtrav_refusal_text(size_t number) {
+    switch (number) {
+    case LUCHTRAV_OK: return "success";
+    case LUCHTRAV_BAD_RANK: return "rank is not 1 to 64";
+    case LUCHTRAV_BAD_LENGTH: return "more than 1,024 letters, cells or entries";
+    case LUCHTRAV_BAD_PARTS: return "parts of one tableau or pair differ in length, or end before the used count";
+    case LUCHTRAV_BAD_LETTER: return "letter outside 1 to rank";
+    case LUCHTRAV_FALLS: return "letter smaller than the one before it in the ribbon";
+    case LUCHTRAV_BAD_MARK: return "mark not 0 or 1, first mark not 0, or a step down between equal letters";
+    case LUCHTRAV_BAD_ENTRY: return "entry 0, above the number of cells, or met before";
+    case LUCHTRAV_BAD_RECORDING: return "entry that rises at a step down or falls at a step right";
+    case LUCHTRAV_BAD_INDEX: return "move index not 1 to rank - 1";
+    case LUCHTRAV_INVERSION: return "move undefined by an inversion";
+    case LUCHTRAV_NO_LETTER: return "no inversion, and no letter to change";
+    case LUCHTRAV_FULL: return "insertion into 1,024 cells";
+    case LUCHTRAV_NO_ROOM: return "an output is too short";
+    case LUCHTRAV_BAD_LINE: return "byte that breaks the grammar of the line, or a line that ends early";
+    default: return "no such number";
+    }
+}
 
 /* What luchtrav_compare_weights says of the first word against the second. */
 enum { LUCHTRAV_EQUAL = 0, LUCHTRAV_LOWER = 1, LUCHTRAV_HIGHER = 2, LUCHTRAV_NEITHER = 3 };
@@ -119,92 +194,118 @@ typedef struct {
 
 /* ---- words --------------------------------------------------------------------------------------------------- */
 
-/* Whether a word is within the limits. Refuses 1 2 4. */
+/* Whether a word is within the limits.
+ * Refuses 1 2 4. */
 luchtrav_done luchtrav_check_word(size_t rank, const uint8_t *word, size_t word_count);
 
-/* The quasi-ribbon tableau of a word by Krob-Thibon insertion, into letters and marks; count is the cells written.
- * Refuses 1 2 4 13. */
+/* The quasi-ribbon tableau of a word by Krob-Thibon insertion; count is the cells written.
+ * Needs word_count elements in letters and in marks. Refuses 1 2 4 13. */
 luchtrav_count luchtrav_tableau_of_word(size_t rank, const uint8_t *word, size_t word_count,
                                         uint8_t *letters, size_t letters_count,
                                         uint8_t *marks, size_t marks_count);
 
-/* The recording ribbon of a word, into entries; count is the entries written. Refuses 1 2 4 13. */
+/* The recording ribbon of a word; count is the entries written.
+ * Needs word_count elements in entries. Refuses 1 2 4 13. */
 luchtrav_count luchtrav_recording_of_word(size_t rank, const uint8_t *word, size_t word_count,
                                           uint16_t *entries, size_t entries_count);
 
 /* The junction set of a word, and the rows of its tableau. Bit a - 1 is set when a occurs, a larger letter occurs,
- * and the next larger letter that occurs stands left of some a. Refuses 1 2 4. */
+ * and the next larger letter that occurs stands left of some a.
+ * Refuses 1 2 4. */
 luchtrav_junction luchtrav_junctions(size_t rank, const uint8_t *word, size_t word_count);
 
-/* Raising turns the leftmost index + 1 into index; lowering turns the rightmost index into index + 1; each in the
- * lent word, of which one letter changes. Neither is defined where some index + 1 stands left of some index (10) or
- * where there is no letter to change (11). Refuse 1 2 4 9 10 11. */
+/* Raising turns the leftmost index + 1 of the lent word into index. It is not defined where some index + 1 stands left
+ * of some index (10), or where there is no index + 1 (11).
+ * Changes one letter of the word. Refuses 1 2 4 9 10 11. */
 luchtrav_done luchtrav_raise_word(size_t rank, size_t index, uint8_t *word, size_t word_count);
+
+/* Lowering turns the rightmost index of the lent word into index + 1. It is not defined where some index + 1 stands
+ * left of some index (10), or where there is no index (11).
+ * Changes one letter of the word. Refuses 1 2 4 9 10 11. */
 luchtrav_done luchtrav_lower_word(size_t rank, size_t index, uint8_t *word, size_t word_count);
 
-/* count is how often the move can be made, one after the other: 0 where it is not defined. Refuse 1 2 4 9. */
+/* count is how often raising can be done, one time after the other: 0 where it is not defined.
+ * Refuses 1 2 4 9. */
 luchtrav_count luchtrav_raise_count_word(size_t rank, size_t index, const uint8_t *word, size_t word_count);
+
+/* count is how often lowering can be done, one time after the other: 0 where it is not defined.
+ * Refuses 1 2 4 9. */
 luchtrav_count luchtrav_lower_count_word(size_t rank, size_t index, const uint8_t *word, size_t word_count);
 
 /* Whether two words are in one class of the hypoplactic monoid; words of different rank never are.
- * Refuses 1 2 4, over both words. */
+ * Refuses 1 2 4, each over both words. */
 luchtrav_class luchtrav_same_class(size_t first_rank, const uint8_t *first, size_t first_count,
                                    size_t second_rank, const uint8_t *second, size_t second_count);
 
 /* The order of two words' weights: the sums of the first k letter counts are compared for every k.
- * Refuses 1 2 4, over both words. */
+ * Refuses 1 2 4, each over both words. */
 luchtrav_order luchtrav_compare_weights(size_t first_rank, const uint8_t *first, size_t first_count,
                                         size_t second_rank, const uint8_t *second, size_t second_count);
 
 /* ---- tableaux ------------------------------------------------------------------------------------------------ */
 
-/* Whether letters and marks are a tableau of the rank. Refuses 1 to 6. */
+/* Whether letters and marks are a tableau of the rank.
+ * Refuses 1 2 3 4 5 6. */
 luchtrav_done luchtrav_check_tableau(size_t rank, const uint8_t *letters, size_t letters_count,
                                      const uint8_t *marks, size_t marks_count);
 
 /* The column reading: columns from left to right, each from bottom to top; count is the letters written.
- * Refuses 1 to 6, 13. */
+ * Needs letters_count elements in word. Refuses 1 2 3 4 5 6 13. */
 luchtrav_count luchtrav_column_reading(size_t rank, const uint8_t *letters, size_t letters_count,
                                        const uint8_t *marks, size_t marks_count,
                                        uint8_t *word, size_t word_count);
 
-/* The moves on a tableau, in the lent letters; the marks do not change. Neither is defined where index + 1 stands
- * directly below index (10). Refuse 1 to 6, 9 10 11. */
+/* Raising of a tableau turns the first index + 1 of the lent letters into index; the marks do not change. It is not
+ * defined where index + 1 stands directly below index (10), or where there is no index + 1 (11).
+ * Changes one of the letters. Refuses 1 2 3 4 5 6 9 10 11. */
 luchtrav_done luchtrav_raise_tableau(size_t rank, size_t index, uint8_t *letters, size_t letters_count,
                                      const uint8_t *marks, size_t marks_count);
+
+/* Lowering of a tableau turns the last index of the lent letters into index + 1; the marks do not change. It is not
+ * defined where index + 1 stands directly below index (10), or where there is no index (11).
+ * Changes one of the letters. Refuses 1 2 3 4 5 6 9 10 11. */
 luchtrav_done luchtrav_lower_tableau(size_t rank, size_t index, uint8_t *letters, size_t letters_count,
                                      const uint8_t *marks, size_t marks_count);
 
-/* count is how often the move can be made, one after the other. Refuse 1 to 6, 9. */
+/* count is how often raising can be done, one time after the other: 0 where it is not defined.
+ * Refuses 1 2 3 4 5 6 9. */
 luchtrav_count luchtrav_raise_count_tableau(size_t rank, size_t index, const uint8_t *letters, size_t letters_count,
                                             const uint8_t *marks, size_t marks_count);
+
+/* count is how often lowering can be done, one time after the other: 0 where it is not defined.
+ * Refuses 1 2 3 4 5 6 9. */
 luchtrav_count luchtrav_lower_count_tableau(size_t rank, size_t index, const uint8_t *letters, size_t letters_count,
                                             const uint8_t *marks, size_t marks_count);
 
-/* A cell's letter, row and column, rows and columns from 0. The whole tableau is checked first. Refuses 1 to 6. */
+/* A cell's letter, row and column, rows and columns from 0. The whole tableau is checked first.
+ * Refuses 1 2 3 4 5 6. */
 luchtrav_cell luchtrav_look(size_t rank, const uint8_t *letters, size_t letters_count,
                             const uint8_t *marks, size_t marks_count, size_t place);
 
 /* The same of letters and marks that luchtrav_check_tableau has passed, without checking them again. Of others it
- * gives the letter, and for row and column the marks 1 and the marks 0 from place 1 to the cell. Refuses nothing. */
+ * gives the letter, and for row and column the marks 1 and the marks 0 from place 1 to the cell.
+ * Refuses nothing. */
 luchtrav_cell luchtrav_cell_at(const uint8_t *letters, size_t letters_count,
                                const uint8_t *marks, size_t marks_count, size_t place);
 
 /* ---- pairs --------------------------------------------------------------------------------------------------- */
 
-/* Whether letters, marks and entries are a pair of the rank. Refuses 1 to 8. */
+/* Whether letters, marks and entries are a pair of the rank.
+ * Refuses 1 2 3 4 5 6 7 8. */
 luchtrav_done luchtrav_check_pair(size_t rank, const uint8_t *letters, size_t letters_count,
                                   const uint8_t *marks, size_t marks_count,
                                   const uint16_t *entries, size_t entries_count);
 
 /* One letter into the pair that stands in the first 'used' elements of the three buffers, which may be longer, each
- * by itself; count is the new used count. Refuses 1 to 8, 12 13. */
+ * by itself; count is the new used count.
+ * Needs used + 1 elements in letters, in marks and in entries. Refuses 1 2 3 4 5 6 7 8 12 13. */
 luchtrav_count luchtrav_insert_letter(size_t rank, size_t used, size_t letter,
                                       uint8_t *letters, size_t letters_count,
                                       uint8_t *marks, size_t marks_count,
                                       uint16_t *entries, size_t entries_count);
 
-/* The one word whose pair this is; count is the letters written. Refuses 1 to 8, 13. */
+/* The one word whose pair this is; count is the letters written.
+ * Needs letters_count elements in word. Refuses 1 2 3 4 5 6 7 8 13. */
 luchtrav_count luchtrav_word_of_pair(size_t rank, const uint8_t *letters, size_t letters_count,
                                      const uint8_t *marks, size_t marks_count,
                                      const uint16_t *entries, size_t entries_count,
@@ -213,38 +314,58 @@ luchtrav_count luchtrav_word_of_pair(size_t rank, const uint8_t *letters, size_t
 /* ---- lines --------------------------------------------------------------------------------------------------- */
 
 /* The T line of a word's tableau in one call, which is what to store for the word's whole class; count is the bytes
- * written, here and in the writers below. Refuses 1 2 4 13. */
+ * written.
+ * Needs the bytes of the line in out, 5,128 at most. Refuses 1 2 4 13. */
 luchtrav_count luchtrav_tableau_line_of_word(size_t rank, const uint8_t *word, size_t word_count,
                                              uint8_t *out, size_t out_count);
 
-/* The W line of a word (refuses 1 2 4 13), the T line of a tableau (1 to 6, 13), the N line of a recording ribbon
- * alone (2 7 13), the J line of a word's junction set and rows (1 2 4 13). */
+/* The W line of a word; count is the bytes written.
+ * Needs the bytes of the line in out, 3,082 at most. Refuses 1 2 4 13. */
 luchtrav_count luchtrav_write_word_line(size_t rank, const uint8_t *word, size_t word_count,
                                         uint8_t *out, size_t out_count);
+
+/* The T line of a tableau; count is the bytes written.
+ * Needs the bytes of the line in out, 5,128 at most. Refuses 1 2 3 4 5 6 13. */
 luchtrav_count luchtrav_write_tableau_line(size_t rank, const uint8_t *letters, size_t letters_count,
                                            const uint8_t *marks, size_t marks_count,
                                            uint8_t *out, size_t out_count);
+
+/* The N line of a recording ribbon, which is judged alone; count is the bytes written.
+ * Needs the bytes of the line in out, 4,020 at most. Refuses 2 7 13. */
 luchtrav_count luchtrav_write_recording_line(const uint16_t *entries, size_t entries_count,
                                              uint8_t *out, size_t out_count);
+
+/* The J line of a word: its junction set and rows; count is the bytes written.
+ * Needs the bytes of the line in out, 25 at most. Refuses 1 2 4 13. */
 luchtrav_count luchtrav_write_junction_line(size_t rank, const uint8_t *word, size_t word_count,
                                             uint8_t *out, size_t out_count);
 
-/* The E line of a refusal, whatever its number and place. Refuses 13. */
+/* The E line of a refusal, whatever its number and place; count is the bytes written.
+ * Needs the bytes of the line in out, 44 at most. Refuses 13. */
 luchtrav_count luchtrav_write_refusal_line(size_t number, size_t place, uint8_t *out, size_t out_count);
 
-/* A whole W, T or N line, line feed included and nothing after it, into lent memory. An N line is judged alone.
- * Refuse 14 1 2 4 13; 14 1 2 4 5 6 13; 14 2 7 13. */
+/* A whole W line, line feed included and nothing after it, as a word; count is the letters written.
+ * Needs as many elements in letters as the line has letters, LUCHTRAV_LETTERS at most. Refuses 14 1 2 4 13. */
 luchtrav_line luchtrav_read_word_line(const uint8_t *text, size_t text_count,
                                       uint8_t *letters, size_t letters_count);
+
+/* A whole T line, line feed included and nothing after it, as a tableau; count is the cells written.
+ * Needs as many elements in letters and in marks as the line has cells, LUCHTRAV_LETTERS at most.
+ * Refuses 14 1 2 4 5 6 13. */
 luchtrav_line luchtrav_read_tableau_line(const uint8_t *text, size_t text_count,
                                          uint8_t *letters, size_t letters_count,
                                          uint8_t *marks, size_t marks_count);
+
+/* A whole N line, line feed included and nothing after it, as a recording ribbon, which is judged alone; count is the
+ * entries written.
+ * Needs as many elements in entries as the line has entries, LUCHTRAV_LETTERS at most. Refuses 14 2 7 13. */
 luchtrav_count luchtrav_read_recording_line(const uint8_t *text, size_t text_count,
                                             uint16_t *entries, size_t entries_count);
 
 /* What the program 'ribbon' prints for its whole input: the T, N, W and J lines of the word in a W line, or one
  * E line; count is the bytes written. For a text of more than 4,096 bytes that is E,14,4096, and the text is not
- * read. Refuses 13. */
+ * read.
+ * Needs the bytes of the answer in out, 12,255 at most. Refuses 13. */
 luchtrav_count luchtrav_answer(const uint8_t *text, size_t text_count, uint8_t *out, size_t out_count);
 
 #ifdef __cplusplus
