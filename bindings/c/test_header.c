@@ -1,0 +1,80 @@
+/* What include/luchtrav.h says beside its functions: names and texts of the refusal numbers, the longest lines, NULL.
+ *
+ * Prints the table of refusals as the names and luchtrav_refusal_text have it, for scripts/packages_c to hold against
+ * the table of the header's opening comment. Fails where something else is not as the header says.
+ */
+#include <stdio.h>
+#include <string.h>
+
+#include "luchtrav.h"
+
+enum { RANK = LUCHTRAV_RANKS, L = LUCHTRAV_LETTERS };
+
+static size_t wrong;
+
+static void expect(const char *what, size_t came, size_t wanted) {
+    if (came == wanted) return;
+    printf("%s: %zu, not %zu\n", what, came, wanted);
+    wrong++;
+}
+
+#define NAMED(name) {name, #name}
+
+static const struct {
+    size_t number;
+    const char *name;
+} named[] = {
+    NAMED(LUCHTRAV_OK), NAMED(LUCHTRAV_BAD_RANK), NAMED(LUCHTRAV_BAD_LENGTH), NAMED(LUCHTRAV_BAD_PARTS),
+    NAMED(LUCHTRAV_BAD_LETTER), NAMED(LUCHTRAV_FALLS), NAMED(LUCHTRAV_BAD_MARK), NAMED(LUCHTRAV_BAD_ENTRY),
+    NAMED(LUCHTRAV_BAD_RECORDING), NAMED(LUCHTRAV_BAD_INDEX), NAMED(LUCHTRAV_INVERSION), NAMED(LUCHTRAV_NO_LETTER),
+    NAMED(LUCHTRAV_FULL), NAMED(LUCHTRAV_NO_ROOM), NAMED(LUCHTRAV_BAD_LINE),
+};
+
+static void texts(void) {
+    size_t count = sizeof named / sizeof *named;
+    for (size_t i = 0; i < count; i++)
+        printf("%zu %s %s\n", named[i].number, named[i].name, luchtrav_refusal_text(named[i].number));
+    expect("text of the number after the last", (size_t)strcmp(luchtrav_refusal_text(count), "no such number"), 0);
+    expect("text of the largest number", (size_t)strcmp(luchtrav_refusal_text((size_t)-1), "no such number"), 0);
+}
+
+/* A word of 1,024 letters of two digits with as many rows as they allow has the longest line of each kind; with one
+ * byte less each is refused, and the place is the bytes needed. */
+static void longest(void) {
+    static uint8_t word[L], letters[L], marks[L], out[LUCHTRAV_ANSWER_BYTES], w_line[LUCHTRAV_LINE_BYTES];
+    static uint16_t entries[L];
+    for (size_t i = 0; i < L; i++) word[i] = (uint8_t)(RANK - i % 55);
+    expect("cells", luchtrav_tableau_of_word(RANK, word, L, letters, L, marks, L).count, L);
+    expect("entries", luchtrav_recording_of_word(RANK, word, L, entries, L).count, L);
+
+#define LONGEST(bytes, function, ...) \
+    expect(#function, luchtrav_##function(__VA_ARGS__, out, bytes).count, bytes); \
+    expect(#function ", refused", luchtrav_##function(__VA_ARGS__, out, (bytes) - 1).number, LUCHTRAV_NO_ROOM); \
+    expect(#function ", needed", luchtrav_##function(__VA_ARGS__, out, (bytes) - 1).place, bytes)
+
+    LONGEST(5128, tableau_line_of_word, RANK, word, L);
+    LONGEST(5128, write_tableau_line, RANK, letters, L, marks, L);
+    LONGEST(3082, write_word_line, RANK, word, L);
+    LONGEST(4020, write_recording_line, entries, L);
+    LONGEST(25, write_junction_line, RANK, word, L);
+    LONGEST(44, write_refusal_line, (size_t)-1, (size_t)-1);
+    size_t w_count = luchtrav_write_word_line(RANK, word, L, w_line, sizeof w_line).count;
+    LONGEST(12255, answer, w_line, w_count);
+}
+
+/* NULL where the number is 0, and where 1, 2 or 3 refuses by the numbers alone. */
+static void null(void) {
+    expect("the empty word", luchtrav_tableau_of_word(4, NULL, 0, NULL, 0, NULL, 0).number, LUCHTRAV_OK);
+    expect("rank", luchtrav_check_word(0, NULL, 4).number, LUCHTRAV_BAD_RANK);
+    expect("length", luchtrav_check_word(4, NULL, (size_t)-1).number, LUCHTRAV_BAD_LENGTH);
+    expect("parts", luchtrav_check_tableau(4, NULL, 4, NULL, 3).number, LUCHTRAV_BAD_PARTS);
+    expect("used", luchtrav_insert_letter(4, 4, 1, NULL, 4, NULL, 3, NULL, 4).number, LUCHTRAV_BAD_PARTS);
+    expect("room", luchtrav_answer(NULL, 4097, NULL, 0).place, sizeof "E,14,4096");
+}
+
+int main(void) {
+    texts();
+    longest();
+    null();
+    return wrong != 0;
+}
