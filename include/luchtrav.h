@@ -1,8 +1,8 @@
 /* luchtrav.h: quasi-ribbon words, for C.
  *
  * The kernel takes words over 1..n and answers with quasi-ribbon tableaux, recording ribbons, moves of the
- * quasi-crystal, classes and weights of the hypoplactic monoid. Every function below is proved: it ends, reads and
- * writes inside the memory that it is lent and nowhere else, and answers as this page says.
+ * quasi-crystal, classes and weights of the hypoplactic monoid. Every function of the library is proved: it ends,
+ * reads and writes inside the memory that it is lent and nowhere else, and answers as this page says.
  *
  * WORDS, TABLEAUX, RIBBONS
  *   rank      1 to 64.
@@ -28,9 +28,8 @@
  *   - 1, 2 and 3 (below) are judged by the numbers of the call, before memory: where one of them refuses, no buffer
  *     is read or written, whatever its pointer and its number. A number of (size_t)-1 is refused like 1,025. A reader
  *     of lines finds its numbers in the text, which it reads. (What is not read is tested, not proved.)
- *   - NULL with a number above 0 is memory that is not there, as is a buffer shorter than its number. Where 1, 2 or 3
- *     refuses it is not looked at; any other call with it is outside of all that is promised here, and the program
- *     ends by a fault where the call reads or writes it.
+ *   - NULL with a number above 0 is memory that is not there. Where 1, 2 or 3 refuses it is not looked at. Any other
+ *     call with it is outside of what is promised here: where the call reads or writes it, the program ends by a fault.
  *   - Nothing is kept after a call, and nothing is allocated: a call needs up to 40,000 bytes of stack.
  *   - Any function may be called from any thread at any time, each call with its own buffers.
  *
@@ -75,7 +74,9 @@
  *         return printf("\n"), 0;
  *     }
  *
- *   gcc example.c -lluchtrav, where the library is installed; else with -I, and libluchtrav.a in the place of the last.
+ *   Where Luchtrav is installed: gcc example.c $(pkg-config --cflags --libs luchtrav)
+ *
+ * The functions are for x86-64 Linux (System V calling convention), and for C99 or later and C++.
  */
 #ifndef LUCHTRAV_H
 #define LUCHTRAV_H
@@ -91,8 +92,8 @@
 extern "C" {
 #endif
 
-/* The version, and the number of the interface: the shared library is libluchtrav.so.0. It goes one up whenever a
- * program must be compiled anew to run with the library. */
+/* The version; and the number at the end of the shared library's name, which goes one up whenever a program must be
+ * compiled anew to run with the library. */
 #define LUCHTRAV_VERSION "0.2.0"
 #define LUCHTRAV_INTERFACE 0
 
@@ -125,7 +126,8 @@ enum luchtrav_refusal {
     LUCHTRAV_BAD_LINE = 14
 };
 
-/* What the table says of a number; of one that is not in it "no such number". Never NULL. It is not in the library. */
+/* What the table says of a number, and "no such number" of one that is not in it; never NULL. It is C of this header
+ * and no part of the library: tested, not proved. */
 static inline const char *luchtrav_refusal_text(size_t number) {
     switch (number) {
     case LUCHTRAV_OK: return "success";
@@ -199,7 +201,7 @@ typedef struct {
 luchtrav_done luchtrav_check_word(size_t rank, const uint8_t *word, size_t word_count);
 
 /* The quasi-ribbon tableau of a word by Krob-Thibon insertion; count is the cells written.
- * Needs word_count elements in letters and in marks. Refuses 1 2 4 13. */
+ * Needs word_count elements in letters and as many in marks. Refuses 1 2 4 13. */
 luchtrav_count luchtrav_tableau_of_word(size_t rank, const uint8_t *word, size_t word_count,
                                         uint8_t *letters, size_t letters_count,
                                         uint8_t *marks, size_t marks_count);
@@ -298,7 +300,7 @@ luchtrav_done luchtrav_check_pair(size_t rank, const uint8_t *letters, size_t le
 
 /* One letter into the pair that stands in the first 'used' elements of the three buffers, which may be longer, each
  * by itself; count is the new used count.
- * Needs used + 1 elements in letters, in marks and in entries. Refuses 1 2 3 4 5 6 7 8 12 13. */
+ * Needs used + 1 elements in each of the three. Refuses 1 2 3 4 5 6 7 8 12 13. */
 luchtrav_count luchtrav_insert_letter(size_t rank, size_t used, size_t letter,
                                       uint8_t *letters, size_t letters_count,
                                       uint8_t *marks, size_t marks_count,
@@ -345,12 +347,12 @@ luchtrav_count luchtrav_write_junction_line(size_t rank, const uint8_t *word, si
 luchtrav_count luchtrav_write_refusal_line(size_t number, size_t place, uint8_t *out, size_t out_count);
 
 /* A whole W line, line feed included and nothing after it, as a word; count is the letters written.
- * Needs as many elements in letters as the line has letters, LUCHTRAV_LETTERS at most. Refuses 14 1 2 4 13. */
+ * Needs as many elements in letters as the line has, LUCHTRAV_LETTERS at most. Refuses 14 1 2 4 13. */
 luchtrav_line luchtrav_read_word_line(const uint8_t *text, size_t text_count,
                                       uint8_t *letters, size_t letters_count);
 
 /* A whole T line, line feed included and nothing after it, as a tableau; count is the cells written.
- * Needs as many elements in letters and in marks as the line has cells, LUCHTRAV_LETTERS at most.
+ * Needs as many elements in letters, and in marks, as the line has cells, LUCHTRAV_LETTERS at most.
  * Refuses 14 1 2 4 5 6 13. */
 luchtrav_line luchtrav_read_tableau_line(const uint8_t *text, size_t text_count,
                                          uint8_t *letters, size_t letters_count,
@@ -358,7 +360,7 @@ luchtrav_line luchtrav_read_tableau_line(const uint8_t *text, size_t text_count,
 
 /* A whole N line, line feed included and nothing after it, as a recording ribbon, which is judged alone; count is the
  * entries written.
- * Needs as many elements in entries as the line has entries, LUCHTRAV_LETTERS at most. Refuses 14 2 7 13. */
+ * Needs as many elements in entries as the line has, LUCHTRAV_LETTERS at most. Refuses 14 2 7 13. */
 luchtrav_count luchtrav_read_recording_line(const uint8_t *text, size_t text_count,
                                             uint16_t *entries, size_t entries_count);
 
