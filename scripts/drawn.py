@@ -22,7 +22,7 @@ import header
 from drawn_inputs import drawn_input
 from drawn_values import Draw
 from lent_memory import Memory
-from replies import FEW, few_value, numbers, plain_reply
+from replies import FEW, few_value, plain_reply
 
 PART = 10000
 TRACE = (lambda call: print(call, flush=True)) if "--trace" in sys.argv else None
@@ -108,23 +108,23 @@ def all_parts(arguments):
             yield from pool.imap(run_part, parts_of(arguments))
 
 
-def table(came, names):
+def table(came, functions):
     """How often each function replied each number; a point where the number is none of the function's."""
     lines = ["%-22s" % "function" + "".join("%7d" % number for number in range(15))]
-    for name in names:
-        listed = [0] + numbers(name)
+    for name, function in functions.items():
+        listed = [0] + function.refusals
         lines.append("%-22s" % name + "".join("%7s" % (came[name, number] if number in listed else ".") for number in range(15)))
     for name, (field, values) in FEW.items():
         lines.append("%s: %s" % (name, ", ".join("%s %d %d times" % (field, value, came[name, "value", value]) for value in values)))
     return "\n".join(lines)
 
 
-def missing(came, names):
+def missing(came, functions):
     """Replies that never came, and numbers that came though the header does not list them."""
-    listed = [(name, number) for name in names for number in [0] + numbers(name)]
+    listed = [(name, number) for name, function in functions.items() for number in [0] + function.refusals]
     few = [(name, "value", value) for name, (_, values) in FEW.items() for value in values]
     never = ["%s %d" % (reply[0], reply[-1]) for reply in listed + few if not came[reply]]
-    other = ["%s %d" % reply for reply in came if reply[0] in names and len(reply) == 2 and reply not in listed]
+    other = ["%s %d" % reply for reply in came if reply[0] in functions and len(reply) == 2 and reply not in listed]
     return ["never came: " + ", ".join(never)] * bool(never) + ["not listed: " + ", ".join(other)] * bool(other)
 
 
@@ -135,11 +135,11 @@ def run(arguments):
         if differs:
             print(differs)
             sys.exit(1)
-    names = list(header.functions_of(None))
+    functions = header.functions_of(None)
     print("%d inputs, seed %s" % (arguments.count, arguments.seed))
-    print(table(came, names))
+    print(table(came, functions))
     print("drawn by break: " + ", ".join("%s %d" % (key[1], count) for key, count in sorted(came.items(), key=str) if key[0] == "drawn"))
-    wrong = missing(came, names)
+    wrong = missing(came, functions)
     print("\n".join(wrong + ["0 differ"]))
     sys.exit(1 if wrong else 0)
 

@@ -29,7 +29,7 @@ from drawn import called
 from drawn_inputs import drawn_input
 from drawn_values import Draw
 from fenced_memory import Claimed, Fenced, NotThere, count_of, memory_of
-from replies import numbers, plain_reply
+from replies import plain_reply
 
 # Counts above every limit; some are small ones when cut to 8, 16 or 32 bits, or when doubled.
 HUGE = [1025, 1026, 4097, 65536 + 4, 10**8, 2**31, 2**32 + 4, 2**62 + 3, 2**63, 2**63 + 4, 2**64 - 4, 2**64 - 1]
@@ -104,7 +104,7 @@ def wanted(function):
     in_place = function.name.startswith(("raise", "lower"))
     inputs = [p for p in function.parameters if p.size and p.name != "text" and (in_place or not p.lent)]
     outputs = [p for p in function.parameters if p.lent and not in_place]
-    by_numbers = [number for number in numbers(function.name) if number <= 3 and (inputs or function.name == "insert_letter")]
+    by_numbers = [number for number in function.refusals if number <= 3 and (inputs or function.name == "insert_letter")]
     given = [(CLAIMED, 0)] if outputs or function.name == "cell_at" else []
     return given + [(kind, number) for kind in (CLAIMED, HIDDEN) for number in by_numbers]
 

@@ -1,4 +1,5 @@
-"""include/luchtrav.h as data: each function with its parameters and the fields of its reply, read from the header's own text, and the library opened by it.
+"""include/luchtrav.h as data: each function with its parameters, the fields of its reply and the numbers that it can refuse with, read from the
+header's own text, and the library opened by it.
 
 A buffer of the header is two parameters, a pointer and `.._count`; here it is one, with the bytes of an element and whether it is `const`.
 """
@@ -13,7 +14,7 @@ LIBRARY = os.path.join(ROOT, "target", "library", "libluchtrav.so")
 
 # size: bytes of an element, 0 for a number. lent: whether the memory is lent for writing.
 Parameter = namedtuple("Parameter", "name size lent")
-Function = namedtuple("Function", "name parameters fields call")
+Function = namedtuple("Function", "name parameters fields refusals call")
 
 SIZES = {"uint8_t": 1, "uint16_t": 2}
 
@@ -42,10 +43,17 @@ def parameters_of(text):
     return parameters
 
 
+def refusals_of(text):
+    """The numbers of each function, in the order of its checks: what the comment above it says after 'Refuses'."""
+    above = re.findall(r"Refuses ([\d ]+|nothing)[^*]*\*/\nluchtrav_\w+ luchtrav_(\w+)\(", text)
+    return {name: [int(number) for number in said.replace("nothing", "").split()] for said, name in above}
+
+
 def functions_of(library):
     """The header's functions by name, each to be called in the library: a path, or nothing for a header without its library."""
     with open(HEADER) as file:
-        text = re.sub(r"/\*.*?\*/", "", file.read(), flags=re.S)
+        text = file.read()
+    refusals, text = refusals_of(text), re.sub(r"/\*.*?\*/", "", text, flags=re.S)
     structs = fields_of(text)
     opened = ctypes.CDLL(library) if library else None
     functions = {}
@@ -55,5 +63,5 @@ def functions_of(library):
             call = getattr(opened, "luchtrav_" + name)
             call.restype = type(struct, (ctypes.Structure,), {"_fields_": [(field, ctypes.c_uint64) for field in structs[struct]]})
             call.argtypes = [kind for p in parameters for kind in ([ctypes.c_void_p, ctypes.c_size_t] if p.size else [ctypes.c_size_t])]
-        functions[name] = Function(name, parameters, structs[struct], call)
+        functions[name] = Function(name, parameters, structs[struct], refusals[name], call)
     return functions

@@ -1,4 +1,4 @@
-"""What each function of include/luchtrav.h replies, by the plain Python (meaning.py, lines.py), and the numbers that the header lists for it.
+"""What each function of include/luchtrav.h replies, by the plain Python (meaning.py, lines.py).
 
 Arguments come as the header has them, buffers as lists; those that are lent for writing are changed in place.
 """
@@ -6,40 +6,39 @@ import lines
 import meaning
 from meaning import Refused
 
-# By function: its numbers, and the operation on lists that gives the values of its reply.
+# By function: the operation on lists that gives the values of its reply.
 OPERATIONS = {
-    "check_word": ("1 2 4", meaning.check_word),
-    "tableau_of_word": ("1 2 4 13", meaning.tableau_of_word),
-    "recording_of_word": ("1 2 4 13", meaning.recording_of_word),
-    "junctions": ("1 2 4", meaning.junctions),
-    "raise_word": ("1 2 4 9 10 11", lambda *a: meaning.move_word(True, *a)),
-    "lower_word": ("1 2 4 9 10 11", lambda *a: meaning.move_word(False, *a)),
-    "raise_count_word": ("1 2 4 9", lambda *a: meaning.count_word(True, *a)),
-    "lower_count_word": ("1 2 4 9", lambda *a: meaning.count_word(False, *a)),
-    "same_class": ("1 2 4", lambda n, v, m, w: meaning.same_class(n, m, v, w)),
-    "compare_weights": ("1 2 4", lambda n, v, m, w: meaning.compare_weights(n, m, v, w)),
-    "check_tableau": ("1 2 3 4 5 6", meaning.check_tableau),
-    "column_reading": ("1 2 3 4 5 6 13", meaning.column_reading),
-    "raise_tableau": ("1 2 3 4 5 6 9 10 11", lambda *a: meaning.move_tableau(True, *a)),
-    "lower_tableau": ("1 2 3 4 5 6 9 10 11", lambda *a: meaning.move_tableau(False, *a)),
-    "raise_count_tableau": ("1 2 3 4 5 6 9", lambda *a: meaning.count_tableau(True, *a)),
-    "lower_count_tableau": ("1 2 3 4 5 6 9", lambda *a: meaning.count_tableau(False, *a)),
-    "look": ("1 2 3 4 5 6", lambda rank, letters, marks, place: found(meaning.look_once(rank, place, letters, marks))),
-    "cell_at": ("", lambda *a: found(meaning.cell_at(*a))),
-    "check_pair": ("1 2 3 4 5 6 7 8", meaning.check_pair),
-    "insert_letter": ("1 2 3 4 5 6 7 8 12 13", meaning.insert_letter),
-    "word_of_pair": ("1 2 3 4 5 6 7 8 13", meaning.word_of_pair),
-    "tableau_line_of_word": ("1 2 4 13", lines.tableau_line_of_word),
-    "write_word_line": ("1 2 4 13", lines.write_word_line),
-    "write_tableau_line": ("1 2 3 4 5 6 13", lines.write_tableau_line),
-    "write_recording_line": ("2 7 13", lines.write_recording_line),
-    "write_junction_line": ("1 2 4 13", lines.write_junction_line),
-    "write_refusal_line": ("13", lines.write_refusal_line),
-    "read_word_line": ("1 2 4 13 14", lines.read_word_line),
-    # The header lists 3 here among 1 to 6. It cannot fall: letters and marks of the cells in a line are equally many.
-    "read_tableau_line": ("1 2 4 5 6 13 14", lines.read_tableau_line),
-    "read_recording_line": ("2 7 13 14", lines.read_recording_line),
-    "answer": ("13", lines.answer),
+    "check_word": meaning.check_word,
+    "tableau_of_word": meaning.tableau_of_word,
+    "recording_of_word": meaning.recording_of_word,
+    "junctions": meaning.junctions,
+    "raise_word": lambda *a: meaning.move_word(True, *a),
+    "lower_word": lambda *a: meaning.move_word(False, *a),
+    "raise_count_word": lambda *a: meaning.count_word(True, *a),
+    "lower_count_word": lambda *a: meaning.count_word(False, *a),
+    "same_class": lambda n, v, m, w: meaning.same_class(n, m, v, w),
+    "compare_weights": lambda n, v, m, w: meaning.compare_weights(n, m, v, w),
+    "check_tableau": meaning.check_tableau,
+    "column_reading": meaning.column_reading,
+    "raise_tableau": lambda *a: meaning.move_tableau(True, *a),
+    "lower_tableau": lambda *a: meaning.move_tableau(False, *a),
+    "raise_count_tableau": lambda *a: meaning.count_tableau(True, *a),
+    "lower_count_tableau": lambda *a: meaning.count_tableau(False, *a),
+    "look": lambda rank, letters, marks, place: found(meaning.look_once(rank, place, letters, marks)),
+    "cell_at": lambda *a: found(meaning.cell_at(*a)),
+    "check_pair": meaning.check_pair,
+    "insert_letter": meaning.insert_letter,
+    "word_of_pair": meaning.word_of_pair,
+    "tableau_line_of_word": lines.tableau_line_of_word,
+    "write_word_line": lines.write_word_line,
+    "write_tableau_line": lines.write_tableau_line,
+    "write_recording_line": lines.write_recording_line,
+    "write_junction_line": lines.write_junction_line,
+    "write_refusal_line": lines.write_refusal_line,
+    "read_word_line": lines.read_word_line,
+    "read_tableau_line": lines.read_tableau_line,
+    "read_recording_line": lines.read_recording_line,
+    "answer": lines.answer,
 }
 
 # By function: the values that it can answer with, where they are few; those of `answer` are the refusals in its E lines, 0 for four lines.
@@ -54,15 +53,10 @@ def found(values):
     return [1] + values if values else [0, 0, 0, 0]
 
 
-def numbers(name):
-    """The refusal numbers of a function."""
-    return [int(number) for number in OPERATIONS[name][0].split()]
-
-
 def plain_reply(function, arguments):
     """Every field of the reply: number, place, values; the values are 0 after a refusal."""
     try:
-        return [0, 0] + (OPERATIONS[function.name][1](*arguments) or [])
+        return [0, 0] + (OPERATIONS[function.name](*arguments) or [])
     except Refused as refusal:
         return [refusal.number, refusal.place] + [0] * (len(function.fields) - 2)
 
