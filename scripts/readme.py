@@ -5,12 +5,13 @@
 
 By the language that a fenced block of the page names:
 
-    sh        Its lines are run, in one shell that ends at the first failure, in the root of the repository. The environment has PATH, LANG and a HOME of
-              its own below target/, and nothing else. Lines of SKIPPED are not run.
-    text      Directly after a block of sh (nothing but empty lines between): the last lines that this block prints, where all of it is run. Elsewhere it
-              is a picture.
+    sh        Its lines are run, in one shell that ends at the first failure, in the root of the repository. The environment has PATH, LANG and a HOME
+              of its own below target/, and nothing else. Lines of SKIPPED are not run.
+    text      Directly after a block of sh (nothing but empty lines between): the last lines that this block prints, where all of it is run. Elsewhere
+              it is a picture.
     c         The text of bindings/c/example.c, byte for byte.
-    python    A session at the prompt: all of the page together, one after the other, are run as a doctest, with the package as it lies in bindings/python.
+    python    A session at the prompt: all of the page together, one after the other, are run as a doctest, with the package as it lies in
+              bindings/python.
 
 Other blocks are left alone. The blocks are taken in the order of the page, so a block finds what those before it made; Python comes last.
 """
