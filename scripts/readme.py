@@ -61,35 +61,37 @@ def ran(arguments, **more):
     return came.returncode, came.stdout
 
 
-# ---- each says what is wrong with a block, or nothing
+# ---- blocks
 
 
-def shell(block, expected):
-    """The lines of a block of sh, and what they must print at the end."""
+def runnable(block):
+    """The lines of a block of sh that are run; all of them are printed."""
     lines = []
     for line in block.text.splitlines():
         reason = next((why for start, why in SKIPPED.items() if line.startswith(start)), None)
-        if reason:
-            print("    not run: %s (%s)" % (line, reason))
-        else:
-            print("    " + line)
-            lines.append(line)
-    sys.stdout.flush()
+        print("    " + ("not run: %s (%s)" % (line, reason) if reason else line), flush=True)
+        lines += [] if reason else [line]
+    return lines
+
+
+def shell(lines, expected):
+    """What is wrong with lines of sh and what they print at the end, or nothing."""
     status, printed = ran(["sh", "-e", "-c", "\n".join(lines)])
     if status != 0:
         return "status %d\n%s" % (status, printed)
-    if len(lines) == len(block.text.splitlines()) and not ("\n" + printed).endswith("\n" + expected):
+    if not ("\n" + printed).endswith("\n" + expected):
         return "it does not end in\n%sbut printed\n%s" % (expected, printed)
     return None
 
 
 def example(block):
+    """What is wrong with a block of C, or nothing."""
     with open(EXAMPLE) as file:
         return None if file.read() == block.text else "it is not the text of bindings/c/example.c"
 
 
 def session(blocks):
-    """The Python of the page, at one prompt."""
+    """What is wrong with the Python of the page, at one prompt, or nothing."""
     if not all(">>> " in block.text for block in blocks):
         return "a block without a prompt"
     path = os.path.join(SCRATCH, "session.txt")
@@ -104,23 +106,26 @@ def main():
     with open(path) as file:
         blocks = blocks_of(file.read())
     os.makedirs(SCRATCH, exist_ok=True)
-    failed, python = 0, [block for block in blocks if block.language == "python"]
+    came = []
 
-    def judge(line, what, wrong):
-        nonlocal failed
-        failed += bool(wrong)
-        print("line %d, %s: %s" % (line, what, wrong or "as the page says"), flush=True)
+    def judge(block, wrong):
+        came.append(wrong)
+        print("line %d, %s: %s" % (block.line, block.language, wrong or "as the page says"), flush=True)
 
     for block, after in zip(blocks, blocks[1:] + [None]):
         if block.language == "sh":
-            judge(block.line, "sh", shell(block, after.text if after and after.language == "text" and after.follows else ""))
+            lines = runnable(block)
+            held = after and after.language == "text" and after.follows and len(lines) == block.text.count("\n")
+            if lines:
+                judge(block, shell(lines, after.text if held else ""))
         elif block.language == "c":
-            judge(block.line, "c", example(block))
+            judge(block, example(block))
+    python = [block for block in blocks if block.language == "python"]
     if python:
-        judge(python[0].line, "python", session(python))
-    shells = sum(block.language == "sh" for block in blocks)
-    print("%d blocks of sh, %d of Python: %d failed" % (shells, len(python), failed))
-    sys.exit(1 if failed or not shells else 0)
+        judge(python[0], session(python))
+    failed = sum(map(bool, came))
+    print("%d tried, %d failed" % (len(came), failed))
+    sys.exit(1 if failed or not came else 0)
 
 
 if __name__ == "__main__":
