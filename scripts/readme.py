@@ -10,7 +10,7 @@ By the language that a fenced block of the page names:
     text      Directly after a block of sh (nothing but empty lines between): the last lines that this block prints, where all of it is run. Elsewhere
               it is a picture.
     c         The text of bindings/c/example.c, byte for byte.
-    python    A session at the prompt: all of the page together, one after the other, are run as a doctest, with the package as it lies in
+    python    Lines at the prompt: all of the page together, one after the other, are run as a doctest, with the package as it lies in
               bindings/python.
 
 Other blocks are left alone. The blocks are taken in the order of the page, so a block finds what those before it made; Python comes last.
@@ -90,11 +90,11 @@ def example(block):
         return None if file.read() == block.text else "it is not the text of bindings/c/example.c"
 
 
-def session(blocks):
+def prompt(blocks):
     """What is wrong with the Python of the page, at one prompt, or nothing."""
     if not all(">>> " in block.text for block in blocks):
         return "a block without a prompt"
-    path = os.path.join(SCRATCH, "session.txt")
+    path = os.path.join(SCRATCH, "prompt.txt")
     with open(path, "w") as file:
         file.write("\n".join(block.text for block in blocks))
     status, printed = ran([sys.executable, "-B", "-m", "doctest", path], PYTHONPATH=os.path.join(ROOT, "bindings", "python"))
@@ -122,7 +122,7 @@ def main():
             judge(block, example(block))
     python = [block for block in blocks if block.language == "python"]
     if python:
-        judge(python[0], session(python))
+        judge(python[0], prompt(python))
     failed = sum(map(bool, came))
     print("%d tried, %d failed" % (len(came), failed))
     sys.exit(1 if failed or not came else 0)
