@@ -1,7 +1,6 @@
 /* Prints what to store for the whole class of a word, and whether another word is in that class. */
 #include <stdio.h>
 #include "luchtrav.h"
-
 int main(void) {
     uint8_t word[] = {4, 3, 2, 3}, other[] = {3, 2, 4, 3}, line[LUCHTRAV_LINE_BYTES];
     luchtrav_count t = luchtrav_tableau_line_of_word(4, word, 4, line, sizeof line);
