@@ -1,10 +1,13 @@
-"""What a caller hands over, as what the library takes: sequences as arrays of 8 or 16 bits, numbers as size_t.
+"""What a caller hands over, as what the library takes: sequences and buffers as arrays of 8 or 16 bits, numbers as size_t.
 
 No number is cut. One that does not fit is handed on as a number that the library refuses in its stead, at the same place.
 """
 from array import array
+from collections import abc
 from operator import index
 from typing import List, Sequence, Union
+
+from .buffers import Integers, from_buffer
 
 LARGEST = 2**64 - 1
 
@@ -12,14 +15,23 @@ LARGEST = 2**64 - 1
 Text = Union[bytes, bytearray, memoryview]
 
 
-def elements(values: Sequence[int]) -> Sequence[int]:
-    """A sequence as one that bytes() and array() take by its elements. TypeError for what is none."""
-    if isinstance(values, (bytes, bytearray, list, tuple)):
+def taken(width: int, values: Integers) -> Sequence[int]:
+    """What was given: a list or tuple of it, or, from a buffer, the bytes of integers of that width where all of them fit. TypeError for what is
+    neither sequence nor buffer: a set has no order, an iterator no length."""
+    if isinstance(values, (list, tuple)):
         return values
-    if isinstance(values, str):
-        raise TypeError("a sequence of integers is needed, not str")
-    len(values)
-    return list(values)
+    content = from_buffer(values, width)
+    if content is not None:
+        return content
+    if isinstance(values, abc.Sequence) and not isinstance(values, str):
+        return list(values)
+    raise TypeError("a sequence or a buffer of integers is needed, not %s" % type(values).__name__)
+
+
+def elements(values: Integers) -> Sequence[int]:
+    """The integers that the caller gave, whether they fit or not."""
+    given = taken(8, values)
+    return array("Q", given) if isinstance(given, (bytes, bytearray)) else given
 
 
 def fitting(limit: int, stand_in: int, values: Sequence[int]) -> List[int]:
@@ -27,31 +39,31 @@ def fitting(limit: int, stand_in: int, values: Sequence[int]) -> List[int]:
     return [value if 0 <= value <= limit else stand_in for value in map(index, values)]
 
 
-def as_bytes(stand_in: int, values: Sequence[int]) -> array:
-    taken = elements(values)
+def as_bytes(stand_in: int, values: Integers) -> "array[int]":
+    given = values if isinstance(values, (bytes, bytearray)) else taken(1, values)
     try:
-        return array("B", bytes(taken))
+        return array("B", bytes(given))
     except ValueError:
-        return array("B", fitting(255, stand_in, taken))
+        return array("B", fitting(255, stand_in, given))
 
 
-def as_letters(values: Sequence[int]) -> array:
+def as_letters(values: Integers) -> "array[int]":
     """Letters: 0 for one that fits no byte, so that 4 falls at its place."""
     return as_bytes(0, values)
 
 
-def as_marks(values: Sequence[int]) -> array:
+def as_marks(values: Integers) -> "array[int]":
     """Marks: 255 for one that fits no byte, so that 6 falls at its place."""
     return as_bytes(255, values)
 
 
-def as_entries(values: Sequence[int]) -> array:
+def as_entries(values: Integers) -> "array[int]":
     """Entries: 0 for one that does not fit 16 bits, so that 7 falls at its place."""
-    taken = list(elements(values))
+    given = taken(2, values)
     try:
-        return array("H", taken)
+        return array("H", given)
     except OverflowError:
-        return array("H", fitting(65535, 0, taken))
+        return array("H", fitting(65535, 0, given))
 
 
 def as_number(value: int) -> int:
@@ -74,13 +86,13 @@ def as_told(value: int) -> int:
     return number
 
 
-def as_text(text: Text) -> array:
+def as_text(text: Text) -> "array[int]":
     """The bytes of a line. A str has no bytes, and is a TypeError."""
     if not isinstance(text, (bytes, bytearray, memoryview)):
         raise TypeError("a line is bytes, not %s" % type(text).__name__)
     return array("B", bytes(text))
 
 
-def room(code: str, count: int) -> array:
+def room(code: str, count: int) -> "array[int]":
     """Memory to lend for an output of so many elements."""
     return array(code, [0]) * count
