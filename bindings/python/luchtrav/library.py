@@ -1,38 +1,24 @@
-"""The shared library: where it is found, its functions as include/luchtrav.h declares them, and the one way to call them."""
-import os
+"""The shared library: its functions as include/luchtrav.h declares them, and the one way to call them."""
 from array import array
-from ctypes import CDLL, Structure, c_size_t, c_uint64, c_void_p
-from typing import Any, Union
+from ctypes import CDLL, c_size_t, c_void_p
+from operator import index
+from typing import Any, Dict, List, Optional, Tuple, Union
 
+from .buffers import Integers
+from .lending import elements
+from .places import LIBRARY
 from .refusal import Refusal
+from .replies import Cell, Class, Count, Done, Junction, Line, Order
 
 LETTERS = 1024
 LINE_BYTES = 8192
 ANSWER_BYTES = 16384
 
-ROOT = os.path.dirname(os.path.dirname(os.path.dirname(os.path.dirname(os.path.abspath(__file__)))))
-PATH = os.environ.get("LUCHTRAV_LIBRARY") or os.path.join(ROOT, "target", "library", "libluchtrav.so")
-
-
-def reply(name: str, *values: str) -> Any:
-    """A struct of the header: number, place, then its values. All of them have 64 bits."""
-    fields = [(field, c_uint64 if field == "set" else c_size_t) for field in ("number", "place") + values]
-    return type(name, (Structure,), {"_fields_": fields})
-
-
-Done = reply("Done")
-Count = reply("Count", "count")
-Class = reply("Class", "same")
-Order = reply("Order", "order")
-Junction = reply("Junction", "set", "rows")
-Line = reply("Line", "rank", "count")
-Cell = reply("Cell", "found", "letter", "row", "column")
-
 # A number, and a buffer: its address and the number of its elements.
-N = [c_size_t]
-B = [c_void_p, c_size_t]
+N: List[Any] = [c_size_t]
+B: List[Any] = [c_void_p, c_size_t]
 
-FUNCTIONS = {
+FUNCTIONS: Dict[str, Tuple[Any, List[Any]]] = {
     "check_word": (Done, N + B),
     "tableau_of_word": (Count, N + B + B + B),
     "recording_of_word": (Count, N + B + B),
@@ -66,29 +52,48 @@ FUNCTIONS = {
     "answer": (Count, B + B),
 }
 
+HOW = "Make it with scripts/library in the repository, or name another in the environment variable LUCHTRAV_LIBRARY."
 
-def opened(path: str) -> Any:
+
+def opened(path: str) -> Dict[str, Any]:
     """The library's functions by name, each with its types."""
+    functions = {}
     try:
         library = CDLL(path)
     except OSError as error:
-        raise ImportError(
-            "luchtrav: no library at %s (%s). Build it with scripts/library, or name another in LUCHTRAV_LIBRARY." % (path, error)
-        ) from error
-    functions = {}
+        raise ImportError("luchtrav: no library at %s (%s). %s" % (path, error, HOW)) from error
     for name, (result, parameters) in FUNCTIONS.items():
-        function = getattr(library, "luchtrav_" + name)
+        try:
+            function = getattr(library, "luchtrav_" + name)
+        except AttributeError as error:
+            raise ImportError("luchtrav: the library at %s has no function luchtrav_%s. %s" % (path, name, HOW)) from error
         function.restype, function.argtypes = result, parameters
         functions[name] = function
     return functions
 
 
-CALLS = opened(PATH)
+CALLS = opened(LIBRARY)
+
+# What a caller gave as letters, as marks or as entries, in the order in which places count.
+Given = Tuple[Integers, ...]
 
 
-def ask(name: str, *arguments: Union[int, array]) -> Any:
-    """The reply of a function, or its refusal as an exception. An array is lent as address and number of elements; `arguments` keeps it alive."""
-    passed: list = []
+def value_at(place: int, given: Given) -> Optional[int]:
+    """The number that was refused, as the caller gave it; places in a second word count on from the first's length."""
+    for values in given:
+        numbers = elements(values)
+        if place < len(numbers):
+            return index(numbers[place])
+        place -= len(numbers)
+    return None
+
+
+def ask(
+    name: str, *arguments: Union[int, "array[int]"], caller: str = "", letters: Given = (), marks: Given = (), entries: Given = ()
+) -> Any:
+    """The reply of a function, or its refusal as an exception, which names the caller where that has another name. An array is lent as address and
+    number of elements; `arguments` keeps it alive. What was given as letters, marks and entries serves the exception's text."""
+    passed: List[int] = []
     for argument in arguments:
         if isinstance(argument, array):
             passed.extend(argument.buffer_info())
@@ -96,5 +101,6 @@ def ask(name: str, *arguments: Union[int, array]) -> Any:
             passed.append(argument)
     said = CALLS[name](*passed)
     if said.number:
-        raise Refusal(said.number, said.place)
+        judged = {4: letters, 5: letters, 6: marks, 7: entries, 8: entries}.get(said.number, ())
+        raise Refusal(said.number, said.place, caller or name, value_at(said.place, judged))
     return said

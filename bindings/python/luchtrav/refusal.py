@@ -1,10 +1,11 @@
-"""The exception that stands for every refusal of the kernel."""
+"""The exception that stands for every refusal of the kernel, and what its numbers mean."""
+from typing import Dict, Optional
 
-# What each number says, as in include/luchtrav.h.
-MEANINGS = {
+# What each number says, word for word as luchtrav_refusal_text of include/luchtrav.h.
+MEANINGS: Dict[int, str] = {
     1: "rank is not 1 to 64",
     2: "more than 1,024 letters, cells or entries",
-    3: "parts of one tableau or pair differ in length",
+    3: "parts of one tableau or pair differ in length, or end before the used count",
     4: "letter outside 1 to rank",
     5: "letter smaller than the one before it in the ribbon",
     6: "mark not 0 or 1, first mark not 0, or a step down between equal letters",
@@ -19,16 +20,45 @@ MEANINGS = {
 }
 
 
-class Refusal(Exception):
-    """The kernel refused an input: `number` says why (1 to 14), `place` where (places count from 0)."""
+def shown(value: int) -> str:
+    """A number in decimal, and of one that has more than 64 bits how many: Python prints no number of many thousand digits."""
+    bits = value.bit_length()
+    return str(int(value)) if bits <= 64 else "a number of %d bits" % bits
+
+
+class Refusal(ValueError):
+    """The kernel refused an input.
+
+    number      why: luchtrav.MEANINGS has the meaning of each
+    place       where; places count from 0
+    function    the name of the function that refused
+    value       the letter, mark or entry at the place, as the caller gave it, where 4 to 8 refuse a word, a tableau, a pair or a recording ribbon;
+                else, and where a line was read, None
+
+    Two refusals are equal when number and place are: `refusal == Refusal(4, 2)`.
+    """
 
     number: int
     place: int
+    function: str
+    value: Optional[int]
 
-    def __init__(self, number: int, place: int) -> None:
-        super().__init__(number, place)
+    def __init__(self, number: int, place: int, function: str = "", value: Optional[int] = None) -> None:
+        super().__init__(number, place, function, value)
         self.number = number
         self.place = place
+        self.function = function
+        self.value = value
+
+    def __eq__(self, other: object) -> bool:
+        if not isinstance(other, Refusal):
+            return NotImplemented
+        return (self.number, self.place) == (other.number, other.place)
+
+    def __hash__(self) -> int:
+        return hash((self.number, self.place))
 
     def __str__(self) -> str:
-        return "refusal %d, place %d: %s" % (self.number, self.place, MEANINGS[self.number])
+        function = self.function + ": " if self.function else ""
+        value = "" if self.value is None else " (%s)" % shown(self.value)
+        return "%srefusal %d at place %d: %s%s" % (function, self.number, self.place, MEANINGS.get(self.number, "no such number"), value)
