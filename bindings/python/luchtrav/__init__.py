@@ -1,29 +1,58 @@
-"""Quasi-ribbon words: the proved kernel of the hypoplactic monoid, over its C interface (include/luchtrav.h).
+"""Quasi-ribbon words: the proved kernel of the hypoplactic monoid, over its C interface (luchtrav.h).
 
-Every function of the header stands here under its name without the prefix. Words, letters, marks and entries are sequences of integers (lists, bytes),
-and come back as lists; the caller's own are never changed. Lines are bytes, in and out. A refusal of the kernel is the exception Refusal. Memory for
-outputs is lent by the binding, so that 13 does not arise.
+Every function of the header stands here under its name without the prefix.
+
+Words, letters, marks and entries are sequences of integers (lists, tuples, bytes) or buffers of them (array.array, memoryview, numpy arrays); sets,
+dicts, iterators and strings are a TypeError. Words, readings and recording ribbons come back as lists, a Tableau and a Pair as tuples, which hash;
+one Tableau stands for letters and marks wherever these are taken, one Pair for letters, marks and entries. What the caller hands over is never
+changed. Lines are bytes, in and out.
+
+A refusal of the kernel is the exception Refusal, a ValueError, with a number and a place. Places count from 0; the checks run in rising number,
+except that 14 comes first. MEANINGS has the numbers too:
+
+     1  rank is not 1 to 64
+     2  more than 1,024 letters, cells or entries
+     3  parts of one tableau or pair differ in length, or end before the used count
+     4  letter outside 1 to rank
+     5  letter smaller than the one before it in the ribbon
+     6  mark not 0 or 1, first mark not 0, or a step down between equal letters
+     7  entry 0, above the number of cells, or met before
+     8  entry that rises at a step down or falls at a step right
+     9  move index not 1 to rank - 1
+    10  move undefined by an inversion
+    11  no inversion, and no letter to change
+    12  insertion into 1,024 cells
+    13  an output is too short
+    14  byte that breaks the grammar of the line, or a line that ends early
+
+4 to 8 have the first such place, 12 the place 1024, 14 that of the byte or the line's length, all others 0. Of two words the first is searched first,
+and places in the second count on from the first's length; a letter to be inserted has the number of cells as its place. Memory for outputs is lent by
+the binding, so that 13 does not arise.
 
 A letter that fits no byte is handed on as 0, a mark as 255, an entry that does not fit 16 bits as 0, a rank, index or inserted letter that fits no
-size_t as 0: so the kernel refuses them (4, 6, 7, 1, 9) at their place. A place that fits no size_t is one without a cell. What is no integer is a
+size_t as 0: so the kernel refuses them (4, 6, 7, 1, 9, 4) at their place. A place that fits no size_t is one without a cell. What is no integer is a
 TypeError.
 """
 from .lines import (
-    answer, read_recording_line, read_tableau_line, read_word_line, tableau_line_of_word, write_junction_line, write_recording_line, write_refusal_line,
-    write_tableau_line, write_word_line,
+    answer, read_recording_line, read_tableau_line, read_word_line, tableau_line_of_word, write_junction_line, write_recording_line,
+    write_refusal_line, write_tableau_line, write_word_line,
 )
 from .pairs import check_pair, insert_letter, word_of_pair
-from .refusal import Refusal
+from .places import HEADER, version_in
+from .refusal import MEANINGS, Refusal
 from .tableaux import (
     cell_at, check_tableau, column_reading, look, lower_count_tableau, lower_tableau, raise_count_tableau, raise_tableau,
 )
 from .values import Cell, Junctions, Pair, Tableau
 from .words import (
-    check_word, compare_weights, junctions, lower_count_word, lower_word, raise_count_word, raise_word, recording_of_word, same_class, tableau_of_word,
+    check_word, compare_weights, junctions, lower_count_word, lower_word, raise_count_word, raise_word, recording_of_word, same_class,
+    tableau_of_word,
 )
 
+__version__ = version_in(HEADER)
+
 __all__ = [
-    "Cell", "Junctions", "Pair", "Refusal", "Tableau", "answer", "cell_at", "check_pair", "check_tableau", "check_word", "column_reading",
+    "Cell", "Junctions", "MEANINGS", "Pair", "Refusal", "Tableau", "answer", "cell_at", "check_pair", "check_tableau", "check_word", "column_reading",
     "compare_weights", "insert_letter", "junctions", "look", "lower_count_tableau", "lower_count_word", "lower_tableau", "lower_word",
     "raise_count_tableau", "raise_count_word", "raise_tableau", "raise_word", "read_recording_line", "read_tableau_line", "read_word_line",
     "recording_of_word", "same_class", "tableau_line_of_word", "tableau_of_word", "word_of_pair", "write_junction_line", "write_recording_line",

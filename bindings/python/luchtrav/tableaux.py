@@ -1,61 +1,133 @@
-"""Operations on tableaux, given as letters and marks in ribbon order."""
-from typing import Any, List, Optional, Sequence
+"""Operations on tableaux, given as letters and marks in ribbon order or as one Tableau."""
+from typing import List, Optional, Tuple, Union, cast, overload
 
+from . import replies
+from .buffers import Integers
 from .lending import as_letters, as_marks, as_number, as_place, room
 from .library import ask
-from .values import Cell
+from .values import Cell, Tableau
+
+# Letters, or the Tableau that stands for letters and marks.
+Letters = Union[Integers, Tableau]
 
 
-def check_tableau(rank: int, letters: Sequence[int], marks: Sequence[int]) -> None:
-    """Whether letters and marks are a tableau of the rank: silent, or refuses with 1 to 6."""
-    ask("check_tableau", as_number(rank), as_letters(letters), as_marks(marks))
+def parts_of(letters: Letters, marks: Optional[Integers]) -> Tuple[Integers, Integers]:
+    """Letters and marks, however they were given."""
+    if isinstance(letters, Tableau) and marks is None:
+        return letters.letters, letters.marks
+    if isinstance(letters, Tableau) or marks is None:
+        raise TypeError("letters and marks are needed, or one Tableau in their stead")
+    return letters, marks
 
 
-def column_reading(rank: int, letters: Sequence[int], marks: Sequence[int]) -> List[int]:
-    """The column reading: columns from left to right, each from bottom to top. Refuses 1 to 6."""
-    word = room("B", len(letters))
-    ask("column_reading", as_number(rank), as_letters(letters), as_marks(marks), word)
+@overload
+def check_tableau(rank: int, tableau: Tableau, /) -> None: ...
+@overload
+def check_tableau(rank: int, letters: Integers, marks: Integers) -> None: ...
+def check_tableau(rank: int, letters: Letters, marks: Optional[Integers] = None) -> None:
+    """Whether letters and marks, or a Tableau, are a tableau of the rank: silent, or refuses with 1 to 6."""
+    letters, marks = parts_of(letters, marks)
+    ask("check_tableau", as_number(rank), as_letters(letters), as_marks(marks), letters=(letters,), marks=(marks,))
+
+
+@overload
+def column_reading(rank: int, tableau: Tableau, /) -> List[int]: ...
+@overload
+def column_reading(rank: int, letters: Integers, marks: Integers) -> List[int]: ...
+def column_reading(rank: int, letters: Letters, marks: Optional[Integers] = None) -> List[int]:
+    """The column reading of letters and marks, or of a Tableau: columns from left to right, each from bottom to top. Refuses 1 to 6."""
+    letters, marks = parts_of(letters, marks)
+    lent = as_letters(letters)
+    word = room("B", len(lent))
+    ask("column_reading", as_number(rank), lent, as_marks(marks), word, letters=(letters,), marks=(marks,))
     return word.tolist()
 
 
-def moved(name: str, rank: int, index: int, letters: Sequence[int], marks: Sequence[int]) -> List[int]:
-    taken = as_letters(letters)
-    ask(name, as_number(rank), as_number(index), taken, as_marks(marks))
-    return taken.tolist()
+def moved(name: str, rank: int, index: int, letters: Letters, marks: Optional[Integers]) -> Tableau:
+    letters, marks = parts_of(letters, marks)
+    lent, steps = as_letters(letters), as_marks(marks)
+    ask(name, as_number(rank), as_number(index), lent, steps, letters=(letters,), marks=(marks,))
+    return Tableau(lent.tolist(), steps.tolist())
 
 
-def raise_tableau(rank: int, index: int, letters: Sequence[int], marks: Sequence[int]) -> List[int]:
-    """The tableau's letters with the first index + 1 turned into index; its marks do not change, nor do the caller's letters. Refuses 1 to 6, 9,
-    10 where index + 1 stands directly below index, 11 where there is no index + 1."""
+@overload
+def raise_tableau(rank: int, index: int, tableau: Tableau, /) -> Tableau: ...
+@overload
+def raise_tableau(rank: int, index: int, letters: Integers, marks: Integers) -> Tableau: ...
+def raise_tableau(rank: int, index: int, letters: Letters, marks: Optional[Integers] = None) -> Tableau:
+    """The tableau, given as letters and marks or as a Tableau, with the first index + 1 turned into index; its marks do not change, nor do the
+    caller's letters. Refuses 1 to 6, 9, 10 where index + 1 stands directly below index, 11 where there is no index + 1."""
     return moved("raise_tableau", rank, index, letters, marks)
 
 
-def lower_tableau(rank: int, index: int, letters: Sequence[int], marks: Sequence[int]) -> List[int]:
-    """The tableau's letters with the last index turned into index + 1; its marks do not change, nor do the caller's letters. Refuses 1 to 6, 9,
-    10 where index + 1 stands directly below index, 11 where there is no index."""
+@overload
+def lower_tableau(rank: int, index: int, tableau: Tableau, /) -> Tableau: ...
+@overload
+def lower_tableau(rank: int, index: int, letters: Integers, marks: Integers) -> Tableau: ...
+def lower_tableau(rank: int, index: int, letters: Letters, marks: Optional[Integers] = None) -> Tableau:
+    """The tableau, given as letters and marks or as a Tableau, with the last index turned into index + 1; its marks do not change, nor do the
+    caller's letters. Refuses 1 to 6, 9, 10 where index + 1 stands directly below index, 11 where there is no index."""
     return moved("lower_tableau", rank, index, letters, marks)
 
 
-def raise_count_tableau(rank: int, index: int, letters: Sequence[int], marks: Sequence[int]) -> int:
+def repeated(name: str, rank: int, index: int, letters: Letters, marks: Optional[Integers]) -> int:
+    letters, marks = parts_of(letters, marks)
+    numbers = as_number(rank), as_number(index)
+    said: replies.Count = ask(name, *numbers, as_letters(letters), as_marks(marks), letters=(letters,), marks=(marks,))
+    return said.count
+
+
+@overload
+def raise_count_tableau(rank: int, index: int, tableau: Tableau, /) -> int: ...
+@overload
+def raise_count_tableau(rank: int, index: int, letters: Integers, marks: Integers) -> int: ...
+def raise_count_tableau(rank: int, index: int, letters: Letters, marks: Optional[Integers] = None) -> int:
     """How often raise_tableau can be made, one after the other: 0 where it is not defined. Refuses 1 to 6, 9."""
-    return ask("raise_count_tableau", as_number(rank), as_number(index), as_letters(letters), as_marks(marks)).count
+    return repeated("raise_count_tableau", rank, index, letters, marks)
 
 
-def lower_count_tableau(rank: int, index: int, letters: Sequence[int], marks: Sequence[int]) -> int:
+@overload
+def lower_count_tableau(rank: int, index: int, tableau: Tableau, /) -> int: ...
+@overload
+def lower_count_tableau(rank: int, index: int, letters: Integers, marks: Integers) -> int: ...
+def lower_count_tableau(rank: int, index: int, letters: Letters, marks: Optional[Integers] = None) -> int:
     """How often lower_tableau can be made, one after the other: 0 where it is not defined. Refuses 1 to 6, 9."""
-    return ask("lower_count_tableau", as_number(rank), as_number(index), as_letters(letters), as_marks(marks)).count
+    return repeated("lower_count_tableau", rank, index, letters, marks)
 
 
-def seen(said: Any) -> Optional[Cell]:
+def parts_and_place(letters: Letters, marks: Union[Integers, int, None], place: Optional[int]) -> Tuple[Integers, Integers, int]:
+    """Letters, marks and a place, however they were given: after a Tableau the place stands where the marks would."""
+    if isinstance(letters, Tableau) and place is None:
+        marks, place = None, cast(int, marks)
+    if place is None:
+        raise TypeError("letters, marks and a place are needed, or a Tableau and a place")
+    return (*parts_of(letters, cast(Optional[Integers], marks)), place)
+
+
+def seen(said: replies.Cell) -> Optional[Cell]:
     return Cell(said.letter, said.row, said.column) if said.found else None
 
 
-def look(rank: int, letters: Sequence[int], marks: Sequence[int], place: int) -> Optional[Cell]:
-    """The cell at a place, or None for "no such cell". The whole tableau is checked first. Refuses 1 to 6."""
-    return seen(ask("look", as_number(rank), as_letters(letters), as_marks(marks), as_place(place)))
+@overload
+def look(rank: int, tableau: Tableau, place: int, /) -> Optional[Cell]: ...
+@overload
+def look(rank: int, tableau: Tableau, /, *, place: int) -> Optional[Cell]: ...
+@overload
+def look(rank: int, letters: Integers, marks: Integers, place: int) -> Optional[Cell]: ...
+def look(rank: int, letters: Letters, marks: Union[Integers, int, None] = None, place: Optional[int] = None) -> Optional[Cell]:
+    """The cell at a place of letters and marks, or of a Tableau; None for "no such cell". The whole tableau is checked first. Refuses 1 to 6."""
+    letters, marks, place = parts_and_place(letters, marks, place)
+    return seen(ask("look", as_number(rank), as_letters(letters), as_marks(marks), as_place(place), letters=(letters,), marks=(marks,)))
 
 
-def cell_at(letters: Sequence[int], marks: Sequence[int], place: int) -> Optional[Cell]:
+@overload
+def cell_at(tableau: Tableau, place: int, /) -> Optional[Cell]: ...
+@overload
+def cell_at(tableau: Tableau, /, *, place: int) -> Optional[Cell]: ...
+@overload
+def cell_at(letters: Integers, marks: Integers, place: int) -> Optional[Cell]: ...
+def cell_at(letters: Letters, marks: Union[Integers, int, None] = None, place: Optional[int] = None) -> Optional[Cell]:
     """The same of a tableau that check_tableau has passed, without checking it again. Of other letters and marks it gives the letter, and for row
     and column the marks 1 and the marks 0 from place 1 to the cell. Refuses nothing."""
+    letters, marks, place = parts_and_place(letters, marks, place)
     return seen(ask("cell_at", as_letters(letters), as_marks(marks), as_place(place)))

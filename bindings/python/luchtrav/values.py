@@ -1,20 +1,50 @@
-"""What the functions give where it is more than a number or a list."""
-from typing import List, NamedTuple
+"""What the functions give where it is more than a number or a list. All of them are tuples: they hash, and can be keys."""
+from typing import Any, Iterable, NamedTuple, Tuple
+
+from .buffers import Integers
+from .lending import elements
 
 
-class Tableau(NamedTuple):
-    """A quasi-ribbon tableau in ribbon order: letters, and for each cell the step into it, 0 right, 1 down."""
-
-    letters: List[int]
-    marks: List[int]
+class TableauFields(NamedTuple):
+    letters: Tuple[int, ...]
+    marks: Tuple[int, ...]
 
 
-class Pair(NamedTuple):
-    """A tableau with its recording ribbon's entries beside it."""
+class Tableau(TableauFields):
+    """A quasi-ribbon tableau in ribbon order: letters, and for each cell the step into it, 0 right, 1 down.
 
-    letters: List[int]
-    marks: List[int]
-    entries: List[int]
+    It is made from any two sequences or buffers of integers, and holds tuples. Making it checks no rank and no order: check_tableau does.
+    """
+
+    __slots__ = ()
+
+    def __new__(cls, letters: Integers, marks: Integers) -> "Tableau":
+        return tuple.__new__(cls, (tuple(elements(letters)), tuple(elements(marks))))
+
+    # _replace goes through it too.
+    @classmethod
+    def _make(cls, iterable: Iterable[Any], **named: Any) -> "Tableau":
+        return cls(*iterable)
+
+
+class PairFields(NamedTuple):
+    letters: Tuple[int, ...]
+    marks: Tuple[int, ...]
+    entries: Tuple[int, ...]
+
+
+class Pair(PairFields):
+    """A tableau with its recording ribbon's entries beside it, made and held likewise; check_pair checks it."""
+
+    __slots__ = ()
+
+    def __new__(cls, letters: Integers, marks: Integers, entries: Integers) -> "Pair":
+        return tuple.__new__(cls, (tuple(elements(letters)), tuple(elements(marks)), tuple(elements(entries))))
+
+    # _replace goes through it too.
+    @classmethod
+    def _make(cls, iterable: Iterable[Any], **named: Any) -> "Pair":
+        return cls(*iterable)
 
 
 class Junctions(NamedTuple):

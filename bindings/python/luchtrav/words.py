@@ -1,6 +1,8 @@
-"""Operations on words. A word is any sequence of integers 1 to rank, bytes among them."""
-from typing import List, Sequence
+"""Operations on words. A word is a sequence or a buffer of integers 1 to rank, bytes among them."""
+from typing import List
 
+from . import replies
+from .buffers import Integers
 from .lending import as_letters, as_number, room
 from .library import ask
 from .values import Junctions, Tableau
@@ -8,69 +10,78 @@ from .values import Junctions, Tableau
 ORDERS = ("equal", "lower", "higher", "neither")
 
 
-def check_word(rank: int, word: Sequence[int]) -> None:
+def check_word(rank: int, word: Integers) -> None:
     """Whether a word is within the limits: silent, or refuses with 1 2 4."""
-    ask("check_word", as_number(rank), as_letters(word))
+    ask("check_word", as_number(rank), as_letters(word), letters=(word,))
 
 
-def tableau_of_word(rank: int, word: Sequence[int]) -> Tableau:
+def tableau_of_word(rank: int, word: Integers) -> Tableau:
     """The quasi-ribbon tableau of a word by Krob-Thibon insertion. Refuses 1 2 4."""
     taken = as_letters(word)
     letters, marks = room("B", len(taken)), room("B", len(taken))
-    ask("tableau_of_word", as_number(rank), taken, letters, marks)
+    ask("tableau_of_word", as_number(rank), taken, letters, marks, letters=(word,))
     return Tableau(letters.tolist(), marks.tolist())
 
 
-def recording_of_word(rank: int, word: Sequence[int]) -> List[int]:
+def recording_of_word(rank: int, word: Integers) -> List[int]:
     """The entries of a word's recording ribbon. Refuses 1 2 4."""
     taken = as_letters(word)
     entries = room("H", len(taken))
-    ask("recording_of_word", as_number(rank), taken, entries)
+    ask("recording_of_word", as_number(rank), taken, entries, letters=(word,))
     return entries.tolist()
 
 
-def junctions(rank: int, word: Sequence[int]) -> Junctions:
+def junctions(rank: int, word: Integers) -> Junctions:
     """The junction set of a word, and the rows of its tableau. Bit a - 1 is set when a occurs, a larger letter occurs, and the next larger
     letter that occurs stands left of some a. Refuses 1 2 4."""
-    said = ask("junctions", as_number(rank), as_letters(word))
+    said: replies.Junction = ask("junctions", as_number(rank), as_letters(word), letters=(word,))
     return Junctions(said.set, said.rows)
 
 
-def moved(name: str, rank: int, index: int, word: Sequence[int]) -> List[int]:
+def moved(name: str, rank: int, index: int, word: Integers) -> List[int]:
     taken = as_letters(word)
-    ask(name, as_number(rank), as_number(index), taken)
+    ask(name, as_number(rank), as_number(index), taken, letters=(word,))
     return taken.tolist()
 
 
-def raise_word(rank: int, index: int, word: Sequence[int]) -> List[int]:
+def raise_word(rank: int, index: int, word: Integers) -> List[int]:
     """The word with its leftmost index + 1 turned into index; the caller's word stays. Refuses 1 2 4 9, 10 where some index + 1 stands left of
     some index, 11 where there is no index + 1."""
     return moved("raise_word", rank, index, word)
 
 
-def lower_word(rank: int, index: int, word: Sequence[int]) -> List[int]:
+def lower_word(rank: int, index: int, word: Integers) -> List[int]:
     """The word with its rightmost index turned into index + 1; the caller's word stays. Refuses 1 2 4 9, 10 where some index + 1 stands left of
     some index, 11 where there is no index."""
     return moved("lower_word", rank, index, word)
 
 
-def raise_count_word(rank: int, index: int, word: Sequence[int]) -> int:
+def repeated(name: str, rank: int, index: int, word: Integers) -> int:
+    said: replies.Count = ask(name, as_number(rank), as_number(index), as_letters(word), letters=(word,))
+    return said.count
+
+
+def raise_count_word(rank: int, index: int, word: Integers) -> int:
     """How often raise_word can be made, one after the other: 0 where it is not defined. Refuses 1 2 4 9."""
-    return ask("raise_count_word", as_number(rank), as_number(index), as_letters(word)).count
+    return repeated("raise_count_word", rank, index, word)
 
 
-def lower_count_word(rank: int, index: int, word: Sequence[int]) -> int:
+def lower_count_word(rank: int, index: int, word: Integers) -> int:
     """How often lower_word can be made, one after the other: 0 where it is not defined. Refuses 1 2 4 9."""
-    return ask("lower_count_word", as_number(rank), as_number(index), as_letters(word)).count
+    return repeated("lower_count_word", rank, index, word)
 
 
-def same_class(first_rank: int, first: Sequence[int], second_rank: int, second: Sequence[int]) -> bool:
+def same_class(first_rank: int, first: Integers, second_rank: int, second: Integers) -> bool:
     """Whether two words are in one class of the hypoplactic monoid; words of different rank never are. Refuses 1 2 4, over both words; places in
     the second count on from the first's length."""
-    return ask("same_class", as_number(first_rank), as_letters(first), as_number(second_rank), as_letters(second)).same == 1
+    words = as_number(first_rank), as_letters(first), as_number(second_rank), as_letters(second)
+    said: replies.Class = ask("same_class", *words, letters=(first, second))
+    return said.same == 1
 
 
-def compare_weights(first_rank: int, first: Sequence[int], second_rank: int, second: Sequence[int]) -> str:
+def compare_weights(first_rank: int, first: Integers, second_rank: int, second: Integers) -> str:
     """The first word's weight against the second's: 'equal', 'lower', 'higher' or 'neither', by the sums of the first k letter counts for every k.
     Refuses 1 2 4, over both words; places in the second count on from the first's length."""
-    return ORDERS[ask("compare_weights", as_number(first_rank), as_letters(first), as_number(second_rank), as_letters(second)).order]
+    words = as_number(first_rank), as_letters(first), as_number(second_rank), as_letters(second)
+    said: replies.Order = ask("compare_weights", *words, letters=(first, second))
+    return ORDERS[said.order]
