@@ -1,0 +1,147 @@
+"""Tests of what callers hand over and get back: sequences, numbers that do not fit, what is refused as a type; Tableau and Pair as values and in the
+stead of their parts.
+
+    python3 bindings/python/test_arguments.py
+"""
+import copy
+import pickle
+import unittest
+from collections import UserList, deque
+from typing import Any, Callable, List, Tuple
+
+from support import Case, lu
+
+LETTERS, MARKS, ENTRIES = [2, 3, 3, 4], [0, 1, 0, 1], [3, 2, 4, 1]
+TABLEAU, PAIR = lu.Tableau(LETTERS, MARKS), lu.Pair(LETTERS, MARKS, ENTRIES)
+
+
+class Sequences(Case):
+    def test_alike(self) -> None:
+        word = [4, 3, 2, 3]
+        kinds: List[Callable[[List[int]], Any]] = [bytes, bytearray, tuple, list, UserList, deque]
+        for kind in kinds:
+            given = kind(word)
+            self.assertEqual(lu.tableau_of_word(4, given), lu.tableau_of_word(4, word))
+            self.assertEqual(lu.raise_word(4, 1, given), [4, 3, 1, 3])
+            self.assertEqual(lu.tableau_line_of_word(4, given), lu.tableau_line_of_word(4, word))
+            self.assertTrue(lu.same_class(4, given, 4, word))
+            parts = kind(LETTERS), kind(MARKS), kind(ENTRIES)
+            self.assertEqual(lu.word_of_pair(4, *parts), word)
+            self.assertEqual(lu.insert_letter(4, 1, *parts), lu.Pair([1, 2, 3, 3, 4], [0, 1, 1, 0, 1], [5, 3, 2, 4, 1]))
+        self.assertEqual(lu.write_recording_line(range(1, 4)), b"N,3,1,2,3\n")
+        self.assertEqual(lu.write_word_line(1, [True, True]), b"W,1,2,1,1\n")
+        for text in (b"W,4,1,3\n", bytearray(b"W,4,1,3\n"), memoryview(b"W,4,1,3\n")):
+            self.assertEqual(lu.read_word_line(text), (4, [3]))
+
+    def test_callers_own_stay(self) -> None:
+        word, letters, marks, entries = [3, 1, 3, 1], [2, 3], [0, 1], [2, 1]
+        lu.raise_word(3, 2, word)
+        lu.raise_tableau(4, 1, letters, marks)
+        lu.insert_letter(4, 1, letters, marks, entries)
+        lent = bytearray(b"\3\1\3\1")
+        lu.raise_word(3, 2, lent)
+        self.assertEqual((word, letters, marks, entries, lent), ([3, 1, 3, 1], [2, 3], [0, 1], [2, 1], b"\3\1\3\1"))
+
+    def test_no_sequence(self) -> None:
+        table = {1: 2, 2: 1}
+        others: Tuple[Any, ...] = (
+            {1, 2}, frozenset((1, 2)), table, table.keys(), table.values(), table.items(), iter([1, 2]), (letter for letter in (1, 2)),
+            map(int, "12"), "12", 12, 1.0, None,
+        )
+        for other in others:
+            calls: List[Tuple[Any, ...]] = [
+                (lu.check_word, 4, other), (lu.same_class, 4, [1], 4, other), (lu.column_reading, 4, other, [0, 0]), (lu.write_recording_line, other),
+                (lu.check_pair, 4, other, [0, 0], [1, 2]), (lu.Tableau, other, [0, 0]), (lu.Pair, [1, 2], [0, 0], other),
+            ]
+            for call, *arguments in calls:
+                with self.assertRaisesRegex(TypeError, "^a sequence or a buffer of integers is needed, not %s$" % type(other).__name__):
+                    call(*arguments)
+        for other in ("W,4,0\n", [87], None):
+            self.assertRaises(TypeError, lu.read_word_line, other)
+            self.assertRaises(TypeError, lu.answer, other)
+
+
+class Numbers(Case):
+    def test_that_do_not_fit(self) -> None:
+        for much in (256, 257, 2**16, 2**64 + 1, 10**40, -1, -255, -(2**63), -(10**40)):
+            self.refuses(4, 1, lu.check_word, 4, [1, much])
+            self.refuses(6, 1, lu.check_tableau, 4, [1, 2], [0, much])
+        for much in (2**16, 2**16 + 1, 2**32 + 1, 2**64 + 1, 10**40, -1, -65535, -(10**40)):
+            self.refuses(7, 1, lu.check_pair, 4, [1, 2], [0, 0], [1, much])
+        for much in (2**64, 2**64 + 1, 10**40, -1, -(2**64) + 1):
+            self.refuses(1, 0, lu.check_word, much, [1])
+            self.refuses(9, 0, lu.raise_word, 4, much, [1])
+            self.refuses(4, 2, lu.insert_letter, 4, much, [1, 2], [0, 0], [1, 2])
+            self.assertIsNone(lu.look(4, [1], [0], much))
+            self.assertIsNone(lu.cell_at([1], [0], much))
+            for numbers in ((much, 0), (0, much)):
+                self.assertRaises(ValueError, lu.write_refusal_line, *numbers)
+
+    def test_no_integers(self) -> None:
+        for other in (1.0, "1", None, b"1"):
+            self.assertRaises(TypeError, lu.check_word, other, [1])
+            self.assertRaises(TypeError, lu.check_word, 4, [1, other])
+            self.assertRaises(TypeError, lu.check_word, 4, [300, other])
+            self.assertRaises(TypeError, lu.check_tableau, 4, [1], [other])
+            self.assertRaises(TypeError, lu.write_recording_line, [other])
+            self.assertRaises(TypeError, lu.raise_word, 4, other, [1])
+            self.assertRaises(TypeError, lu.look, 4, [1], [0], other)
+            self.assertRaises(TypeError, lu.insert_letter, 4, other, [], [], [])
+            self.assertRaises(TypeError, lu.write_refusal_line, other, 0)
+
+
+class Values(Case):
+    def test_tuples(self) -> None:
+        """A Tableau and a Pair hold tuples, however they were made, and so they hash."""
+        self.assertEqual(TABLEAU, ((2, 3, 3, 4), (0, 1, 0, 1)))
+        self.assertEqual(repr(PAIR), "Pair(letters=(2, 3, 3, 4), marks=(0, 1, 0, 1), entries=(3, 2, 4, 1))")
+        made = lu.Tableau(bytes(LETTERS), memoryview(bytes(MARKS))), lu.tableau_of_word(4, [4, 3, 2, 3]), lu.Tableau._make((LETTERS, MARKS))
+        for tableau in (*made, TABLEAU._replace(letters=tuple(LETTERS)), pickle.loads(pickle.dumps(TABLEAU)), copy.deepcopy(TABLEAU)):
+            self.assertEqual(tableau, TABLEAU)
+            self.assertEqual(hash(tableau), hash(TABLEAU))
+            self.assertIs(type(tableau), lu.Tableau)
+        inserted = lu.insert_letter(4, 3, lu.insert_letter(4, 2, lu.insert_letter(4, 3, lu.insert_letter(4, 4, [], [], []))))
+        for pair in (inserted, lu.Pair._make((LETTERS, MARKS, ENTRIES)), PAIR._replace(entries=tuple(ENTRIES)), pickle.loads(pickle.dumps(PAIR))):
+            self.assertEqual(pair, PAIR)
+            self.assertEqual(hash(pair), hash(PAIR))
+            self.assertIs(type(pair), lu.Pair)
+
+    def test_keys(self) -> None:
+        classes = {lu.tableau_of_word(4, word): word for word in ([4, 3, 2, 3], [3, 2, 4, 3], [2, 3, 3, 4])}
+        self.assertEqual(len(classes), 2)
+
+    def test_tableau_for_its_parts(self) -> None:
+        calls: List[Tuple[Any, ...]] = [
+            (lu.check_tableau, (4,), ()), (lu.column_reading, (4,), ()), (lu.raise_tableau, (4, 1), ()), (lu.lower_tableau, (4, 2), ()),
+            (lu.raise_count_tableau, (4, 1), ()), (lu.lower_count_tableau, (4, 1), ()), (lu.write_tableau_line, (4,), ()), (lu.look, (4,), (2,)),
+            (lu.cell_at, (), (2,)),
+        ]
+        for call, before, after in calls:
+            try:
+                expected = call(*before, LETTERS, MARKS, *after)
+            except lu.Refusal as refusal:
+                self.refuses(refusal.number, refusal.place, call, *before, TABLEAU, *after)
+            else:
+                self.assertEqual(call(*before, TABLEAU, *after), expected)
+            for other in ((TABLEAU, MARKS), (LETTERS,), (TABLEAU, TABLEAU), (PAIR,), ((LETTERS, MARKS),)):
+                self.assertRaises(TypeError, call, *before, *other, *after)
+        self.assertEqual(lu.look(4, TABLEAU, place=3), lu.Cell(4, 2, 1))
+        self.assertEqual(lu.cell_at(TABLEAU, place=3), lu.Cell(4, 2, 1))
+        self.assertEqual(lu.look(4, letters=LETTERS, marks=MARKS, place=3), lu.Cell(4, 2, 1))
+        self.assertIsNone(lu.look(4, TABLEAU, 4))
+        self.refuses(4, 3, lu.look, 3, TABLEAU, 0)
+
+    def test_pair_for_its_parts(self) -> None:
+        lu.check_pair(4, PAIR)
+        self.assertEqual(lu.word_of_pair(4, PAIR), [4, 3, 2, 3])
+        self.assertEqual(lu.insert_letter(4, 1, PAIR), lu.insert_letter(4, 1, LETTERS, MARKS, ENTRIES))
+        self.refuses(4, 3, lu.check_pair, 3, PAIR)
+        for other in ((PAIR, MARKS), (PAIR, MARKS, ENTRIES), (LETTERS, MARKS), (LETTERS,), (TABLEAU,), (TABLEAU, ENTRIES)):
+            self.assertRaises(TypeError, lu.check_pair, 4, *other)
+            self.assertRaises(TypeError, lu.word_of_pair, 4, *other)
+            self.assertRaises(TypeError, lu.insert_letter, 4, 1, *other)
+        self.assertRaises(TypeError, lu.insert_letter, 4, LETTERS, MARKS, ENTRIES, 1)
+
+
+if __name__ == "__main__":
+    unittest.main()
