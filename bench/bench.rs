@@ -93,7 +93,7 @@ fn time(name: &str, rank: &str, letters: &str) -> Option<u128> {
     let letters = letters
         .parse()
         .ok()
-        .filter(|letters| LETTERS.contains(letters))?;
+        .filter(|letters| (1..=LETTERS[2]).contains(letters))?;
     Some(timing::nanoseconds(&operation, &Input::new(rank, letters)))
 }
 

@@ -1,5 +1,5 @@
 #!/usr/bin/env python3
-"""What a call from Python costs, in microseconds, as Markdown: the binding, the bare call through ctypes, the call from Rust.
+"""What a call from Python costs, in microseconds, as Markdown: the binding, plain Python, the bare call through ctypes, the call from Rust.
 
     bench/python_call.py
 
@@ -10,6 +10,8 @@ import os
 import random
 import subprocess
 import sys
+from array import array
+from bisect import bisect_right
 from ctypes import CDLL, Structure, c_size_t, c_void_p, create_string_buffer
 from time import perf_counter_ns
 
@@ -20,8 +22,8 @@ sys.path.insert(0, str(ROOT / "bindings" / "python"))
 import luchtrav
 
 RANK = 16
-LETTERS = (256, 1024)
-ROUNDS = 3000
+LETTERS = (8, 20, 256, 1024)
+ROUNDS = 1500
 CALLS_A_ROUND = 10
 
 SHARED = os.environ.get("LUCHTRAV_LIBRARY") or ROOT / "target/library/libluchtrav.so"
@@ -46,11 +48,39 @@ def buffers(*values):
     return [create_string_buffer(value, len(value)) for value in values]
 
 
-def ways(operation, words, call, bare_call):
-    """The operation on words of equal length: the binding from lists and from bytes, and the bare call."""
-    assert bare_call().number == 0
+def plain_tableau(word):
+    """The tableau by insertion letter by letter (Algorithm 4.2). Nothing is checked."""
+    letters, marks = [], []
+    for letter in word:
+        at = bisect_right(letters, letter)
+        letters.insert(at, letter)
+        marks.insert(at, 0)
+        if at + 1 < len(marks):
+            marks[at + 1] = 1
+    return letters, marks
+
+
+def plain_class(word, other):
+    """Whether two words have the same tableau."""
+    return plain_tableau(word) == plain_tableau(other)
+
+
+def ways(operation, words, call, plain, bare_call):
+    """The operation on words of equal length: the binding from lists, bytes and 64-bit integers, plain Python from lists, and the bare call."""
     lists = [list(word) for word in words]
-    calls = [lambda: call(*lists), lambda: call(*words), bare_call]
+    wide = [array("q", letters) for letters in lists]
+    expected = plain(*lists)
+    for given in (lists, words, wide):
+        came = call(*given)
+        assert came == (expected if isinstance(expected, bool) else luchtrav.Tableau(*expected))
+    assert bare_call().number == 0
+    calls = [
+        lambda: call(*lists),
+        lambda: call(*words),
+        lambda: call(*wide),
+        lambda: plain(*lists),
+        bare_call,
+    ]
     return operation, len(words[0]), calls
 
 
@@ -63,6 +93,7 @@ def tableau_ways(word):
         "tableau_of_word",
         [word],
         lambda given: luchtrav.tableau_of_word(RANK, given),
+        plain_tableau,
         lambda: function(RANK, first, letters, cells, letters, marks, letters),
     )
 
@@ -75,6 +106,7 @@ def class_ways(word, other):
         "same_class",
         [word, other],
         lambda given, beside: luchtrav.same_class(RANK, given, RANK, beside),
+        plain_class,
         lambda: function(RANK, first, letters, RANK, second, letters),
     )
 
@@ -85,7 +117,7 @@ def operations():
     for letters in LETTERS:
         word = bytes(draws.randint(1, RANK) for _ in range(letters))
         tableau = luchtrav.tableau_of_word(RANK, word)
-        other = bytes(luchtrav.column_reading(RANK, *tableau))
+        other = bytes(luchtrav.column_reading(RANK, tableau))
         yield tableau_ways(word)
         yield class_ways(word, other)
 
@@ -119,10 +151,10 @@ def main():
     for operation, letters, calls in measured:
         costs = [next(spent) for _ in calls]
         costs.append(from_rust(program, operation, letters))
-        cells = [f"{cost:.1f}" for cost in costs]
+        cells = [f"{cost:.2f}" for cost in costs]
         rows.append([f"`{operation}`", f"{letters:,}", *cells])
-    head = ["operation", "letters", "lists", "bytes", "bare ctypes call", "Rust"]
-    table(head, rows)
+    ways_by_name = ["lists", "bytes", "64-bit integers", "plain Python", "bare ctypes call", "Rust"]
+    table(["operation", "letters", *ways_by_name], rows)
 
 
 if __name__ == "__main__":
