@@ -1,6 +1,6 @@
 -- Where a kind of line breaks in a text (document 01, refusal 14): at the end of the longest beginning that goes on to some line of the kind.
 --     IsW, IsT, IsN          the texts that are W lines, T lines, N lines
---     Breaks Line text p     the first p bytes begin some line of the kind and the first p + 1 do not, or the text ends at p and is no line
+--     Breaks Line text p     the first p bytes begin some line of the kind; the first p + 1 do not, or the text ends at p and is no line
 -- No reader has a part in this. Assumes nothing.
 use Prim.Native.Nat.{ℕ, suc, _≤_, _<_}
 use mathlib.Core.Path.{_≡_}

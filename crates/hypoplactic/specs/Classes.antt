@@ -1,4 +1,4 @@
--- What document 01 demands of classes (demand 3), as one statement about any two words: a record whose fields are its sentences, and the claim that
+-- What the scope demands of classes (demand 3), as one statement about any two words: a record whose fields are its sentences, and the claim that
 -- it holds at every rank of any two words accepted at it.
 --     Faithful line move u v    lines and moves tell of u and v what the rewriting rules tell
 --     FaithfulLines             the demand: Faithful of tableau lines and of moves on words. Theorem `classes`, proofs/Theory/Classes.antt

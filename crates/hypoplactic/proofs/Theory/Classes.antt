@@ -1,4 +1,4 @@
--- Demand 3 of document 01, as one theorem (theorem a). The statement is `FaithfulLines` of specs/Classes.antt: lines shared exactly by joined words,
+-- Demand 3 of the scope, as one theorem (theorem a). The statement is `FaithfulLines` of specs/Classes.antt: lines shared exactly by joined words,
 -- moves that respect joining, recording ribbons that moves keep.
 --     same-tableau-joined   words of one tableau are joined
 --     faithful              the core: any line that tells tableaux apart, any set of allowed moves, no bound on rank or length

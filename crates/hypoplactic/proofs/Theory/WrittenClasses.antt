@@ -1,4 +1,4 @@
--- Demand 3 of document 01 over what is written, as one theorem. The statement is `FaithfulWriting` of specs/Classes.antt.
+-- Demand 3 of the scope over what is written, as one theorem. The statement is `FaithfulWriting` of specs/Classes.antt.
 --     line-bytes          the bytes in a buffer that is long enough are the tableau line
 --     move-left           a move leaves an accepted word accepted
 --     written-classes     the theorem
