@@ -2,7 +2,8 @@
  *
  * The kernel takes words over 1..n and answers with quasi-ribbon tableaux, recording ribbons, moves of the
  * quasi-crystal, classes and weights of the hypoplactic monoid. Every function of the library is proved: it ends,
- * reads and writes inside the memory that it is lent and nowhere else, and answers as this page says.
+ * reads and writes inside the memory that it is lent and nowhere else, and answers as this page says. (The compiler is
+ * trusted.)
  *
  * WORDS, TABLEAUX, RIBBONS
  *   rank      1 to 64.
@@ -12,10 +13,13 @@
  *             and a step down joins a smaller letter to a larger one.
  *   recording its entries in ribbon order, 16 bits each: 1 to L, each once, rising at a step right and falling at a
  *             step down. Tableau and recording of one shape are a pair; each pair is that of one word.
- *   line      the text of a word (W), a tableau (T) or a recording ribbon (N): a letter, numbers in decimal parted by
- *             commas, one line feed at the end. Two words of one rank have the same T line, byte for byte, exactly
- *             when they are in one class of the hypoplactic monoid. Lines of a junction set with its rows (J) and of
- *             a refusal (E) are written, and never read.
+ *   line      a text that ends in one line feed, its fields parted by commas, numbers in decimal:
+ *                 W,rank,L,letters                      a word
+ *                 T,rank,L,letter,step,letter,..        a tableau, steps r (right) and d (down)
+ *                 N,L,entries                           a recording ribbon
+ *                 J,set,rows and E,number,place         a junction set with rows, a refusal: never read
+ *             L is the number of letters or entries. Two words of one rank have the same T line, byte for byte,
+ *             exactly when they are in one class of the hypoplactic monoid.
  *   Places count from 0.
  *
  * BUFFERS
@@ -29,14 +33,14 @@
  *     is read or written, whatever its pointer and its number. A number of (size_t)-1 is refused like 1,025. A reader
  *     of lines finds its numbers in the text, which it reads. (What is not read is tested, not proved.)
  *   - NULL with a number above 0 is memory that is not there. Where 1, 2 or 3 refuses it is not looked at. Any other
- *     call with it is outside of what is promised here: where the call reads or writes it, the program ends by a fault.
+ *     call with it is outside of what is promised here, and most likely ends the program by a fault.
  *   - Nothing is kept after a call, and nothing is allocated: a call needs up to 40,000 bytes of stack.
  *   - Any function may be called from any thread at any time, each call with its own buffers.
  *
  * REPLIES
  *   Every reply begins with a number and a place. Number 0 is success, with place 0, and the values follow. Any other
- *   number refuses the input; the values are 0 then. The checks run in rising number, except that 14 comes first, and
- *   the first that fails is the reply:
+ *   number refuses the input; the values are 0 then. The checks run in rising number, except that 14 comes first, each
+ *   over the whole input, and the first that fails is the reply:
  *
  *    number and name            place       what luchtrav_refusal_text says of it
  *     0 LUCHTRAV_OK             0           success
@@ -74,7 +78,8 @@
  *         return printf("\n"), 0;
  *     }
  *
- *   Where Luchtrav is installed: gcc example.c $(pkg-config --cflags --libs luchtrav)
+ *   Where Luchtrav is installed: gcc example.c $(pkg-config --cflags --libs luchtrav), with -Wl,-rpath,FOLDER/lib for a
+ *   FOLDER where the loader does not look by itself.
  *
  * The functions are for x86-64 Linux (System V calling convention), and for C99 or later and C++.
  */
@@ -239,7 +244,8 @@ luchtrav_count luchtrav_lower_count_word(size_t rank, size_t index, const uint8_
 luchtrav_class luchtrav_same_class(size_t first_rank, const uint8_t *first, size_t first_count,
                                    size_t second_rank, const uint8_t *second, size_t second_count);
 
-/* The order of two words' weights: the sums of the first k letter counts are compared for every k.
+/* The order of two words' weights, whatever their ranks and lengths. LOWER: for no k has the first word more letters 1
+ * to k than the second, and for some k it has fewer; HIGHER the other way round; EQUAL: as many for every k.
  * Refuses 1 2 4, each over both words. */
 luchtrav_order luchtrav_compare_weights(size_t first_rank, const uint8_t *first, size_t first_count,
                                         size_t second_rank, const uint8_t *second, size_t second_count);
@@ -279,13 +285,15 @@ luchtrav_count luchtrav_raise_count_tableau(size_t rank, size_t index, const uin
 luchtrav_count luchtrav_lower_count_tableau(size_t rank, size_t index, const uint8_t *letters, size_t letters_count,
                                             const uint8_t *marks, size_t marks_count);
 
-/* A cell's letter, row and column, rows and columns from 0. The whole tableau is checked first.
+/* A cell's letter, row and column, rows and columns from 0; past the last cell found is 0. The whole tableau is checked
+ * first.
  * Refuses 1 2 3 4 5 6. */
 luchtrav_cell luchtrav_look(size_t rank, const uint8_t *letters, size_t letters_count,
                             const uint8_t *marks, size_t marks_count, size_t place);
 
 /* The same of letters and marks that luchtrav_check_tableau has passed, without checking them again. Of others it
- * gives the letter, and for row and column the marks 1 and the marks 0 from place 1 to the cell.
+ * gives the letter, and as row and column how many marks 1 and how many marks 0 stand from place 1 to the cell; letters
+ * and marks may differ in number.
  * Refuses nothing. */
 luchtrav_cell luchtrav_cell_at(const uint8_t *letters, size_t letters_count,
                                const uint8_t *marks, size_t marks_count, size_t place);
