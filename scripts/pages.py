@@ -4,9 +4,11 @@
     python3 scripts/pages.py      # one line of figures; or each fault in a line, and exit status 1
 
 A path in backticks has a slash or one of SUFFIXES. It is looked for below the root, crates/, crates/hypoplactic/, the page's directory, each
-directory that its section or one around it names in backticks with a slash at the end, and the directory of the path before it in its line. What is
-MADE is not looked for. In docs/PROMISES.md the last cell of a row has the row's file: its names in code stand there, and are declared there or in a
-file that the section names. A name in code below "Ruled out:" is a must-fail edit. A block whose fence names a file has lines of that file only.
+directory that its section or one around it names in backticks with a slash at the end, and the directory of the path before it in its line; what is
+MADE is not. A block whose fence names a file has lines of that file, in its order, and each declaration to its end.
+In docs/PROMISES.md a row has one file, in its last cell. Of an operation: functions of that file, their refusals, definitions that each contract
+cites. Of a theorem: public theorems of that file, and after a colon definitions that each type cites; those REQUIRED have a row. A definition is
+declared in that file or in one that the section names. A name in code below "Ruled out:" is an edit: of code before Theorems, else of a definition.
 """
 import re
 import sys
@@ -19,13 +21,18 @@ SUFFIXES = (".antt", ".rt", ".py", ".md", ".h", ".txt")
 MADE = r"target/|PREFIX/|luchtrav/native/"  # built or installed
 # Programs, and what only they use: no promise of theirs has a row.
 PROGRAMS = {"ribbon", "cases", "word_operations", "ribbon_operations", "brute", "brute_moves", "notation", "plain_words"}
-# How a name stands in a file, and how it is declared: a function, a type or a field of the code; a definition or a theorem.
+# How a name stands in a text; a function with its contract, if it has one; a theorem with its type; how a definition is declared.
 STANDS = r"(?<![\w-])NAME(?![\w-])"
+FUNCTION = r"\bfn NAME\b(?:[^{]*?\bensures)?(.*?)(?:^ *| )\{$"
+THEOREM = r"^ *pub NAME :(.*?)^ *(?:unfolding|NAME) "
 DECLARED = r"\b(fn|struct|enum) NAME\b|^ *pub NAME:|^ *(abbrev |unfoldable )?(pub )?((record|data) )?NAME [:({]"
-EDITS = [edit.stem for edit in CRATES.glob("*/must-fail/*.edit")]
-EXPORTED = re.findall(r"^luchtrav_\w+ (luchtrav_\w+)\(", (ROOT / "include/luchtrav.h").read_text(), re.M)
-# As in: document 01, "Lines", "The program".
-CITATION = re.compile(r'document 01(?:\'s table)?,? \(?((?:"[^"]+"(?:, )?)+)')
+REQUIRED = "classes written-classes word-of-pair pair-of-word word-reading read-back class-joined tableau-answer repeat-word starred outputs".split()
+EDITS = [(edit.stem, re.search(r"^file: (\w+)/", edit.read_text(), re.M).group(1)) for edit in CRATES.glob("*/must-fail/*.edit")]
+HEADER = (ROOT / "include/luchtrav.h").read_text()
+EXPORTED = re.findall(r"^luchtrav_\w+ (luchtrav_\w+)\(", HEADER, re.M)
+RENAMED = {"look": "look_once", "write_refusal_line": "write_returned_line"}  # what the header calls otherwise than the kernel
+NUMBERS = r"\d+(?:,? (?:to |and )?\d+)*"  # as in: 14, 1 to 6, 13
+CITATION = re.compile(r'document 01(?:\'s table)?,? \(?((?:"[^"]+"(?:, )?)+)')  # as in: document 01, "Lines", "The program"
 
 
 def pages():
@@ -51,8 +58,9 @@ def titles(page):
 
 
 def rows(text):
-    """The rows of tables that have a column of files."""
-    return [row for table in re.findall(r"^\|.*\| file \|\n\|[-|]+\n((?:\|.*\n?)+)", text, re.M) for row in table.splitlines()]
+    """The rows of tables that have a column of files, each as its cells."""
+    tables = re.findall(r"^\|.*\| file \|\n\|[-|]+\n((?:\|.*\n?)+)", text, re.M)
+    return [row.strip("| ").split(" | ") for table in tables for row in table.splitlines()]
 
 
 def code(text):
@@ -82,27 +90,76 @@ def check_paths():
                     before = path[:path.rfind("/") + 1] or before
 
 
-def some(form, name, files):
-    return any(re.search(form.replace("NAME", re.escape(name)), file.read_text(), re.M) for file in files)
+def search(form, name, text):
+    return re.search(form.replace("NAME", re.escape(name)), text, re.M | re.S)
+
+
+def claims(row):
+    """What a row is about: functions or theorems, each with the form of its declaration and the definitions that it cites."""
+    if len(row) == 4:
+        return [(name, FUNCTION, code(row[2])) for name in code(row[0].split(":")[0])]
+    parts = [part.partition(":") for part in row[1].split(";")]
+    return [(name, THEOREM, code(cited)) for names, _, cited in parts for name in code(names)]
 
 
 def check_rows():
     for own, context in sections(PROMISES):
         near = [file for path in paths(re.sub(r"^\|.*", "", context, flags=re.M)) for file in find(path, PROMISES, context) if file.is_file()]
         for row in rows(own):
-            *cells, last = row.strip("| ").split(" | ")
-            files = [file for path in paths(last) for file in find(path, PROMISES, context)]
-            if len(files) != 1:
-                yield PROMISES, f"a row has one file, this has {len(files)}: {row}"
-            for name in [span for span in code(" ".join(cells)) if re.fullmatch(r"[A-Za-z][\w-]*", span)]:
-                if not (some(STANDS, name, files) and some(DECLARED, name, files + near)):
-                    yield PROMISES, f"{name} is not in the row's file, or declared in no file that row or section names: {row}"
+            files = [file for path in paths(row[-1]) for file in find(path, PROMISES, context)]
+            texts = [file.read_text() for file in files + near]
+            if len(files) != 1 or not claims(row):
+                yield PROMISES, f"a row has names in code and one file, this has {len(files)}: {row}"
+            for name, form, cited in claims(row) if len(files) == 1 else []:
+                declared = search(form, name, texts[0])
+                if not declared:
+                    yield PROMISES, f"{name} is not declared in the row's file: {row}"
+                for definition in cited if declared else []:
+                    alias = search(r"\bNAME as (\w+)", definition, texts[0])
+                    if not search(STANDS, alias.group(1) if alias else definition, declared.group(1)):
+                        yield PROMISES, f"{name} does not cite {definition}: {row}"
+                    if not any(search(DECLARED, definition, text) for text in texts):
+                        yield PROMISES, f"{definition} is declared in no file that row or section names: {row}"
+    had = {name for row in rows(prose(PROMISES)) for name, form, _ in claims(row) if form == THEOREM}
+    yield from ((PROMISES, "theorem without a row: " + name) for name in REQUIRED if name not in had)
+
+
+def numbers(text):
+    return [number for low, high in re.findall(r"(\d+)(?: to (\d+))?", text) for number in range(int(low), int(high or low) + 1)]
+
+
+def listed():
+    """The refusals that specs/ of hypoplactic list for definitions: in headers, for a reply with and without memory; in comments above judgements."""
+    specs, found, told = CRATES / "hypoplactic/specs", {}, ""
+    for file in (*specs.glob("*Operations.antt"), specs / "LineReadings.antt"):
+        for names, checks in re.findall(rf"^--     (\w+(?:, \w+)*) {{2,}}({NUMBERS})", file.read_text(), re.M):
+            found.update((re.sub("(Says|Run)$", end, name), numbers(checks)) for name in names.split(", ") for end in ("Says", "Run"))
+    for comment, name in re.findall(rf"^-- ({NUMBERS})|\bpub (\w+(?:Judged|Judgements)) :", (specs / "Judgements.antt").read_text(), re.M):
+        told = comment or told
+        found[name] = numbers(told)
+    found["readTRun"].remove(3)  # a T line has as many letters as marks
+    return found
+
+
+def check_refusals():
+    """The refusals of a row are those that are listed for its definitions, and those of the header's function of that name."""
+    known, told = listed(), {}
+    for row in [row for row in rows(prose(PROMISES)) if len(row) == 4]:
+        told.update((name, numbers(row[1])) for name, _, _ in claims(row))
+        lists = [known[definition] for definition in code(row[2]) if definition in known]
+        if lists and numbers(row[1]) != sum(lists, []):
+            yield PROMISES, f"refusals other than {sum(lists, [])}: {row}"
+    for said, name in re.findall(r"Refuses ([^.]*)\. \*/\nluchtrav_\w+ luchtrav_(\w+)\(", HEADER):
+        if told.get(RENAMED.get(name, name)) != numbers(said):
+            yield PROMISES, f"refusals of {name} other than the header's {numbers(said)}"
 
 
 def check_edits():
-    blocks = re.findall(r"^Ruled out:\n\n((?:[- ] .*\n?)+)", PROMISES.read_text(), re.M)
-    named = {name for block in blocks for name in code(block)}
-    yield from ((PROMISES, ("no such edit: " if name in named else "edit not named: ") + name) for name in sorted(named ^ set(EDITS)))
+    parts = PROMISES.read_text().split("\n## Theorems\n")
+    for part, top in zip(parts, ("src", "specs")):
+        named = set(code("".join(re.findall(r"^Ruled out:\n\n((?:[- ] .*\n?)+)", part, re.M))))
+        edits = {name for name, changed in EDITS if changed == top}
+        yield from ((PROMISES, f"{'no edit' if name in named else 'edit not named'} of {top}/: {name}") for name in sorted(named ^ edits))
 
 
 def functions():
@@ -113,18 +170,18 @@ def functions():
 
 
 def check_functions():
-    """Each public function and each function of the header has a row; calls are shown with the arguments that they take."""
-    named = set(code("\n".join(rows(prose(PROMISES)))))
-    yield from ((PROMISES, "function without a row: " + name) for name in sorted({*functions(), *EXPORTED} - named))
-    for name, shown in re.findall(r"`(\w+)\(([^`]*)\)`", prose(PROMISES)):
-        if functions().get(name, shown) != shown:
-            yield PROMISES, f"{name} takes ({functions()[name]})"
+    """Each function has a row, and is called with its arguments: but the header's, those that take an answer, and lowering, which is as raising."""
+    takes, calls = functions(), re.findall(r"`([a-z]\w+)\(([^`]*)\)`", prose(PROMISES))
+    had = {name for row in rows(prose(PROMISES)) for name, form, _ in claims(row) if form == FUNCTION}
+    yield from ((PROMISES, "function without a row: " + name) for name in sorted({*takes, *EXPORTED} - had))
+    yield from ((PROMISES, f"no such call: {name}({shown})") for name, shown in calls if takes.get(name) != shown)
+    called = {*EXPORTED, *dict(calls), *(name.replace("raise", "lower") for name, _ in calls)}
+    yield from ((PROMISES, "function without a call: " + name) for name, taken in takes.items() if taken != "answer" and name not in called)
 
 
 def check_lengths():
-    for place, line in enumerate(PROMISES.read_text().split("\n"), 1):
-        if len(line) > 140:
-            yield PROMISES, f"line {place} is longer than 140 characters"
+    lines = enumerate(PROMISES.read_text().split("\n"), 1)
+    yield from ((PROMISES, f"line {place} is longer than 140 characters") for place, line in lines if len(line) > 140)
     if len(README.read_text().splitlines()) > 150:
         yield README, "more than 150 lines"
 
@@ -132,8 +189,13 @@ def check_lengths():
 def check_quotations():
     for page in pages():
         for path, block in re.findall(r"^```\S* (\S+)\n(.*?)^```$", page.read_text(), re.M | re.S):
-            lines = (ROOT / path).read_text().split("\n") if (ROOT / path).exists() else []
-            yield from ((page, f"not in {path}: {line}") for line in block.rstrip("\n").split("\n") if line not in lines)
+            left, begun = (ROOT / path).read_text().split("\n") if (ROOT / path).exists() else [], False
+            for line in block.split("\n"):  # the last is empty, and ends what was begun
+                place = left.index(line) if line in left else len(left)
+                passed = [other for other in left[:place] if not re.match(r"\s*(--|//)", other)]
+                if place == len(left) or begun and passed and passed[0].startswith(" "):
+                    yield page, f"not in {path}, or not in its order, or a declaration is cut off before: {line or 'the end'}"
+                left, begun = left[place + 1:], True
 
 
 def check_links():
@@ -156,8 +218,8 @@ def cases(*lists):
 # What pages say of the tree in figures below 1,000: the words about a number, its count, and the only pages where these words mean that.
 FIGURES = [
     ("# must-fail edits", len(EDITS), None),
-    ("of their # names", len(set(EDITS)), [PROMISES]),
-    ("# stand in two crates", len(EDITS) - len(set(EDITS)), [PROMISES]),
+    ("of their # names", len({name for name, _ in EDITS}), [PROMISES]),
+    ("# stand in two crates", len(EDITS) - len({name for name, _ in EDITS}), [PROMISES]),
     ("# crates", len(list(CRATES.iterdir())), None),
     ("# (?:C )?functions", len(EXPORTED), None),
     ("# files", len(list(CRATES.glob("cases/data/*"))), [README, TESTS]),
@@ -166,22 +228,20 @@ FIGURES = [
     ("# worked examples", cases("workedCases"), None),
     ("# checked words", cases("refusalCases"), None),
     ("# (?:more )?(?:cases|fix)", cases("orderCases", "valueCases", "lineCases", "sharedCases"), [README, TESTS]),
-    ("# tests of the (?:Python )?binding", sum(file.read_text().count("def test_") for file in ROOT.glob("bindings/python/test*.py")), None),
 ]
 
 
 def check_figures():
     for words, count, only in FIGURES:
-        for page in only or pages():
-            for said in re.findall(words.replace("#", r"(?<![\d,])(\d+)"), re.sub(r"\s+", " ", page.read_text()), re.I):
-                if int(said) != count:
-                    yield page, f'"{words.replace("#", said)}", where the tree has {count}'
+        form = words.replace("#", r"(?<![\d,])(\d+)")
+        told = [(page, said) for page in only or pages() for said in re.findall(form, re.sub(r"\s+", " ", page.read_text()), re.I)]
+        yield from ((page, f'"{words.replace("#", said)}", where the tree has {count}') for page, said in told if int(said) != count)
+        if not told:
+            yield (only or [README])[0], f'no page says how many: "{words}"'
 
 
 def check_citations():
     """A part of document 01 that the tree cites is a heading of docs/SCOPE.md; more than five words are a sentence, not a heading."""
-    if not SCOPE.exists():
-        return print("docs/SCOPE.md is not there: no citation of document 01 is held to its headings")
     files = [file for top in ("crates", "include", "scripts", "bindings") for file in (ROOT / top).rglob("*.*") if file.suffix in SUFFIXES]
     texts = [re.sub(r"\s+(?:--|//|#|\*)?\s*", " ", file.read_text()) for file in files]
     cited = {title for text in texts for quoted in CITATION.findall(text) for title in re.findall('"([^"]+)"', quoted)}
@@ -189,7 +249,7 @@ def check_citations():
 
 
 def main():
-    checks = [check_paths, check_rows, check_edits, check_functions, check_lengths, check_quotations, check_links, check_figures, check_citations]
+    checks = [check for name, check in globals().items() if name.startswith("check_")]
     faults = [f"{page.relative_to(ROOT)}: {fault}" for check in checks for page, fault in check()]
     print("\n".join(faults) or f"{len(pages())} pages, {len(rows(prose(PROMISES)))} rows, {len(functions())} functions, {len(EDITS)} edits")
     sys.exit(1 if faults else 0)
