@@ -16,7 +16,8 @@ from pathlib import Path
 
 ROOT = Path(__file__).resolve().parent.parent
 CRATES = ROOT / "crates"
-README, PROMISES, SCOPE, TESTS = ROOT / "README.md", ROOT / "docs/PROMISES.md", ROOT / "docs/SCOPE.md", ROOT / "docs/TESTS.md"
+README, CHANGES = ROOT / "README.md", ROOT / "CHANGELOG.md"
+PROMISES, SCOPE, TESTS = (ROOT / "docs" / name for name in ("PROMISES.md", "SCOPE.md", "TESTS.md"))
 SUFFIXES = (".antt", ".rt", ".py", ".md", ".h", ".txt")
 MADE = r"target/|PREFIX/|luchtrav/native/"  # built or installed
 # Programs, and what only they use: no promise of theirs has a row.
@@ -246,6 +247,13 @@ def check_citations():
     texts = [re.sub(r"\s+(?:--|//|#|\*)?\s*", " ", file.read_text()) for file in files]
     cited = {title for text in texts for quoted in CITATION.findall(text) for title in re.findall('"([^"]+)"', quoted)}
     yield from ((SCOPE, f'cited, and no heading: "{title}"') for title in sorted(cited - set(titles(SCOPE))) if len(title.split()) <= 5)
+
+
+def check_version():
+    """The first heading of CHANGELOG.md has the header's version."""
+    version = re.search(r'^#define LUCHTRAV_VERSION "(.*)"$', HEADER, re.M).group(1)
+    if not re.search(rf"\A[^#]*# [^#]*## {re.escape(version)} ", CHANGES.read_text()):
+        yield CHANGES, "the first version is not the header's, " + version
 
 
 def main():
