@@ -6,6 +6,7 @@ stead of their parts.
 import copy
 import pickle
 import unittest
+from array import array
 from collections import UserList, deque
 from typing import Any, Callable, List, Tuple
 
@@ -136,7 +137,15 @@ class Values(Case):
         self.assertEqual(lu.word_of_pair(4, PAIR), [4, 3, 2, 3])
         self.assertEqual(lu.insert_letter(4, 1, PAIR), lu.insert_letter(4, 1, LETTERS, MARKS, ENTRIES))
         self.refuses(4, 3, lu.check_pair, 3, PAIR)
-        for other in ((PAIR, MARKS), (PAIR, MARKS, ENTRIES), (LETTERS, MARKS), (LETTERS,), (TABLEAU,), (TABLEAU, ENTRIES)):
+        for entries in (ENTRIES, tuple(ENTRIES), array("H", ENTRIES)):
+            lu.check_pair(4, TABLEAU, entries)
+            lu.check_pair(4, TABLEAU, entries=entries)
+            self.assertEqual(lu.word_of_pair(4, TABLEAU, entries), [4, 3, 2, 3])
+            self.assertEqual(lu.word_of_pair(4, TABLEAU, entries=entries), [4, 3, 2, 3])
+            self.assertEqual(lu.insert_letter(4, 1, TABLEAU, entries), lu.insert_letter(4, 1, PAIR))
+            self.assertEqual(lu.insert_letter(4, 1, TABLEAU, entries=entries), lu.insert_letter(4, 1, PAIR))
+        self.refuses(8, 1, lu.check_pair, 4, TABLEAU, [1, 2, 3, 4])
+        for other in ((PAIR, MARKS), (PAIR, MARKS, ENTRIES), (LETTERS, MARKS), (LETTERS,), (TABLEAU,), (TABLEAU, MARKS, ENTRIES), (TABLEAU, TABLEAU)):
             self.assertRaises(TypeError, lu.check_pair, 4, *other)
             self.assertRaises(TypeError, lu.word_of_pair, 4, *other)
             self.assertRaises(TypeError, lu.insert_letter, 4, 1, *other)
