@@ -34,6 +34,28 @@ class Sequences(Case):
         for text in (b"W,4,1,3\n", bytearray(b"W,4,1,3\n"), memoryview(b"W,4,1,3\n")):
             self.assertEqual(lu.read_word_line(text), (4, [3]))
 
+    def test_subclasses(self) -> None:
+        """A list, a tuple or bytes are taken by what they hold, whatever else they say of themselves."""
+        def other(kind: Any, values: List[int]) -> Any:
+            return type("Other", (kind,), {"__bytes__": lambda self: b"\1", "__index__": lambda self: 0})(values)
+
+        for kind in (list, tuple, bytes, bytearray):
+            self.assertEqual(lu.tableau_of_word(4, other(kind, [4, 3, 2, 3])), TABLEAU)
+            self.assertEqual(lu.word_of_pair(4, other(kind, LETTERS), other(kind, MARKS), other(kind, ENTRIES)), [4, 3, 2, 3])
+
+    def test_endless(self) -> None:
+        """Of a sequence that is far too long only as much is taken as 2 needs; cell_at, which refuses nothing, takes all."""
+        for length in (1025, 10**30):
+            long = range(1, length + 1)
+            self.refuses(2, 0, lu.check_word, 4, long)
+            self.refuses(1, 0, lu.check_word, 0, long)
+            self.refuses(2, 0, lu.check_tableau, 4, long, [])
+            self.refuses(3, 0, lu.check_tableau, 4, [1], long)
+            self.refuses(3, 0, lu.check_pair, 4, [1], [0], long)
+            self.refuses(2, 0, lu.write_recording_line, long)
+        self.assertEqual(lu.cell_at(range(3000), range(3000), 200), lu.Cell(200, 1, 0))
+        self.assertEqual(lu.cell_at(UserList([7] * 3000), UserList([1] * 3000), 2500), lu.Cell(7, 2500, 0))
+
     def test_callers_own_stay(self) -> None:
         word, letters, marks, entries = [3, 1, 3, 1], [2, 3], [0, 1], [2, 1]
         lu.raise_word(3, 2, word)
@@ -91,6 +113,15 @@ class Numbers(Case):
             self.assertRaises(TypeError, lu.write_refusal_line, other, 0)
 
 
+    def test_places(self) -> None:
+        """Which of many is no integer."""
+        calls: List[Tuple[Any, ...]] = [(lu.check_word, 4), (lu.check_tableau, 4, [1, 2, 3]), (lu.write_recording_line,), (lu.Tableau, [])]
+        for numbers in ([1, 2, None], [1, 300, None], (1, 2, "1")):
+            for call, *before in calls:
+                with self.assertRaisesRegex(TypeError, "^integers are needed; at place 2: "):
+                    call(*before, numbers)
+
+
 class Values(Case):
     def test_tuples(self) -> None:
         """A Tableau and a Pair hold tuples, however they were made, and so they hash."""
@@ -106,6 +137,16 @@ class Values(Case):
             self.assertEqual(pair, PAIR)
             self.assertEqual(hash(pair), hash(PAIR))
             self.assertIs(type(pair), lu.Pair)
+
+    def test_integers(self) -> None:
+        """They hold integers and nothing else."""
+        self.assertEqual(repr(lu.Tableau([True, 2], [False, True])), "Tableau(letters=(1, 2), marks=(0, 1))")
+        self.assertEqual(lu.Tableau([-1, 10**40], [7]).letters, (-1, 10**40))
+        for other in (1.5, "a", None, [1]):
+            self.assertRaises(TypeError, lu.Tableau, [other], [0])
+            self.assertRaises(TypeError, lu.Pair, [1], [0], [other])
+        self.assertEqual(PAIR.tableau, TABLEAU)
+        self.assertIs(type(PAIR.tableau), lu.Tableau)
 
     def test_keys(self) -> None:
         classes = {lu.tableau_of_word(4, word): word for word in ([4, 3, 2, 3], [3, 2, 4, 3], [2, 3, 3, 4])}

@@ -96,9 +96,9 @@ class Buffers(Case):
             high_byte_first(1),
         ]
         for other in others:
-            with self.assertRaisesRegex(TypeError, "a buffer of integers in one dimension is needed"):
+            with self.assertRaisesRegex(TypeError, "a buffer of integers is needed, in one dimension and in the machine's byte order, not"):
                 lu.check_word(4, other)
-            with self.assertRaisesRegex(TypeError, "a buffer of integers in one dimension is needed"):
+            with self.assertRaisesRegex(TypeError, "a buffer of integers is needed, in one dimension and in the machine's byte order, not"):
                 lu.write_recording_line(other)
 
     def test_memory_stays(self) -> None:
@@ -134,7 +134,7 @@ class Numpy(Case):
 
     def test_refused(self) -> None:
         for other in (numpy.array([1.0]), numpy.array([[1]]), numpy.array(1), numpy.int64(1), numpy.array(["1"]), numpy.array([1], dtype=object),
-                      numpy.array([1], dtype=">i4"), numpy.array([1], dtype="M8[s]"), numpy.array([1j])):
+                      numpy.array([1], dtype=">i4"), numpy.array([1], dtype="M8[s]"), numpy.array([1j]), numpy.ma.array([1, 2], mask=[0, 1])):
             self.assertRaises(TypeError, lu.check_word, 4, other)
             self.assertRaises(TypeError, lu.write_recording_line, other)
 

@@ -38,7 +38,7 @@ from .lines import (
     write_refusal_line, write_tableau_line, write_word_line,
 )
 from .pairs import check_pair, insert_letter, word_of_pair
-from .places import HEADER, version_in
+from .places import HEADER as _HEADER, version_in as _version_in
 from .refusal import MEANINGS, Refusal
 from .tableaux import (
     cell_at, check_tableau, column_reading, look, lower_count_tableau, lower_tableau, raise_count_tableau, raise_tableau,
@@ -49,7 +49,7 @@ from .words import (
     tableau_of_word,
 )
 
-__version__ = version_in(HEADER)
+__version__ = _version_in(_HEADER)
 
 __all__ = [
     "Cell", "Junctions", "MEANINGS", "Pair", "Refusal", "Tableau", "answer", "cell_at", "check_pair", "check_tableau", "check_word", "column_reading",

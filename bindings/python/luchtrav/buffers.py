@@ -59,10 +59,15 @@ def from_buffer(values: Any, width: int) -> Union[bytes, bytearray, List[int], N
         return None
     except (BufferError, ValueError) as error:
         raise TypeError("a buffer of integers is needed: %s" % error) from error
+    if hasattr(values, "filled"):
+        raise TypeError("a masked array would be read without its mask: fill or compress it first")
     with view:
         # In Python 3.8 and 3.9 an empty array of ctypes says that its elements have 0 bytes.
         kind, size = view.format, view.itemsize or width
         if view.ndim != 1 or kind not in SIGNED:
-            raise TypeError("a buffer of integers in one dimension is needed, not one of format %r in %d" % (kind, view.ndim))
+            raise TypeError(
+                "a buffer of integers is needed, in one dimension and in the machine's byte order, not one of format %r with dimensions: %d"
+                % (kind, view.ndim)
+            )
         content = view.tobytes()
     return fitted(content.translate(TRUTHS) if kind[-1] == "?" else content, size, SIGNED[kind], width)

@@ -4,57 +4,71 @@ No number is cut. One that does not fit is handed on as a number that the librar
 """
 from array import array
 from collections import abc
+from itertools import islice
 from operator import index
-from typing import List, Sequence, Union
+from typing import List, Optional, Sequence, Union
 
 from .buffers import Integers, from_buffer
 
 LARGEST = 2**64 - 1
 
+# So many elements of a sequence are taken: one more than the library accepts, so that 2 falls however long it is.
+ENOUGH = 1025
+
 # Bytes that hold a line.
 Text = Union[bytes, bytearray, memoryview]
 
 
-def taken(width: int, values: Integers) -> Sequence[int]:
+def taken(width: int, values: Integers, enough: Optional[int] = ENOUGH) -> Sequence[int]:
     """What was given: a list or tuple of it, or, from a buffer, the bytes of integers of that width where all of them fit. TypeError for what is
     neither sequence nor buffer: a set has no order, an iterator no length."""
-    if isinstance(values, (list, tuple)):
+    # No other list or tuple is handed to bytes() as it is: it might have a __bytes__ or __index__ of its own.
+    if type(values) is list or type(values) is tuple:
         return values
-    content = from_buffer(values, width)
+    content = None if isinstance(values, (list, tuple)) else from_buffer(values, width)
     if content is not None:
         return content
     if isinstance(values, abc.Sequence) and not isinstance(values, str):
-        return list(values)
+        return list(islice(values, enough))
     raise TypeError("a sequence or a buffer of integers is needed, not %s" % type(values).__name__)
 
 
 def elements(values: Integers) -> Sequence[int]:
-    """The integers that the caller gave, whether they fit or not."""
-    given = taken(8, values)
+    """All the integers that the caller gave, whether they fit or not."""
+    given = taken(8, values, None)
     return array("Q", given) if isinstance(given, (bytes, bytearray)) else given
+
+
+def as_integers(values: Sequence[int]) -> List[int]:
+    """The values as integers of Python's own. TypeError, with its place, for one that is none."""
+    try:
+        return list(map(index, values))
+    except TypeError as error:
+        integers = (place for place, value in enumerate(values) if not hasattr(value, "__index__"))
+        raise TypeError("integers are needed; at place %d: %s" % (next(integers, 0), error)) from error
 
 
 def fitting(limit: int, stand_in: int, values: Sequence[int]) -> List[int]:
     """The values, the stand-in for each that is not 0 to limit. TypeError for one that is no integer."""
-    return [value if 0 <= value <= limit else stand_in for value in map(index, values)]
+    return [value if 0 <= value <= limit else stand_in for value in as_integers(values)]
 
 
-def as_bytes(stand_in: int, values: Integers) -> "array[int]":
-    given = values if isinstance(values, (bytes, bytearray)) else taken(1, values)
+def as_bytes(stand_in: int, values: Integers, enough: Optional[int]) -> "array[int]":
+    given = values if type(values) is bytes or type(values) is bytearray else taken(1, values, enough)
     try:
         return array("B", bytes(given))
-    except ValueError:
+    except (ValueError, TypeError):
         return array("B", fitting(255, stand_in, given))
 
 
-def as_letters(values: Integers) -> "array[int]":
+def as_letters(values: Integers, enough: Optional[int] = ENOUGH) -> "array[int]":
     """Letters: 0 for one that fits no byte, so that 4 falls at its place."""
-    return as_bytes(0, values)
+    return as_bytes(0, values, enough)
 
 
-def as_marks(values: Integers) -> "array[int]":
+def as_marks(values: Integers, enough: Optional[int] = ENOUGH) -> "array[int]":
     """Marks: 255 for one that fits no byte, so that 6 falls at its place."""
-    return as_bytes(255, values)
+    return as_bytes(255, values, enough)
 
 
 def as_entries(values: Integers) -> "array[int]":
@@ -62,7 +76,7 @@ def as_entries(values: Integers) -> "array[int]":
     given = taken(2, values)
     try:
         return array("H", given)
-    except OverflowError:
+    except (OverflowError, TypeError):
         return array("H", fitting(65535, 0, given))
 
 

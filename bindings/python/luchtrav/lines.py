@@ -1,4 +1,6 @@
 """Lines read and written, as bytes: W lines of words, T lines of tableaux, N lines of recording ribbons; J and E lines are only written."""
+from __future__ import annotations
+
 from array import array
 from typing import List, Optional, Tuple, Union, overload
 
@@ -7,7 +9,7 @@ from .buffers import Integers
 from .lending import Text, as_entries, as_letters, as_marks, as_number, as_text, as_told, room
 from .library import ANSWER_BYTES, LETTERS, LINE_BYTES, Given, ask
 from .tableaux import Letters, parts_of
-from .values import Tableau
+from .values import Tableau, tableau_in
 
 
 def written(
@@ -65,7 +67,7 @@ def read_tableau_line(text: Text) -> Tuple[int, Tableau]:
     """Rank and tableau of a whole T line, line feed included. Refuses 14 1 2 4 5 6."""
     letters, marks = room("B", LETTERS), room("B", LETTERS)
     said: replies.Line = ask("read_tableau_line", as_text(text), letters, marks)
-    return said.rank, Tableau(letters[: said.count].tolist(), marks[: said.count].tolist())
+    return said.rank, tableau_in(letters[: said.count], marks[: said.count])
 
 
 def read_recording_line(text: Text) -> List[int]:

@@ -1,10 +1,12 @@
 """Operations on pairs: a tableau's letters and marks with the entries of a recording ribbon beside them; a Tableau and the entries; or one Pair."""
+from __future__ import annotations
+
 from typing import List, Optional, Tuple, Union, overload
 
 from .buffers import Integers
 from .lending import as_entries, as_letters, as_marks, as_number, room
 from .library import ask
-from .values import Pair, Tableau
+from .values import Pair, Tableau, pair_in
 
 # Letters, or the Tableau that stands for letters and marks, or the Pair that stands for letters, marks and entries.
 Letters = Union[Integers, Tableau, Pair]
@@ -58,7 +60,7 @@ def insert_letter(rank: int, letter: int, letters: Letters, marks: Optional[Inte
     for part in parts:
         part.append(0)
     ask("insert_letter", as_number(rank), used, as_number(letter), *parts, letters=(letters, [letter]), marks=(marks,), entries=(entries,))
-    return Pair(*(part.tolist() for part in parts))
+    return pair_in(*parts)
 
 
 @overload

@@ -1,11 +1,13 @@
 """Operations on tableaux, given as letters and marks in ribbon order or as one Tableau."""
+from __future__ import annotations
+
 from typing import List, Optional, Tuple, Union, cast, overload
 
 from . import replies
 from .buffers import Integers
 from .lending import as_letters, as_marks, as_number, as_place, room
 from .library import ask
-from .values import Cell, Tableau
+from .values import Cell, Tableau, tableau_in
 
 # Letters, or the Tableau that stands for letters and marks.
 Letters = Union[Integers, Tableau]
@@ -47,7 +49,7 @@ def moved(name: str, rank: int, index: int, letters: Letters, marks: Optional[In
     letters, marks = parts_of(letters, marks)
     lent, steps = as_letters(letters), as_marks(marks)
     ask(name, as_number(rank), as_number(index), lent, steps, letters=(letters,), marks=(marks,))
-    return Tableau(lent.tolist(), steps.tolist())
+    return tableau_in(lent, steps)
 
 
 @overload
@@ -127,7 +129,7 @@ def cell_at(tableau: Tableau, /, *, place: int) -> Optional[Cell]: ...
 @overload
 def cell_at(letters: Integers, marks: Integers, place: int) -> Optional[Cell]: ...
 def cell_at(letters: Letters, marks: Union[Integers, int, None] = None, place: Optional[int] = None) -> Optional[Cell]:
-    """The same of a tableau that check_tableau has passed, without checking it again. Of other letters and marks it gives the letter, and for row
-    and column the marks 1 and the marks 0 from place 1 to the cell. Refuses nothing."""
+    """The cell at a place of a tableau that check_tableau has passed, without checking it again; None for "no such cell". Of other letters and marks,
+    however many, it gives the letter, and as row and column how many marks 1 and how many marks 0 stand from place 1 to the cell. Refuses nothing."""
     letters, marks, place = parts_and_place(letters, marks, place)
-    return seen(ask("cell_at", as_letters(letters), as_marks(marks), as_place(place)))
+    return seen(ask("cell_at", as_letters(letters, None), as_marks(marks, None), as_place(place)))

@@ -1,8 +1,13 @@
 """What the functions give where it is more than a number or a list. All of them are tuples: they hash, and can be keys."""
+from array import array
 from typing import Any, Iterable, NamedTuple, Tuple
 
 from .buffers import Integers
-from .lending import elements
+from .lending import as_integers, elements
+
+
+def integers(values: Integers) -> Tuple[int, ...]:
+    return tuple(as_integers(elements(values)))
 
 
 class TableauFields(NamedTuple):
@@ -19,7 +24,7 @@ class Tableau(TableauFields):
     __slots__ = ()
 
     def __new__(cls, letters: Integers, marks: Integers) -> "Tableau":
-        return tuple.__new__(cls, (tuple(elements(letters)), tuple(elements(marks))))
+        return tuple.__new__(cls, (integers(letters), integers(marks)))
 
     # _replace goes through it too.
     @classmethod
@@ -39,12 +44,26 @@ class Pair(PairFields):
     __slots__ = ()
 
     def __new__(cls, letters: Integers, marks: Integers, entries: Integers) -> "Pair":
-        return tuple.__new__(cls, (tuple(elements(letters)), tuple(elements(marks)), tuple(elements(entries))))
+        return tuple.__new__(cls, (integers(letters), integers(marks), integers(entries)))
+
+    @property
+    def tableau(self) -> Tableau:
+        """The tableau alone."""
+        return tuple.__new__(Tableau, (self.letters, self.marks))
 
     # _replace goes through it too.
     @classmethod
     def _make(cls, iterable: Iterable[Any], **named: Any) -> "Pair":
         return cls(*iterable)
+
+
+# A tableau and a pair in memory that the library has written: its numbers need no second look.
+def tableau_in(letters: "array[int]", marks: "array[int]") -> Tableau:
+    return tuple.__new__(Tableau, (tuple(letters.tolist()), tuple(marks.tolist())))
+
+
+def pair_in(letters: "array[int]", marks: "array[int]", entries: "array[int]") -> Pair:
+    return tuple.__new__(Pair, (tuple(letters.tolist()), tuple(marks.tolist()), tuple(entries.tolist())))
 
 
 class Junctions(NamedTuple):

@@ -1,13 +1,16 @@
 """Operations on words. A word is a sequence or a buffer of integers 1 to rank, bytes among them."""
-from typing import List
+from __future__ import annotations
+
+from typing import List, Literal, Tuple
 
 from . import replies
 from .buffers import Integers
 from .lending import as_letters, as_number, room
 from .library import ask
-from .values import Junctions, Tableau
+from .values import Junctions, Tableau, tableau_in
 
-ORDERS = ("equal", "lower", "higher", "neither")
+Order = Literal["equal", "lower", "higher", "neither"]
+ORDERS: Tuple[Order, ...] = ("equal", "lower", "higher", "neither")
 
 
 def check_word(rank: int, word: Integers) -> None:
@@ -20,7 +23,7 @@ def tableau_of_word(rank: int, word: Integers) -> Tableau:
     taken = as_letters(word)
     letters, marks = room("B", len(taken)), room("B", len(taken))
     ask("tableau_of_word", as_number(rank), taken, letters, marks, letters=(word,))
-    return Tableau(letters.tolist(), marks.tolist())
+    return tableau_in(letters, marks)
 
 
 def recording_of_word(rank: int, word: Integers) -> List[int]:
@@ -79,9 +82,9 @@ def same_class(first_rank: int, first: Integers, second_rank: int, second: Integ
     return said.same == 1
 
 
-def compare_weights(first_rank: int, first: Integers, second_rank: int, second: Integers) -> str:
-    """The first word's weight against the second's: 'equal', 'lower', 'higher' or 'neither', by the sums of the first k letter counts for every k.
-    Refuses 1 2 4, over both words; places in the second count on from the first's length."""
+def compare_weights(first_rank: int, first: Integers, second_rank: int, second: Integers) -> Order:
+    """The first word's weight against the second's: 'equal', 'lower', 'higher' or 'neither'. It is lower where for no k it has more letters 1 to k
+    than the second, and for some k fewer. Refuses 1 2 4, over both words; places in the second count on from the first's length."""
     words = as_number(first_rank), as_letters(first), as_number(second_rank), as_letters(second)
     said: replies.Order = ask("compare_weights", *words, letters=(first, second))
     return ORDERS[said.order]
