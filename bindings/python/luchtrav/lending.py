@@ -42,7 +42,8 @@ def elements(values: Integers) -> Sequence[int]:
 def as_integers(values: Sequence[int]) -> List[int]:
     """The values as integers of Python's own. TypeError, with its place, for one that is none."""
     try:
-        return list(map(index, values))
+        # int: before Python 3.10 index leaves a truth value as it is.
+        return list(map(int, map(index, values)))
     except TypeError as error:
         integers = (place for place, value in enumerate(values) if not hasattr(value, "__index__"))
         raise TypeError("integers are needed; at place %d: %s" % (next(integers, 0), error)) from error
