@@ -134,7 +134,8 @@ class Numpy(Case):
 
     def test_refused(self) -> None:
         for other in (numpy.array([1.0]), numpy.array([[1]]), numpy.array(1), numpy.int64(1), numpy.array(["1"]), numpy.array([1], dtype=object),
-                      numpy.array([1], dtype=">i4"), numpy.array([1], dtype="M8[s]"), numpy.array([1j]), numpy.ma.array([1, 2], mask=[0, 1])):
+                      numpy.array([1], dtype=">i4"), numpy.array([1], dtype="M8[s]"), numpy.array([1j]),
+                      numpy.ma.array([1, 2], mask=[0, 1])):  # type: ignore[no-untyped-call]
             self.assertRaises(TypeError, lu.check_word, 4, other)
             self.assertRaises(TypeError, lu.write_recording_line, other)
 
