@@ -49,6 +49,12 @@ def refusals_of(text):
     return {name: [int(number) for number in said.replace("nothing", "").split()] for said, name in above}
 
 
+def version():
+    """LUCHTRAV_VERSION, which stands in the header alone."""
+    with open(HEADER) as file:
+        return re.search(r'^#define LUCHTRAV_VERSION "(.*)"$', file.read(), re.M)[1]
+
+
 def functions_of(library):
     """The header's functions by name, each to be called in the library: a path, or nothing for a header without its library."""
     with open(HEADER) as file:

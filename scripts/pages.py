@@ -14,6 +14,10 @@ import re
 import sys
 from pathlib import Path
 
+sys.dont_write_bytecode = True
+
+import header
+
 ROOT = Path(__file__).resolve().parent.parent
 CRATES = ROOT / "crates"
 README, CHANGES = ROOT / "README.md", ROOT / "CHANGELOG.md"
@@ -29,8 +33,8 @@ THEOREM = r"^ *pub NAME :(.*?)^ *(?:unfolding|NAME) "
 DECLARED = r"\b(fn|struct|enum) NAME\b|^ *pub NAME:|^ *(abbrev |unfoldable )?(pub )?((record|data) )?NAME [:({]"
 REQUIRED = "classes written-classes word-of-pair pair-of-word word-reading read-back class-joined tableau-answer repeat-word starred outputs".split()
 EDITS = [(edit.stem, re.search(r"^file: (\w+)/", edit.read_text(), re.M).group(1)) for edit in CRATES.glob("*/must-fail/*.edit")]
-HEADER = (ROOT / "include/luchtrav.h").read_text()
-EXPORTED = re.findall(r"^luchtrav_\w+ (luchtrav_\w+)\(", HEADER, re.M)
+HEADER = header.functions_of(None)
+EXPORTED = ["luchtrav_" + name for name in HEADER]
 RENAMED = {"look": "look_once", "write_refusal_line": "write_returned_line"}  # what the header calls otherwise than the kernel
 NUMBERS = r"\d+(?:,? (?:to |and )?\d+)*"  # as in: 14, 1 to 6, 13
 CITATION = re.compile(r'document 01(?:\'s table)?,? \(?((?:"[^"]+"(?:, )?)+)')  # as in: document 01, "Lines", "The program"
@@ -150,9 +154,9 @@ def check_refusals():
         lists = [known[definition] for definition in code(row[2]) if definition in known]
         if lists and numbers(row[1]) != sum(lists, []):
             yield PROMISES, f"refusals other than {sum(lists, [])}: {row}"
-    for said, name in re.findall(r"Refuses ([^.]*)\. \*/\nluchtrav_\w+ luchtrav_(\w+)\(", HEADER):
-        if told.get(RENAMED.get(name, name)) != numbers(said):
-            yield PROMISES, f"refusals of {name} other than the header's {numbers(said)}"
+    for name, function in HEADER.items():
+        if told.get(RENAMED.get(name, name)) != function.refusals:
+            yield PROMISES, f"refusals of {name} other than the header's {function.refusals}"
 
 
 def check_edits():
@@ -251,9 +255,8 @@ def check_citations():
 
 def check_version():
     """The first heading of CHANGELOG.md has the header's version."""
-    version = re.search(r'^#define LUCHTRAV_VERSION "(.*)"$', HEADER, re.M).group(1)
-    if not re.search(rf"\A[^#]*# [^#]*## {re.escape(version)} ", CHANGES.read_text()):
-        yield CHANGES, "the first version is not the header's, " + version
+    if not re.search(rf"\A[^#]*# [^#]*## {re.escape(header.version())} ", CHANGES.read_text()):
+        yield CHANGES, "the first version is not the header's, " + header.version()
 
 
 def main():

@@ -42,6 +42,8 @@ class Sequences(Case):
         for kind in (list, tuple, bytes, bytearray):
             self.assertEqual(lu.tableau_of_word(4, other(kind, [4, 3, 2, 3])), TABLEAU)
             self.assertEqual(lu.word_of_pair(4, other(kind, LETTERS), other(kind, MARKS), other(kind, ENTRIES)), [4, 3, 2, 3])
+        for kind in (bytes, bytearray):
+            self.assertEqual(lu.read_word_line(other(kind, list(b"W,4,1,3\n"))), (4, [3]))
 
     def test_endless(self) -> None:
         """Of a sequence that is far too long only as much is taken as 2 needs; cell_at, which refuses nothing, takes all."""
@@ -79,7 +81,7 @@ class Sequences(Case):
             for call, *arguments in calls:
                 with self.assertRaisesRegex(TypeError, "^a sequence or a buffer of integers is needed, not %s$" % type(other).__name__):
                     call(*arguments)
-        for other in ("W,4,0\n", [87], None):
+        for other in ("W,4,0\n", [87], None, memoryview(array("H", b"W,4,1,3\n"))):
             self.assertRaises(TypeError, lu.read_word_line, other)
             self.assertRaises(TypeError, lu.answer, other)
 

@@ -102,10 +102,14 @@ def as_told(value: int) -> int:
 
 
 def as_text(text: Text) -> "array[int]":
-    """The bytes of a line. A str has no bytes, and is a TypeError."""
+    """The bytes of a line. A str has no bytes, and is a TypeError; so is memory that holds wider numbers."""
     if not isinstance(text, (bytes, bytearray, memoryview)):
         raise TypeError("a line is bytes, not %s" % type(text).__name__)
-    return array("B", bytes(text))
+    with memoryview(text) as view:
+        if view.itemsize != 1:
+            raise TypeError("a line is bytes, not numbers of %d bytes" % view.itemsize)
+        # Not bytes(text): a class of the caller's own might have a __bytes__.
+        return array("B", view.tobytes())
 
 
 def room(code: str, count: int) -> "array[int]":
