@@ -1,0 +1,47 @@
+-- The product of two quasi-ribbon tableaux (document 02, N1): the tableau of the first's column reading followed by the second's. What the operation
+-- replies to every input, and what lent memory then holds (the checks in order; each over the first factor, then over the second).
+--     productWord xs ms ys ns           the column reading of the first factor, then that of the second
+--     productLetters, productMarks      the letters and the marks of that word's tableau
+--     factorsJudgements                 1 to 6 of two factors of one rank: 2 on the cells together, places in the second counting on from the first's length
+--     productRun                        1 to 6, 13               gives the cells written
+-- Nothing is judged across the factors: the first may end in a larger letter than the second begins with. Assumes nothing.
+use Prim.Native.Nat.{ℕ, _+_}
+use mathlib.Core.List.{List, [], _∷_, _++_}
+use lib.ListN.{length}
+use Rattle.hypoplactic.specs.Insertion.{lettersOf, marksOf}
+use Rattle.hypoplactic.specs.Reading.{columnReading}
+use Rattle.hypoplactic.specs.Replies.{Said, gives, countOn, first, ranTo, written}
+use Rattle.hypoplactic.specs.Judgements.{rankJudged, lengthJudged, alikeJudged, lettersJudged, risingJudged, marksJudged, roomJudged}
+
+-- The two column readings, one after the other.
+unfoldable pub productWord : List ℕ → List ℕ → List ℕ → List ℕ → List ℕ
+productWord xs ms ys ns = columnReading xs ms ++ columnReading ys ns
+
+-- The letters of the product,
+abbrev pub productLetters : List ℕ → List ℕ → List ℕ → List ℕ → List ℕ
+productLetters xs ms ys ns = lettersOf (productWord xs ms ys ns)
+
+-- and its marks.
+abbrev pub productMarks : List ℕ → List ℕ → List ℕ → List ℕ → List ℕ
+productMarks xs ms ys ns = marksOf (productWord xs ms ys ns)
+
+-- 1 to 6 of two factors.
+abbrev pub factorsJudgements : ℕ → List ℕ → List ℕ → List ℕ → List ℕ → List Said
+factorsJudgements n xs ms ys ns =
+    rankJudged n ∷ lengthJudged (length xs + length ys)
+    ∷ alikeJudged (length xs) (length ms ∷ []) ∷ alikeJudged (length ys) (length ns ∷ [])
+    ∷ lettersJudged n xs ∷ countOn (length xs) (lettersJudged n ys)
+    ∷ risingJudged xs ∷ countOn (length xs) (risingJudged ys)
+    ∷ marksJudged xs ms ∷ countOn (length xs) (marksJudged ys ns) ∷ []
+
+-- The product, into lent letters and marks.
+unfoldable pub productSays : ℕ → List ℕ → List ℕ → List ℕ → List ℕ → ℕ → ℕ → Said
+productSays n xs ms ys ns letters marks =
+    first
+    (factorsJudgements n xs ms ys ns ++ (roomJudged (length xs + length ys) letters ∷ roomJudged (length xs + length ys) marks ∷ []))
+    (gives ((length xs + length ys) ∷ []))
+
+unfoldable pub productRun : ℕ → List ℕ → List ℕ → List ℕ → List ℕ → List ℕ → List ℕ → Said × (List ℕ × List ℕ)
+productRun n xs ms ys ns letters marks =
+    ranTo (productSays n xs ms ys ns (length letters) (length marks))
+    (written (productLetters xs ms ys ns) letters, written (productMarks xs ms ys ns) marks) (letters, marks)
