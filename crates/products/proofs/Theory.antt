@@ -1,1 +1,4 @@
 -- The laws of the product, by topic. docs/PROMISES.md leads from each promise to its theorem.
+-- ---- the product found from letters and marks
+pub mod ProductContents
+pub mod ProductSteps
