@@ -99,7 +99,7 @@ junction-places w a p h = go (nextLarger a w) (next-larger a w) h
     go (some q) n h = rw h (before-places a q w (occurs-count q w ∙ lt-ltb 0 (count q w) (n .1)))
 
 -- The next larger letter of b is the letter after b if that occurs, else the next larger letter of it.
-next-step : (b : ℕ) (w : List ℕ) → nextLarger b w ≡ cond (occurs (suc b) w) (some (suc b)) (nextLarger (suc b) w)
+pub next-step : (b : ℕ) (w : List ℕ) → nextLarger b w ≡ cond (occurs (suc b) w) (some (suc b)) (nextLarger (suc b) w)
 next-step b w = go (count (suc b) w) refl
   where
     on : (o : Option ℕ) → count (suc b) w ≡ 0 → Next (suc b) (λ x. count x w) o → Next b (λ x. count x w) o
