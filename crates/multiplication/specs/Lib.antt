@@ -1,2 +1,3 @@
 pub mod Downs
 pub mod Merging
+pub mod Sums

@@ -2,3 +2,4 @@
 // counts and down steps letter by letter. The public function takes whatever it is given and answers a result or the exact refusal.
 mod downs;
 mod merging;
+mod sums;
