@@ -2,3 +2,5 @@
 -- ---- the product found from letters and marks
 pub mod ProductContents
 pub mod ProductSteps
+-- ---- its laws
+pub mod ProductLaws
