@@ -1,5 +1,4 @@
 -- The comparison of weights on tables of counts, and that it is the comparison of the words' weights.
---     sumOf k cs             the sum of the first k numbers of a table
 --     sumsAtMost k cs ds     each sum of the first 1 to k numbers of cs is at most that of ds
 --     compareTables          the comparison from the sums of the first 1 to k numbers
 --     Read x r               r is the number x of 16 bits, read wide
@@ -28,16 +27,11 @@ use Rattle.hypoplactic.specs.Replies.{Said, gives, passed, orElse, first}
 use Rattle.hypoplactic.specs.WordOperations.{comparisonNumber, wordsJudgements, weightsSays}
 use Rattle.hypoplactic.proofs.Theory.Limits.{accepted-within, count-outside}
 use Rattle.words.specs.Given.{accepted-counts, countGiven}
-use Rattle.words.specs.Tables.{Table}
+use Rattle.words.specs.Tables.{Table, sumOf, table-sum}
 use Rattle.hypoplactic.proofs.Theory.Passing.{first-else}
 use Rattle.acceptance.specs.Passed.{judging}
 
 -- ---- on tables
-
--- The sum of the first k numbers of a table.
-abbrev pub sumOf : ℕ → List ℕ → ℕ
-sumOf zero cs = 0
-sumOf (suc k) cs = sumOf k cs + getD cs k 0
 
 -- Each sum of the first 1 to k numbers is at most that of the second table.
 abbrev pub sumsAtMost : ℕ → List ℕ → List ℕ → Bool
@@ -117,12 +111,7 @@ absent-above a w h l = count-outside a w h (λ o. omega arith)
 abbrev pub Counts : List ℕ → List ℕ → Type 0
 Counts w cs = Table (λ a. count a w) cs
 
--- A table of counts has the sums of the word,
-table-sum : (w : List ℕ) {cs : List ℕ} → Counts w cs → (k : ℕ) → k ≤ 64 → sumOf k cs ≡ sumTo k w
-table-sum w f zero h = refl
-table-sum w f (suc k) h = ap₂ _+_ (table-sum w f k (omega arith)) (f .entry k (omega arith))
-
--- and two of them compare as the words do.
+-- Two tables of counts compare as the words do.
 table-at-most : (u v : List ℕ) {cs ds : List ℕ} → Counts u cs → Counts v ds → (k : ℕ) → k ≤ 64 → sumsAtMost k cs ds ≡ atMost k u v
 table-at-most u v f g zero h = refl
 table-at-most u v f g (suc k) h = ap₂ _&&_ (table-at-most u v f g k (omega arith)) (ap₂ leb (table-sum u f (suc k) h) (table-sum v g (suc k) h))

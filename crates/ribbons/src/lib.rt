@@ -1,5 +1,4 @@
 // The ribbons of a word, each written into lent memory: its quasi-ribbon tableau and its recording ribbon. Every public function takes whatever it is given;
 // an operation answers a result or the exact refusal.
 pub mod recording;
-mod runs;
 pub mod tableau;

@@ -1,0 +1,4 @@
+pub mod Runs
+pub mod Layers
+pub mod Filled
+pub mod Tableau
