@@ -4,3 +4,5 @@ pub mod ProductContents
 pub mod ProductSteps
 -- ---- its laws
 pub mod ProductLaws
+-- ---- replies
+pub mod ProductReplies
