@@ -6,3 +6,5 @@ pub mod ProductSteps
 pub mod ProductLaws
 -- ---- replies
 pub mod ProductReplies
+-- ---- cases
+pub mod ProductCases

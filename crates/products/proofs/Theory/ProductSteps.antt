@@ -88,8 +88,7 @@ module _ (xs ms ys ns : List ℕ) (h : Tableau xs ms) (k : Tableau ys ns) where
 
   -- The down steps of the product, with a next larger letter b,
   pub product-down : (a b : ℕ) → nextLarger a (xs ++ ys) ≡ some b
-      → downOut a (productLetters xs ms ys ns) (productMarks xs ms ys ns)
-      ≡ (occurs b xs && (downOut a xs ms || occurs a ys) || occurs b ys && downOut a ys ns)
+      → downOut a (productLetters xs ms ys ns) (productMarks xs ms ys ns) ≡ (occurs b xs && (downOut a xs ms || occurs a ys) || occurs b ys && downOut a ys ns)
   product-down a b e = sym (junction-down (productWord xs ms ys ns) a) ∙ product-junction a b e
 
   -- and without one.
