@@ -1,5 +1,4 @@
--- What the product holds: the letters of both factors, each as often as in both together. With ProductSteps, which tells its down steps, this fixes the
--- product from the factors' letters and marks alone.
+-- What the product holds: the letters of both factors, each as often as in both together. Its down steps stand in ProductSteps.
 --     product-count       each letter stands in the product word as often as in both factors; product-letters-count: so in the product's letters
 --     product-length      the product word is as long as both; product-cells: so many letters and marks has the product
 --     product-next        the next larger letter in the product word is that in the letters of both
