@@ -1,6 +1,7 @@
-// The C interface to tableaux: checks, column reading, moves, a look at a cell. Each function is one of the kernel's, its answer as a struct of numbers.
+// The C interface to tableaux: checks, column reading, moves, a look at a cell, the product of two. Each function is one of the kernel's, its answer as a struct of numbers.
 use columns::reading::column_reading;
 use coordinates::cells::cell_at;
+use multiplication::product::product;
 use structs::converters::cell_reply;
 use structs::counts::count_repeat;
 use structs::counts::count_written;
@@ -20,6 +21,7 @@ ghost use Rattle.hypoplactic.specs.Judgements.{tableauJudgements};
 ghost use Rattle.hypoplactic.specs.Moves.{lowering, raising};
 ghost use Rattle.hypoplactic.specs.Replies.{first, gives, passed};
 ghost use Rattle.hypoplactic.specs.TableauOperations.{cellAt, lookSays, moveTableauRun, readingRun, repeatTableauSays};
+ghost use Rattle.products.specs.Products.{productRun};
 ghost use Rattle.structs.specs.Replies.{cellOf, countOf, doneOf, replied};
 
 // 1 to 6 of a tableau: the making of a ribbon viewer.
@@ -120,4 +122,39 @@ pub extern "C" fn luchtrav_cell_at(letters: &[u8], marks: &[u8], place: usize) -
     ensures { λ r. ⌜ r ≡ cellOf (gives (cellAt (now (letters .entry)) (now (marks .entry)) place)) ⌝ }
 {
     cell_reply(cell_at(letters, marks, place))
+}
+
+// The product of two tableaux of one rank, into lent letters and marks.
+#[no_mangle]
+pub extern "C" fn luchtrav_product(
+    rank: usize,
+    first_letters: &[u8],
+    first_marks: &[u8],
+    second_letters: &[u8],
+    second_marks: &[u8],
+    letters: &mut [u8],
+    marks: &mut [u8],
+) -> CountReply
+    ensures { λ r. ⌜
+        (r, (now (letters .exit), now (marks .exit)))
+        ≡ replied countOf
+        (productRun
+        rank
+        (now («first_letters» .entry))
+        (now («first_marks» .entry))
+        (now («second_letters» .entry))
+        (now («second_marks» .entry))
+        (now (letters .entry))
+        (now (marks .entry)))
+        ⌝ }
+{
+    count_written(product(
+        rank,
+        first_letters,
+        first_marks,
+        second_letters,
+        second_marks,
+        letters,
+        marks,
+    ))
 }

@@ -1,3 +1,4 @@
 pub mod Downs
 pub mod Merging
 pub mod Sums
+pub mod Product

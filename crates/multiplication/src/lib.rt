@@ -2,4 +2,5 @@
 // counts and down steps letter by letter. The public function takes whatever it is given and answers a result or the exact refusal.
 mod downs;
 mod merging;
+pub mod product;
 mod sums;

@@ -1,0 +1,161 @@
+-- The product of two tableaux: what the operation over tables of both factors replies, and what lent memory then holds.
+--     checked-factors, checked-rooms     the verdict of 1 to 6, and then of 13
+--     Factors n xs ms ys ns              two tableaux of a rank that fit together
+--     counts-fit, product-filled         their counts, added, fit 16 bits; filled by these and by the set that both make, outputs hold the product
+--     first-inside, .. rank-high         what the tables ask, once the checks have passed
+--     product-refused, product-passed    the reply, and both outputs, from the verdict of the checks on
+--     checking, replying                 the rulesets of the checks and of the operation
+-- Assumes nothing.
+use Prim.Native.Nat.{ℕ, suc, _+_, _≤_, _<_}
+use mathlib.Core.Path.{_≡_, refl, sym, ap₂, _∙_}
+use mathlib.Core.List.{List, [], _∷_}
+use native.Mathlib.Omega.{arith}
+use lib.ListN.{length, getD}
+use borrow.Author.Needs.{needs}
+use Rattle.hypoplactic.specs.Junctions.{downOut, junctionSet}
+use Rattle.hypoplactic.specs.Judgements.{roomJudged}
+use Rattle.hypoplactic.specs.Replies.{Said, gives, first, passed, written}
+use Rattle.hypoplactic.specs.Ribbons.{LetterStep, TableauAt}
+use Rattle.hypoplactic.specs.Words.{Within, count, tick}
+use Rattle.hypoplactic.proofs.Theory.Judgements.{room-judged}
+use Rattle.hypoplactic.proofs.Theory.Limits.{accepted-within}
+use Rattle.hypoplactic.proofs.Theory.Occurrences.{count-length}
+use Rattle.hypoplactic.proofs.Theory.Passing.{first-append}
+use Rattle.hypoplactic.proofs.Theory.StepJudgements.{ribbon-length}
+use Rattle.products.specs.Products.{factorsJudgements, productLetters, productMarks, productRun, productSays, productWord}
+use Rattle.products.proofs.Theory.ProductContents.{product-accepted, product-count, product-length}
+use Rattle.products.proofs.Theory.ProductReplies.{factors-passing}
+use Rattle.refusals.specs.Chains.{chaining, goes-on}
+use Rattle.refusals.specs.Running.{checksThen, stops-there, then-passing, run-refused, run-passed}
+use Rattle.refusals.specs.Said.{saidRefusal, saidVerdict}
+use Rattle.refusals.specs.declared.refusal.Refusal.{Refusal}
+use Rattle.refusals.specs.declared.answers.Verdict.{Verdict}
+use Rattle.refusals.specs.declared.answers.Verdict.the-variants.{Passed, Refused}
+use Rattle.words.specs.Given.{accepted-counts, countGiven}
+use Rattle.words.specs.Tables.{Table}
+use Rattle.fillings.specs.Filled.{filled}
+use Rattle.fillings.specs.Tableau.{filled-word}
+use Rattle.multiplication.specs.Merging.{Merged, Tables}
+use Rattle.multiplication.specs.Sums.{Sums, SumsFit}
+
+-- ---- the checks
+
+-- 1 to 6 refuse, or what follows decides.
+module _ {v : Verdict} (n : ℕ) (xs ms ys ns : List ℕ) (e : saidVerdict v ≡ first (factorsJudgements n xs ms ys ns) passed) where
+  pub checked-factors : (ks : List Said) (r : Refusal) → v ≡ Refused r → saidRefusal r ≡ checksThen (factorsJudgements n xs ms ys ns) ks
+  checked-factors ks r q = stops-there (factorsJudgements n xs ms ys ns) e ks r q
+
+  pub checked-rooms : {s : Said} (ks : List Said) → v ≡ Passed → s ≡ first ks passed → s ≡ checksThen (factorsJudgements n xs ms ys ns) ks
+  unfolding checksThen
+  checked-rooms ks q g =
+      goes-on (first (factorsJudgements n xs ms ys ns) passed) (first ks passed) e q g ∙ sym (first-append (factorsJudgements n xs ms ys ns) ks passed)
+
+pub ruleset checking = (checked-factors, checked-rooms, chaining)
+
+-- ---- two factors
+
+-- Tableaux of one rank that fit together.
+record Factors (n : ℕ) (xs ms ys ns : List ℕ) : Type 0 where
+  first : TableauAt n xs ms
+  second : TableauAt n ys ns
+  few : length xs + length ys ≤ 1024
+
+module _ {n : ℕ} {xs ms ys ns cs es : List ℕ} (h : Factors n xs ms ys ns) (c : Table (countGiven n xs) cs) (e : Table (countGiven n ys) es) where
+  -- The counts of both,
+  first-counts : Table (λ a. count a xs) cs
+  first-counts = accepted-counts (h .first .word) c
+
+  second-counts : Table (λ a. count a ys) es
+  second-counts = accepted-counts (h .second .word) e
+
+  -- added, fit 16 bits,
+  fit : SumsFit cs es
+  fit = record {
+    fit = λ j l. omega (arith, first-counts .entry j l, second-counts .entry j l, count-length (suc j) xs, count-length (suc j) ys, h .few)
+  }
+
+  -- and are the counts of the product.
+  added : {sums : List ℕ} → Sums cs es sums → Table (λ a. count a (productWord xs ms ys ns)) sums
+  added s = record {
+    size = s .size;
+    entry = λ j l.
+        s .entry j l ∙ ap₂ _+_ (first-counts .entry j l) (second-counts .entry j l)
+        ∙ sym (product-count xs ms ys ns (h .first .tableau) (h .second .tableau) (suc j));
+  }
+
+  -- Filled by these and by the set that both make, lists that have room hold the product.
+  filled-product : {ds gs sums : List ℕ} {set : ℕ} (letters marks : List ℕ) → Table (λ a. tick (downOut a xs ms) 0) ds
+      → Table (λ a. tick (downOut a ys ns) 0) gs → Merged n cs ds es gs set → Sums cs es sums → length xs + length ys ≤ length letters
+      → length xs + length ys ≤ length marks
+      → filled n sums set letters marks ≡ (written (productLetters xs ms ys ns) letters, written (productMarks xs ms ys ns) marks)
+  filled-product letters marks d g m s p q =
+      let tables : Tables n xs ms ys ns cs _ es _ = record {
+        first = h .first; second = h .second; first-counts = first-counts; first-downs = d; second-counts = second-counts; second-downs = g;
+      } in
+      let cells : length (productWord xs ms ys ns) ≡ length xs + length ys = product-length xs ms ys ns (h .first .tableau) (h .second .tableau) in
+      filled-word (product-accepted n xs ms ys ns (h .first) (h .second) (h .few)) (added s) _ letters marks (m .is xs ms ys ns tables)
+      (omega arith) (omega arith)
+
+-- ---- the operation
+
+-- 13 of both outputs.
+abbrev rooms : ℕ → ℕ → ℕ → List Said
+rooms need letters marks = roomJudged need letters ∷ roomJudged need marks ∷ []
+
+-- The verdict of 1 to 6 on the factors and of 13,
+module _ {v : Verdict} (n : ℕ) (xs ms ys ns letters marks : List ℕ)
+    (e : saidVerdict v ≡ checksThen (factorsJudgements n xs ms ys ns) (rooms (length xs + length ys) (length letters) (length marks))) where
+  -- which refuses, and both outputs are as they were,
+  pub product-refused : (r : Refusal) → v ≡ Refused r → (saidRefusal r, (letters, marks)) ≡ productRun n xs ms ys ns letters marks
+  unfolding productRun productSays
+  product-refused r q = run-refused _ _ e _ _ (letters, marks) r q
+
+  -- or passes: both are tableaux that fit together.
+  factors : v ≡ Passed → Factors n xs ms ys ns
+  factors q =
+      let (one, other, few) = factors-passing n xs ms ys ns .0 (then-passing _ _ e q .0) in
+      record { first = one; second = other; few = few }
+
+  -- So their letters are up to 64,
+  pub first-inside : v ≡ Passed → Within 64 xs
+  first-inside q = accepted-within (factors q .first .word)
+
+  pub second-inside : v ≡ Passed → Within 64 ys
+  second-inside q = accepted-within (factors q .second .word)
+
+  -- the marks are as many,
+  pub first-alike : v ≡ Passed → length ms ≡ length xs
+  first-alike q = ribbon-length LetterStep xs ms (factors q .first .tableau)
+
+  pub second-alike : v ≡ Passed → length ns ≡ length ys
+  second-alike q = ribbon-length LetterStep ys ns (factors q .second .tableau)
+
+  -- the rank is at most 64,
+  pub rank-high : v ≡ Passed → n ≤ 64
+  rank-high q = factors q .first .word .rank-high
+
+  -- the counts can be added,
+  pub counts-fit : {cs es : List ℕ} → v ≡ Passed → Table (countGiven n xs) cs → Table (countGiven n ys) es → SumsFit cs es
+  counts-fit q c t = fit (factors q) c t
+
+  -- and filled by them, both outputs hold the product.
+  pub product-passed : {cs ds es gs sums : List ℕ} {set : ℕ} (ls ks : List ℕ) → v ≡ Passed → Table (countGiven n xs) cs → Table (countGiven n ys) es
+      → Table (λ a. tick (downOut a xs ms) 0) ds → Table (λ a. tick (downOut a ys ns) 0) gs → Merged n cs ds es gs set → Sums cs es sums
+      → (ls, ks) ≡ filled n sums set letters marks → (gives ((length xs + length ys) ∷ []), (ls, ks)) ≡ productRun n xs ms ys ns letters marks
+  unfolding productRun productSays
+  product-passed ls ks q c t d g m s f =
+      let (checks, (room, (more, u))) = then-passing _ _ e q in
+      run-passed _ _ e _ _ (letters, marks) (ls, ks) q
+      (f ∙ filled-product (factors q) c t letters marks d g m s (room-judged _ _ .0 room) (room-judged _ _ .0 more))
+
+pub ruleset replying = (
+  first-inside,
+  second-inside,
+  first-alike,
+  second-alike,
+  rank-high,
+  counts-fit,
+  product-passed,
+  product-refused,
+  needs,
+)

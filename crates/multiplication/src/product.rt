@@ -1,0 +1,104 @@
+// The product of two tableaux of one rank: the tableau of the first's column reading followed by the second's, found from letters and marks alone.
+use crate::downs::downs_of;
+use crate::merging::merged_set;
+use crate::sums::sum_counts;
+use fillings::tableau::fill_tableau;
+use refusals::answers::Verdict;
+use refusals::answers::Written;
+use refusals::chains::or_else;
+use refusals::numbers::check_room;
+use seconds::factors::check_factors;
+use words::tables::letter_counts;
+ghost use Prim.Native.Nat.{_+_};
+ghost use mathlib.Core.List.{[], _∷_};
+ghost use mathlib.Core.Path.{_≡_};
+ghost use lib.ListN.{length};
+ghost use Rattle.hypoplactic.specs.Judgements.{roomJudged};
+ghost use Rattle.products.specs.Products.{factorsJudgements, productRun};
+ghost use Rattle.refusals.specs.Running.{checksThen};
+ghost use Rattle.refusals.specs.Said.{saidVerdict, saidWritten};
+
+// 1 to 6 of the factors, then 13 of both outputs. The cells are added only where 2 has passed.
+fn check_product(
+    rank: usize,
+    first_letters: &[u8],
+    first_marks: &[u8],
+    second_letters: &[u8],
+    second_marks: &[u8],
+    letters: usize,
+    marks: usize,
+) -> Verdict
+    ensures { λ r. ⌜
+        saidVerdict r
+        ≡ checksThen
+        (factorsJudgements
+        rank
+        (now («first_letters» .entry))
+        (now («first_marks» .entry))
+        (now («second_letters» .entry))
+        (now («second_marks» .entry)))
+        (roomJudged (length (now («first_letters» .entry)) + length (now («second_letters» .entry))) letters
+        ∷ roomJudged (length (now («first_letters» .entry)) + length (now («second_letters» .entry))) marks ∷ [])
+        ⌝ }
+{
+    if let Verdict::Refused(refusal) = check_factors(
+        rank,
+        first_letters,
+        first_marks,
+        second_letters,
+        second_marks,
+    ) {
+        return Verdict::Refused(refusal);
+    }
+    let cells = first_letters.len() + second_letters.len();
+    or_else(check_room(cells, letters), check_room(cells, marks))
+}
+
+// The product of two tableaux, into lent letters and marks, or the refusal of 1 to 6 or 13, which leaves both as they were.
+pub fn product(
+    rank: usize,
+    first_letters: &[u8],
+    first_marks: &[u8],
+    second_letters: &[u8],
+    second_marks: &[u8],
+    letters: &mut [u8],
+    marks: &mut [u8],
+) -> Written
+    ensures { λ r. ⌜
+        (saidWritten r, (now (letters .exit), now (marks .exit)))
+        ≡ productRun
+        rank
+        (now («first_letters» .entry))
+        (now («first_marks» .entry))
+        (now («second_letters» .entry))
+        (now («second_marks» .entry))
+        (now (letters .entry))
+        (now (marks .entry))
+        ⌝ }
+{
+    if let Verdict::Refused(refusal) = check_product(
+        rank,
+        first_letters,
+        first_marks,
+        second_letters,
+        second_marks,
+        letters.len(),
+        marks.len(),
+    ) {
+        return Written::Refused(refusal);
+    }
+    let first_counts = letter_counts(rank, first_letters);
+    let second_counts = letter_counts(rank, second_letters);
+    let first_downs = downs_of(first_letters, first_marks);
+    let second_downs = downs_of(second_letters, second_marks);
+    let set = merged_set(
+        rank,
+        &first_counts,
+        &first_downs,
+        &second_counts,
+        &second_downs,
+    );
+    let counts = sum_counts(&first_counts, &second_counts);
+    fill_tableau(rank, &counts, set, letters, marks);
+    Written::Elements(first_letters.len() + second_letters.len())
+}
