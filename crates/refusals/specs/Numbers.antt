@@ -1,9 +1,10 @@
 -- What the checks on numbers come to: each is a refusal by one test.
 --     rank-said, length-said, alike-said, parts-said, used-said, index-said, full-said, room-said      what each says, from its test
+--     together-said                                                                                     2 of a sum, from numbers cut to 1,025
 --     checking                                                                                          the ruleset of these checks
 -- Assumes nothing.
-use Prim.Native.Nat.{ℕ, _≤_, _<_}
-use mathlib.Core.Path.{_≡_, refl, _∙_}
+use Prim.Native.Nat.{ℕ, _+_, _≤_, _<_, min}
+use mathlib.Core.Path.{_≡_, refl, sym, _∙_}
 use mathlib.Core.Logic.{_⊎_, inl, inr}
 use mathlib.Core.List.{[], _∷_}
 use mathlib.Core.Bool.{Bool, true, false, _||_, not}
@@ -33,6 +34,14 @@ no-index n i = low (le-or-lt 1 i)
     low (inl h) = high h (le-or-lt n i)
     low (inr h) = let none : i ≤ 0 = omega arith in rw (lt-ltb i 1 h, le-ltb 0 i none)
 
+-- A sum is above 1,024 exactly where it is with each number cut to 1,025.
+cut-sum : (a b : ℕ) → ltb 1024 (min a 1025 + min b 1025) ≡ ltb 1024 (a + b)
+cut-sum a b = go (le-or-lt (a + b) 1024)
+  where
+    go : (a + b ≤ 1024) ⊎ (1024 < a + b) → ltb 1024 (min a 1025 + min b 1025) ≡ ltb 1024 (a + b)
+    go (inl l) = le-ltb 1024 (min a 1025 + min b 1025) (omega arith) ∙ sym (le-ltb 1024 (a + b) l)
+    go (inr l) = lt-ltb 1024 (min a 1025 + min b 1025) (omega arith) ∙ sym (lt-ltb 1024 (a + b) l)
+
 -- A refusal where the test passes.
 pub refused-if : (b : Bool) (k p : ℕ) (s : Said) → b ≡ true → refused k p ≡ refuseIf b k p s
 refused-if b k p s e = rw e
@@ -61,6 +70,10 @@ pub length-said : {r : Said} (k : ℕ) → r ≡ refuseIf (ltb 1024 k) 2 0 passe
 unfolding lengthJudged
 length-said k h = h
 
+pub together-said : {r : Said} {x y : ℕ} (a b : ℕ) → r ≡ lengthJudged (x + y) → x ≡ min a 1025 → y ≡ min b 1025 → r ≡ lengthJudged (a + b)
+unfolding lengthJudged
+together-said a b h e f = rw (← cut-sum a b, ← e, ← f) h
+
 pub alike-said : {r : Said} (k l : ℕ) → r ≡ refuseIf (not (eqb l k)) 3 0 passed → r ≡ alikeJudged k (l ∷ [])
 unfolding alikeJudged
 alike-said k l h = h
@@ -73,4 +86,4 @@ pub room-said : {r : Said} (need have : ℕ) → r ≡ refuseIf (ltb have need) 
 unfolding roomJudged
 room-said need have h = h
 
-pub ruleset checking = (refused-if, rank-said, length-said, alike-said, parts-said, used-said, index-said, full-said, room-said, needs)
+pub ruleset checking = (refused-if, rank-said, length-said, together-said, alike-said, parts-said, used-said, index-said, full-said, room-said, needs)

@@ -1,7 +1,7 @@
 // The checks on numbers alone: 1, 2, 3, 9, 12 and 13. Each is one test and the refusal that it leads to.
 use crate::answers::Verdict;
 use crate::refusal::Refusal;
-ghost use Prim.Native.Nat.{min};
+ghost use Prim.Native.Nat.{_+_, min};
 ghost use mathlib.Core.Path.{_≡_};
 ghost use mathlib.Core.Bool.{_||_};
 ghost use mathlib.Core.List.{[], _∷_};
@@ -46,6 +46,13 @@ pub fn check_length(length: usize) -> Verdict
     ensures { λ r. ⌜ saidVerdict r ≡ lengthJudged length ⌝ }
 {
     refuse_if(1024 < length, Refusal::Length)
+}
+
+// 2 of two words or tableaux together. A number above 1,025 is taken for 1,025, which alone is too many, so that the sum fits.
+pub fn check_together(first: usize, second: usize) -> Verdict
+    ensures { λ r. ⌜ saidVerdict r ≡ lengthJudged (first + second) ⌝ }
+{
+    check_length(least(first, 1025) + least(second, 1025))
 }
 
 // 3 of a tableau: as many marks as letters.
