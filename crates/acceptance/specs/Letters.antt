@@ -7,7 +7,6 @@
 --     bounds-start, bounds-turn, bounds-end  where it begins, after one more letter, past the last one
 --     unconfirmed                            false confirms nothing
 --     confirmed-passed                       confirmed letters pass the check
---     fault-judged, fault-decides            the verdict from the fault that was found
 --     bounding                               the ruleset of the check by bounds
 -- Assumes nothing.
 use Prim.Native.Nat.{ℕ, suc, _+_, _<_, _≤_, max, min}
@@ -22,15 +21,11 @@ use lib.ListN.{length, getD}
 use borrow.Author.Needs.{needs}
 use borrow.Author.Tests.{le-ltb, leb-true}
 use Rattle.hypoplactic.specs.Words.{Within}
-use Rattle.hypoplactic.specs.Replies.{gives, refused}
+use Rattle.hypoplactic.specs.Replies.{gives}
 use Rattle.hypoplactic.specs.Judgements.{lettersFrom, lettersJudged, outside}
 use Rattle.hypoplactic.proofs.Theory.FirstPlaces.{letters-scan}
 use Rattle.hypoplactic.proofs.Theory.Pairs.{le-or-lt}
-use Rattle.refusals.specs.Scanning.{Scanning, scan-from, start, turn, found, none}
-use Rattle.refusals.specs.declared.answers.Verdict.{Verdict}
-use Rattle.refusals.specs.declared.answers.Fault.{Fault}
-use Rattle.refusals.specs.declared.answers.Fault.the-variants.{At}
-use Rattle.refusals.specs.Said.{saidFault, saidVerdict}
+use Rattle.refusals.specs.Scanning.{Scanning, scan-from, start, turn, found, none, fault-said, fault-decides}
 
 -- ---- the scan
 
@@ -102,12 +97,4 @@ pub confirmed-passed : {n : ℕ} {xs : List ℕ} {b : Bool} → Confirmed n xs b
 unfolding lettersJudged
 confirmed-passed {n} {xs} c e = passed-from n 0 xs (c .inside e)
 
--- The verdict from the fault that was found.
-pub fault-judged : {f : Fault} (k p : ℕ) → f ≡ At p → refused k p ≡ saidFault k f
-fault-judged k p e = rw e
-
-pub fault-decides : (v : Verdict) (f : Fault) (n : ℕ) (xs : List ℕ) → saidVerdict v ≡ saidFault 4 f → saidFault 4 f ≡ lettersJudged n xs
-    → saidVerdict v ≡ lettersJudged n xs
-fault-decides v f n xs e h = e ∙ h
-
-pub ruleset bounding = (bounds-start, bounds-turn, bounds-end, unconfirmed, confirmed-passed, fault-judged, fault-decides, needs)
+pub ruleset bounding = (bounds-start, bounds-turn, bounds-end, unconfirmed, confirmed-passed, fault-said, fault-decides, needs)

@@ -75,7 +75,7 @@ fn first_outside(rank: usize, letters: &[u8]) -> Fault
 }
 
 // Where the first letter outside 1 to rank stands, if there is one.
-pub(crate) fn letter_fault(rank: usize, letters: &[u8]) -> Fault
+pub fn letter_fault(rank: usize, letters: &[u8]) -> Fault
     ensures { λ r. ⌜ saidFault 4 r ≡ lettersJudged rank (now (letters .entry)) ⌝ }
 {
     if all_inside(rank, letters) {
@@ -85,7 +85,7 @@ pub(crate) fn letter_fault(rank: usize, letters: &[u8]) -> Fault
 }
 
 // The verdict of 4 from that place.
-pub(crate) fn letters_verdict(fault: Fault) -> Verdict
+pub fn letters_verdict(fault: Fault) -> Verdict
     ensures { λ r. ⌜ saidVerdict r ≡ saidFault 4 fault ⌝ }
 {
     match fault {

@@ -1,7 +1,8 @@
 -- Checks that scan places for the first fault. Each of 4 to 8 is one scan (hypoplactic, FirstPlaces), so one invariant and four laws serve them all.
---     scanFrom k fault i n      refused with k at the first of the n places from i on whose fault stands; passed where none does
---     Scanning                  the loop's invariant: what is left of the scan gives the whole
---     start, turn, found, none  where it begins, after a place without fault, at a fault, past the last place
+--     scanFrom k fault i n         refused with k at the first of the n places from i on whose fault stands; passed where none does
+--     Scanning                     the loop's invariant: what is left of the scan gives the whole
+--     start, turn, found, none     where it begins, after a place without fault, at a fault, past the last place
+--     fault-said, fault-decides    the verdict from the fault that was found
 -- Assumes nothing.
 use Prim.Native.Nat.{ℕ, zero, suc, _+_, _-_, _<_, _≤_}
 use mathlib.Core.Path.{_≡_, refl, sym, ap, ap₂, _∙_}
@@ -11,6 +12,10 @@ use native.Mathlib.Omega.{arith}
 use native.Mathlib.Numerals.{add-one}
 use Rattle.hypoplactic.specs.Replies.{Said, gives, refused, passed, refuseIf}
 use Rattle.hypoplactic.specs.FirstPlaces.{scan}
+use Rattle.refusals.specs.declared.answers.Verdict.{Verdict}
+use Rattle.refusals.specs.declared.answers.Fault.{Fault}
+use Rattle.refusals.specs.declared.answers.Fault.the-variants.{At}
+use Rattle.refusals.specs.Said.{saidFault, saidVerdict}
 
 unfoldable pub scanFrom : ℕ → (ℕ → Bool) → ℕ → ℕ → Said
 scanFrom k fault i zero = passed
@@ -53,3 +58,13 @@ module _ {k : ℕ} {fault : ℕ → Bool} {size : ℕ} {whole : Said} {i : ℕ} 
   pub none : size ≤ i → gives [] ≡ whole
   unfolding scanFrom
   none l = let over : size - i ≡ 0 = omega arith in sym (rw over at (s .left))
+
+-- ---- the verdict from the fault that was found
+
+-- A fault at a place says so.
+pub fault-said : {f : Fault} (k p : ℕ) → f ≡ At p → refused k p ≡ saidFault k f
+fault-said k p e = rw e
+
+-- The verdict of the fault that a check looks for is that of the check.
+pub fault-decides : (v : Verdict) (f : Fault) (k : ℕ) (s : Said) → saidVerdict v ≡ saidFault k f → saidFault k f ≡ s → saidVerdict v ≡ s
+fault-decides v f k s e h = e ∙ h

@@ -17,7 +17,7 @@ use borrow.Author.Tests.{eq-eqb, lt-ltb, ne-eqb}
 use Rattle.hypoplactic.specs.Judgements.{risingJudged, marksJudged}
 use Rattle.hypoplactic.specs.FirstPlaces.{markFault, shorter}
 use Rattle.hypoplactic.proofs.Theory.FirstPlaces.{rising-scan, marks-scan}
-use Rattle.refusals.specs.Scanning.{Scanning, scanFrom, scan-from, start, turn, found, none}
+use Rattle.refusals.specs.Scanning.{Scanning, scanFrom, scan-from, start, turn, found, none, fault-said, fault-decides}
 use Rattle.shapes.specs.Clear.{clearing}
 
 -- ---- letters
@@ -91,4 +91,19 @@ start-marks {size} xs ms e =
     start (shorter xs ms) (marks-scan xs ms ∙ scan-from 6 0 (shorter xs ms) _ (markFault xs ms) (λ q l. let e : 0 + q ≡ q = omega arith in rw e))
     (omega (arith, shorter-size xs ms))
 
-pub ruleset scanning = (turn, found, none, start-rising, start-marks, largest-level, largest-apart, mark-first, mark-later-fault, opens-fall, clearing, needs)
+pub ruleset scanning = (
+  turn,
+  found,
+  none,
+  fault-said,
+  fault-decides,
+  start-rising,
+  start-marks,
+  largest-level,
+  largest-apart,
+  mark-first,
+  mark-later-fault,
+  opens-fall,
+  clearing,
+  needs,
+)

@@ -1,4 +1,5 @@
 // The check on marks, 6. It scans for the first place with any of its three faults only where a pass over all places saw one.
+use refusals::answers::Fault;
 use refusals::answers::Verdict;
 use refusals::numbers::either;
 use refusals::numbers::least;
@@ -10,7 +11,7 @@ ghost use Rattle.hypoplactic.specs.Judgements.{marksJudged};
 ghost use Rattle.hypoplactic.specs.FirstPlaces.{markFault};
 ghost use Rattle.shapes.specs.Clear.{Cleared};
 ghost use Rattle.shapes.specs.Faults.{largestMark};
-ghost use Rattle.refusals.specs.Said.{saidVerdict};
+ghost use Rattle.refusals.specs.Said.{saidFault, saidVerdict};
 
 // The largest mark of a step between two letters: none goes down between equals.
 fn largest_mark(before: u8, here: u8) -> u8
@@ -45,20 +46,37 @@ fn some_mark_wrong(letters: &[u8], marks: &[u8], size: usize) -> bool
     wrong
 }
 
-// 6: the first mark is 0, each other one 0 or 1, and none goes down between equals.
-pub fn check_marks(letters: &[u8], marks: &[u8]) -> Verdict
-    ensures { λ r. ⌜ saidVerdict r ≡ marksJudged (now (letters .entry)) (now (marks .entry)) ⌝ }
+// Where the first wrong mark stands, if there is one.
+pub fn mark_fault(letters: &[u8], marks: &[u8]) -> Fault
+    ensures { λ r. ⌜ saidFault 6 r ≡ marksJudged (now (letters .entry)) (now (marks .entry)) ⌝ }
 {
     let size = least(letters.len(), marks.len());
     if !some_mark_wrong(letters, marks, size) {
-        return Verdict::Passed;
+        return Fault::Nowhere;
     }
     let mut i = 0;
     while i < size {
         if mark_wrong(letters, marks, i) {
-            return Verdict::Refused(Refusal::Mark(i));
+            return Fault::At(i);
         }
         i += 1;
     }
-    Verdict::Passed
+    Fault::Nowhere
+}
+
+// The verdict of 6 from that place.
+pub fn marks_verdict(fault: Fault) -> Verdict
+    ensures { λ r. ⌜ saidVerdict r ≡ saidFault 6 fault ⌝ }
+{
+    match fault {
+        Fault::At(place) => Verdict::Refused(Refusal::Mark(place)),
+        Fault::Nowhere => Verdict::Passed,
+    }
+}
+
+// 6: the first mark is 0, each other one 0 or 1, and none goes down between equals.
+pub fn check_marks(letters: &[u8], marks: &[u8]) -> Verdict
+    ensures { λ r. ⌜ saidVerdict r ≡ marksJudged (now (letters .entry)) (now (marks .entry)) ⌝ }
+{
+    marks_verdict(mark_fault(letters, marks))
 }

@@ -1,4 +1,5 @@
 // The check on rising letters, 5. It scans for the first letter that falls only where a pass over all letters saw one fall.
+use refusals::answers::Fault;
 use refusals::answers::Verdict;
 use refusals::numbers::either;
 use refusals::refusal::Refusal;
@@ -6,7 +7,7 @@ ghost use Prim.Native.Nat.{_<_, _≤_};
 ghost use mathlib.Core.Path.{_≡_};
 ghost use lib.ListN.{length};
 ghost use Rattle.hypoplactic.specs.Judgements.{risingJudged};
-ghost use Rattle.refusals.specs.Said.{saidVerdict};
+ghost use Rattle.refusals.specs.Said.{saidFault, saidVerdict};
 ghost use Rattle.shapes.specs.Clear.{Cleared};
 ghost use Rattle.shapes.specs.Faults.{fallFault};
 
@@ -31,19 +32,36 @@ fn some_letter_falls(letters: &[u8]) -> bool
     wrong
 }
 
-// 5: the letters never fall along the ribbon.
-pub fn check_rising(letters: &[u8]) -> Verdict
-    ensures { λ r. ⌜ saidVerdict r ≡ risingJudged (now (letters .entry)) ⌝ }
+// Where the first letter that is smaller than the one before it stands, if there is one.
+pub fn rising_fault(letters: &[u8]) -> Fault
+    ensures { λ r. ⌜ saidFault 5 r ≡ risingJudged (now (letters .entry)) ⌝ }
 {
     if !some_letter_falls(letters) {
-        return Verdict::Passed;
+        return Fault::Nowhere;
     }
     let mut i = 1;
     while i < letters.len() {
         if letter_falls(letters, i) {
-            return Verdict::Refused(Refusal::Falling(i));
+            return Fault::At(i);
         }
         i += 1;
     }
-    Verdict::Passed
+    Fault::Nowhere
+}
+
+// The verdict of 5 from that place.
+pub fn rising_verdict(fault: Fault) -> Verdict
+    ensures { λ r. ⌜ saidVerdict r ≡ saidFault 5 fault ⌝ }
+{
+    match fault {
+        Fault::At(place) => Verdict::Refused(Refusal::Falling(place)),
+        Fault::Nowhere => Verdict::Passed,
+    }
+}
+
+// 5: the letters never fall along the ribbon.
+pub fn check_rising(letters: &[u8]) -> Verdict
+    ensures { λ r. ⌜ saidVerdict r ≡ risingJudged (now (letters .entry)) ⌝ }
+{
+    rising_verdict(rising_fault(letters))
 }
