@@ -2,7 +2,7 @@
 --     stops, goes-on      an operation whose checks refuse says so; one whose checks pass says what follows
 --     stops-two, goes-on-two, and so for three and four: the same where those checks are a group at the front of its chain
 --     refuses, passes     what one verdict or else another says
---     chained             a check and then a chain; chained-two, chained-three: a group of checks and then a chain
+--     chained             a check and then a chain; chained-two, chained-three, chained-four: a group of checks and then a chain
 --     ends                the last check
 --     chaining            the ruleset of chains
 --     stopping            the ruleset of chains that stop where a group at their front refuses
@@ -61,6 +61,10 @@ module _ (t u v : Verdict) (e : saidVerdict t ≡ orElse (saidVerdict u) (saidVe
   pub chained-three : (i j k s : Said) → saidVerdict u ≡ orElse i (orElse j (orElse k passed)) → saidVerdict v ≡ s
       → saidVerdict t ≡ orElse i (orElse j (orElse k s))
   chained-three i j k s f g = chained (orElse i (orElse j (orElse k passed))) s f g ∙ joins-three i j k s
+
+  pub chained-four : (h i j k s : Said) → saidVerdict u ≡ orElse h (orElse i (orElse j (orElse k passed))) → saidVerdict v ≡ s
+      → saidVerdict t ≡ orElse h (orElse i (orElse j (orElse k s)))
+  chained-four h i j k s f g = chained (orElse h (orElse i (orElse j (orElse k passed)))) s f g ∙ joins-four h i j k s
 
 pub ruleset chaining = (refuses, passes, ends, chained, chained-two, chained-three, needs)
 

@@ -1,0 +1,10 @@
+-- `seconds::counting::counted_on` meets its contract, by the laws of specs/Counting. Assumes nothing.
+use Rattle.seconds.specs.Counting.{counting}
+use Rattle.seconds.proofs.counting.counted_on.Statement.{statement}
+use Rattle.seconds.proofs.counting.counted_on.Tie as tie
+
+pub counted-on-spec : {M : Type 1} → statement M
+counted-on-spec =
+    tie.close
+    (tie.spec (λ c. search counting) (λ c. search counting) (λ c. search counting) (λ c. search counting)
+    (λ c. search counting))

@@ -1,0 +1,12 @@
+-- `seconds::factors::check_factors` meets its contract, by laws of refusals' specs/Chains: four checks at the front, then four and two more. Assumes nothing.
+use Rattle.refusals.specs.Chains.{stops-four, goes-on-four, chained-four, chained, ends}
+use borrow.Author.Needs.{needs}
+use Rattle.seconds.proofs.factors.check_factors.Statement.{statement}
+use Rattle.seconds.proofs.factors.check_factors.Tie as tie
+
+pub check-factors-spec : {M : Type 1} → statement M
+check-factors-spec =
+    tie.close
+    (tie.spec (λ c κs. search needs) (λ c. search needs) (λ c. search stops-four) (λ c. search needs)
+    (λ c κs. search needs) (λ c κs. search needs) (λ c κs. search needs) (λ c κs. search needs)
+    (λ c κs. search needs) (λ c. search (goes-on-four, chained-four, chained, ends)))

@@ -1,0 +1,5 @@
+// Whether two words are accepted, and whether two tableaux are valid factors: the checks 1 to 6 of both. Each is a total function over numbers and slices,
+// equal to its judgements of the written meaning (crates hypoplactic and products).
+mod counting;
+pub mod factors;
+pub mod two_words;
