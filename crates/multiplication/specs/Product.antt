@@ -2,7 +2,7 @@
 --     checked-factors, checked-rooms     the verdict of 1 to 6, and then of 13
 --     Factors n xs ms ys ns              two tableaux of a rank that fit together
 --     counts-fit, product-filled         their counts, added, fit 16 bits; filled by these and by the set that both make, outputs hold the product
---     first-inside, .. rank-high         what the tables ask, once the checks have passed
+--     first-cells, second-cells, rank-high      what the tables ask, once the checks have passed
 --     product-refused, product-passed    the reply, and both outputs, from the verdict of the checks on
 --     checking, replying                 the rulesets of the checks and of the operation
 -- Assumes nothing.
@@ -116,19 +116,12 @@ module _ {v : Verdict} (n : ℕ) (xs ms ys ns letters marks : List ℕ)
       let (one, other, few) = factors-passing n xs ms ys ns .0 (then-passing _ _ e q .0) in
       record { first = one; second = other; few = few }
 
-  -- So their letters are up to 64,
-  pub first-inside : v ≡ Passed → Within 64 xs
-  first-inside q = accepted-within (factors q .first .word)
+  -- So the letters of each are up to 64, and its marks are as many,
+  pub first-cells : v ≡ Passed → Within 64 xs × (length ms ≡ length xs)
+  first-cells q = (accepted-within (factors q .first .word), ribbon-length LetterStep xs ms (factors q .first .tableau))
 
-  pub second-inside : v ≡ Passed → Within 64 ys
-  second-inside q = accepted-within (factors q .second .word)
-
-  -- the marks are as many,
-  pub first-alike : v ≡ Passed → length ms ≡ length xs
-  first-alike q = ribbon-length LetterStep xs ms (factors q .first .tableau)
-
-  pub second-alike : v ≡ Passed → length ns ≡ length ys
-  second-alike q = ribbon-length LetterStep ys ns (factors q .second .tableau)
+  pub second-cells : v ≡ Passed → Within 64 ys × (length ns ≡ length ys)
+  second-cells q = (accepted-within (factors q .second .word), ribbon-length LetterStep ys ns (factors q .second .tableau))
 
   -- the rank is at most 64,
   pub rank-high : v ≡ Passed → n ≤ 64
@@ -149,10 +142,8 @@ module _ {v : Verdict} (n : ℕ) (xs ms ys ns letters marks : List ℕ)
       (f ∙ filled-product (factors q) c t letters marks d g m s (room-judged _ _ .0 room) (room-judged _ _ .0 more))
 
 pub ruleset replying = (
-  first-inside,
-  second-inside,
-  first-alike,
-  second-alike,
+  first-cells,
+  second-cells,
   rank-high,
   counts-fit,
   product-passed,
