@@ -138,8 +138,11 @@ module _ {n : ℕ} {xs ms ys ns cs ds es gs : List ℕ} (t : Tables n xs ms ys n
       rw (t .first-counts .entry a l, t .second-counts .entry a l, t .first-downs .entry a l, t .second-downs .entry a l)
       record {
         built =
-            rw (bit-is (suc a) first-next second-next (h .first-ahead) (h .second-ahead), h .built,
-            or-bit (number (junction (productWord xs ms ys ns)) (64 - suc a) (suc (suc a))) (junction (productWord xs ms ys ns) (suc a)) below)
+            rw (
+              bit-is (suc a) first-next second-next (h .first-ahead) (h .second-ahead),
+              h .built,
+              or-bit (number (junction (productWord xs ms ys ns)) (64 - suc a) (suc (suc a))) (junction (productWord xs ms ys ns) (suc a)) below,
+            )
             (number-more (junction (productWord xs ms ys ns)) (64 - a) (64 - suc a) (suc a) (omega arith));
         first-ahead = rw (next-on xs a, h .first-ahead);
         second-ahead = rw (next-on ys a, h .second-ahead);

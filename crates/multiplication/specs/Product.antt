@@ -1,8 +1,8 @@
 -- The product of two tableaux: what the operation over tables of both factors replies, and what lent memory then holds.
---     checked-factors, checked-rooms     the verdict of 1 to 6, and then of 13
+--     productChecked                     what 1 to 6 of the factors say, and then 13 of both outputs; checked-factors, checked-rooms: by their verdicts
 --     Factors n xs ms ys ns              two tableaux of a rank that fit together
---     counts-fit, product-filled         their counts, added, fit 16 bits; filled by these and by the set that both make, outputs hold the product
---     first-cells, second-cells, rank-high      what the tables ask, once the checks have passed
+--     filled-product                     filled by the counts of both, added, and the set that both make, outputs hold the product
+--     first-cells, .. counts-fit         what the tables and their sums ask, once the checks have passed
 --     product-refused, product-passed    the reply, and both outputs, from the verdict of the checks on
 --     checking, replying                 the rulesets of the checks and of the operation
 -- Assumes nothing.
@@ -11,10 +11,12 @@ use mathlib.Core.Path.{_≡_, refl, sym, ap₂, _∙_}
 use mathlib.Core.List.{List, [], _∷_}
 use native.Mathlib.Omega.{arith}
 use lib.ListN.{length, getD}
+use mir.Syntax.{w64}
+use mir.Val.{Fits}
 use borrow.Author.Needs.{needs}
 use Rattle.hypoplactic.specs.Junctions.{downOut, junctionSet}
 use Rattle.hypoplactic.specs.Judgements.{roomJudged}
-use Rattle.hypoplactic.specs.Replies.{Said, gives, first, passed, written}
+use Rattle.hypoplactic.specs.Replies.{Said, gives, first, orElse, passed, written}
 use Rattle.hypoplactic.specs.Ribbons.{LetterStep, TableauAt}
 use Rattle.hypoplactic.specs.Words.{Within, count, tick}
 use Rattle.hypoplactic.proofs.Theory.Judgements.{room-judged}
@@ -40,15 +42,27 @@ use Rattle.multiplication.specs.Sums.{Sums, SumsFit}
 
 -- ---- the checks
 
+-- 13 of both outputs.
+abbrev rooms : ℕ → ℕ → ℕ → List Said
+rooms need letters marks = roomJudged need letters ∷ roomJudged need marks ∷ []
+
+-- What 1 to 6 of the factors say, and then 13 of outputs of so many elements.
+unfoldable pub productChecked : ℕ → List ℕ → List ℕ → List ℕ → List ℕ → ℕ → ℕ → Said
+productChecked n xs ms ys ns letters marks = checksThen (factorsJudgements n xs ms ys ns) (rooms (length xs + length ys) letters marks)
+
 -- 1 to 6 refuse, or what follows decides.
 module _ {v : Verdict} (n : ℕ) (xs ms ys ns : List ℕ) (e : saidVerdict v ≡ first (factorsJudgements n xs ms ys ns) passed) where
-  pub checked-factors : (ks : List Said) (r : Refusal) → v ≡ Refused r → saidRefusal r ≡ checksThen (factorsJudgements n xs ms ys ns) ks
-  checked-factors ks r q = stops-there (factorsJudgements n xs ms ys ns) e ks r q
+  pub checked-factors : (letters marks : ℕ) (r : Refusal) → v ≡ Refused r → saidRefusal r ≡ productChecked n xs ms ys ns letters marks
+  unfolding productChecked
+  checked-factors letters marks r q = stops-there (factorsJudgements n xs ms ys ns) e _ r q
 
-  pub checked-rooms : {s : Said} (ks : List Said) → v ≡ Passed → s ≡ first ks passed → s ≡ checksThen (factorsJudgements n xs ms ys ns) ks
-  unfolding checksThen
-  checked-rooms ks q g =
-      goes-on (first (factorsJudgements n xs ms ys ns) passed) (first ks passed) e q g ∙ sym (first-append (factorsJudgements n xs ms ys ns) ks passed)
+  pub checked-rooms : {s : Said} (letters marks : ℕ) → v ≡ Passed
+      → s ≡ orElse (roomJudged (length xs + length ys) letters) (orElse (roomJudged (length xs + length ys) marks) passed)
+      → s ≡ productChecked n xs ms ys ns letters marks
+  unfolding productChecked checksThen
+  checked-rooms letters marks q g =
+      goes-on (first (factorsJudgements n xs ms ys ns) passed) _ e q g
+      ∙ sym (first-append (factorsJudgements n xs ms ys ns) (rooms (length xs + length ys) letters marks) passed)
 
 pub ruleset checking = (checked-factors, checked-rooms, chaining)
 
@@ -71,7 +85,7 @@ module _ {n : ℕ} {xs ms ys ns cs es : List ℕ} (h : Factors n xs ms ys ns) (c
   -- added, fit 16 bits,
   fit : SumsFit cs es
   fit = record {
-    fit = λ j l. omega (arith, first-counts .entry j l, second-counts .entry j l, count-length (suc j) xs, count-length (suc j) ys, h .few)
+    fit = λ j l. omega (arith, first-counts .entry j l, second-counts .entry j l, count-length (suc j) xs, count-length (suc j) ys, h .few);
   }
 
   -- and are the counts of the product.
@@ -90,7 +104,12 @@ module _ {n : ℕ} {xs ms ys ns cs es : List ℕ} (h : Factors n xs ms ys ns) (c
       → filled n sums set letters marks ≡ (written (productLetters xs ms ys ns) letters, written (productMarks xs ms ys ns) marks)
   filled-product letters marks d g m s p q =
       let tables : Tables n xs ms ys ns cs _ es _ = record {
-        first = h .first; second = h .second; first-counts = first-counts; first-downs = d; second-counts = second-counts; second-downs = g;
+        first = h .first;
+        second = h .second;
+        first-counts = first-counts;
+        first-downs = d;
+        second-counts = second-counts;
+        second-downs = g;
       } in
       let cells : length (productWord xs ms ys ns) ≡ length xs + length ys = product-length xs ms ys ns (h .first .tableau) (h .second .tableau) in
       filled-word (product-accepted n xs ms ys ns (h .first) (h .second) (h .few)) (added s) _ letters marks (m .is xs ms ys ns tables)
@@ -98,55 +117,53 @@ module _ {n : ℕ} {xs ms ys ns cs es : List ℕ} (h : Factors n xs ms ys ns) (c
 
 -- ---- the operation
 
--- 13 of both outputs.
-abbrev rooms : ℕ → ℕ → ℕ → List Said
-rooms need letters marks = roomJudged need letters ∷ roomJudged need marks ∷ []
-
--- The verdict of 1 to 6 on the factors and of 13,
-module _ {v : Verdict} (n : ℕ) (xs ms ys ns letters marks : List ℕ)
-    (e : saidVerdict v ≡ checksThen (factorsJudgements n xs ms ys ns) (rooms (length xs + length ys) (length letters) (length marks))) where
-  -- which refuses, and both outputs are as they were,
-  pub product-refused : (r : Refusal) → v ≡ Refused r → (saidRefusal r, (letters, marks)) ≡ productRun n xs ms ys ns letters marks
-  unfolding productRun productSays
-  product-refused r q = run-refused _ _ e _ _ (letters, marks) r q
-
-  -- or passes: both are tableaux that fit together.
-  factors : v ≡ Passed → Factors n xs ms ys ns
-  factors q =
+-- The verdict of 1 to 6 on the factors and of 13 passes.
+module _ {v : Verdict} (n : ℕ) (xs ms ys ns : List ℕ) (letters marks : ℕ) (e : saidVerdict v ≡ productChecked n xs ms ys ns letters marks) (q : v ≡ Passed) where
+  -- Both are tableaux that fit together,
+  factors : Factors n xs ms ys ns
+  unfolding productChecked
+  factors =
       let (one, other, few) = factors-passing n xs ms ys ns .0 (then-passing _ _ e q .0) in
       record { first = one; second = other; few = few }
 
-  -- So the letters of each are up to 64, and its marks are as many,
-  pub first-cells : v ≡ Passed → Within 64 xs × (length ms ≡ length xs)
-  first-cells q = (accepted-within (factors q .first .word), ribbon-length LetterStep xs ms (factors q .first .tableau))
+  -- and the outputs have room for them.
+  room : (length xs + length ys ≤ letters) × (length xs + length ys ≤ marks)
+  unfolding productChecked
+  room = let (checks, (as-letters, (as-marks, t))) = then-passing _ _ e q in (room-judged _ _ .0 as-letters, room-judged _ _ .0 as-marks)
 
-  pub second-cells : v ≡ Passed → Within 64 ys × (length ns ≡ length ys)
-  second-cells q = (accepted-within (factors q .second .word), ribbon-length LetterStep ys ns (factors q .second .tableau))
+  -- So the letters of each are up to 64, and its marks are as many,
+  pub first-cells : Within 64 xs × (length ms ≡ length xs)
+  first-cells = (accepted-within (factors .first .word), ribbon-length LetterStep xs ms (factors .first .tableau))
+
+  pub second-cells : Within 64 ys × (length ns ≡ length ys)
+  second-cells = (accepted-within (factors .second .word), ribbon-length LetterStep ys ns (factors .second .tableau))
+
+  -- the cells are few,
+  pub cells-fit : Fits w64 (length xs + length ys)
+  cells-fit = record { fits = omega (arith, factors .few) }
 
   -- the rank is at most 64,
-  pub rank-high : v ≡ Passed → n ≤ 64
-  rank-high q = factors q .first .word .rank-high
+  pub rank-high : n ≤ 64
+  rank-high = factors .first .word .rank-high
 
-  -- the counts can be added,
-  pub counts-fit : {cs es : List ℕ} → v ≡ Passed → Table (countGiven n xs) cs → Table (countGiven n ys) es → SumsFit cs es
-  counts-fit q c t = fit (factors q) c t
+  -- and the counts can be added.
+  pub counts-fit : {cs es : List ℕ} → Table (countGiven n xs) cs → Table (countGiven n ys) es → SumsFit cs es
+  counts-fit c t = fit factors c t
 
-  -- and filled by them, both outputs hold the product.
+-- The operation, from that verdict on:
+module _ {v : Verdict} (n : ℕ) (xs ms ys ns letters marks : List ℕ) (e : saidVerdict v ≡ productChecked n xs ms ys ns (length letters) (length marks)) where
+  -- a refusal, and both outputs are as they were,
+  pub product-refused : (r : Refusal) → v ≡ Refused r → (saidRefusal r, (letters, marks)) ≡ productRun n xs ms ys ns letters marks
+  unfolding productRun productSays productChecked
+  product-refused r q = run-refused _ _ e _ _ (letters, marks) r q
+
+  -- or both, filled by the counts of both factors and the set that these make, hold the product.
   pub product-passed : {cs ds es gs sums : List ℕ} {set : ℕ} (ls ks : List ℕ) → v ≡ Passed → Table (countGiven n xs) cs → Table (countGiven n ys) es
       → Table (λ a. tick (downOut a xs ms) 0) ds → Table (λ a. tick (downOut a ys ns) 0) gs → Merged n cs ds es gs set → Sums cs es sums
       → (ls, ks) ≡ filled n sums set letters marks → (gives ((length xs + length ys) ∷ []), (ls, ks)) ≡ productRun n xs ms ys ns letters marks
-  unfolding productRun productSays
+  unfolding productRun productSays productChecked
   product-passed ls ks q c t d g m s f =
-      let (checks, (room, (more, u))) = then-passing _ _ e q in
-      run-passed _ _ e _ _ (letters, marks) (ls, ks) q
-      (f ∙ filled-product (factors q) c t letters marks d g m s (room-judged _ _ .0 room) (room-judged _ _ .0 more))
+      let (as-letters, as-marks) = room n xs ms ys ns (length letters) (length marks) e q in
+      run-passed _ _ e _ _ (letters, marks) (ls, ks) q (f ∙ filled-product (factors n xs ms ys ns (length letters) (length marks) e q) c t letters marks d g m s as-letters as-marks)
 
-pub ruleset replying = (
-  first-cells,
-  second-cells,
-  rank-high,
-  counts-fit,
-  product-passed,
-  product-refused,
-  needs,
-)
+pub ruleset replying = (cells-fit, rank-high, counts-fit, product-passed, product-refused, needs)

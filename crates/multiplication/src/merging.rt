@@ -34,7 +34,11 @@ fn product_bit(
 {
     let from_first = both(0 < first_next, either(0 < first_down, 0 < second_count));
     let within_second = both(0 < second_next, 0 < second_down);
-    if either(from_first, within_second) { 1 } else { 0 }
+    if either(from_first, within_second) {
+        1
+    } else {
+        0
+    }
 }
 
 // The junction set of the product, from the tables of both factors. How often the next larger letter of either stands in each factor is kept in `first_next`

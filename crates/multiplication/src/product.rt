@@ -9,14 +9,10 @@ use refusals::chains::or_else;
 use refusals::numbers::check_room;
 use seconds::factors::check_factors;
 use words::tables::letter_counts;
-ghost use Prim.Native.Nat.{_+_};
-ghost use mathlib.Core.List.{[], _∷_};
 ghost use mathlib.Core.Path.{_≡_};
-ghost use lib.ListN.{length};
-ghost use Rattle.hypoplactic.specs.Judgements.{roomJudged};
-ghost use Rattle.products.specs.Products.{factorsJudgements, productRun};
-ghost use Rattle.refusals.specs.Running.{checksThen};
+ghost use Rattle.products.specs.Products.{productRun};
 ghost use Rattle.refusals.specs.Said.{saidVerdict, saidWritten};
+ghost use Rattle.multiplication.specs.Product.{productChecked};
 
 // 1 to 6 of the factors, then 13 of both outputs. The cells are added only where 2 has passed.
 fn check_product(
@@ -30,15 +26,14 @@ fn check_product(
 ) -> Verdict
     ensures { λ r. ⌜
         saidVerdict r
-        ≡ checksThen
-        (factorsJudgements
+        ≡ productChecked
         rank
         (now («first_letters» .entry))
         (now («first_marks» .entry))
         (now («second_letters» .entry))
-        (now («second_marks» .entry)))
-        (roomJudged (length (now («first_letters» .entry)) + length (now («second_letters» .entry))) letters
-        ∷ roomJudged (length (now («first_letters» .entry)) + length (now («second_letters» .entry))) marks ∷ [])
+        (now («second_marks» .entry))
+        letters
+        marks
         ⌝ }
 {
     if let Verdict::Refused(refusal) = check_factors(
@@ -87,6 +82,7 @@ pub fn product(
     ) {
         return Written::Refused(refusal);
     }
+    let cells = first_letters.len() + second_letters.len();
     let first_counts = letter_counts(rank, first_letters);
     let second_counts = letter_counts(rank, second_letters);
     let first_downs = downs_of(first_letters, first_marks);
@@ -100,5 +96,5 @@ pub fn product(
     );
     let counts = sum_counts(&first_counts, &second_counts);
     fill_tableau(rank, &counts, set, letters, marks);
-    Written::Elements(first_letters.len() + second_letters.len())
+    Written::Elements(cells)
 }
