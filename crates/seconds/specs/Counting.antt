@@ -1,7 +1,10 @@
 -- Places in a second word or factor.
---     further k f         the fault f at a place k further on
---     FurtherFits k f     that place fits 64 bits
---     counting            the ruleset of the checks that count on
+--     further k f                             the fault f at a place k further on
+--     FurtherFits k f                         that place fits 64 bits
+--     further-fits, further-at                the step from a fault to that one
+--     judged-further                          what a check says that takes it
+--     letter-fits, rising-fits, mark-fits     the place that 4, 5 or 6 names fits, counted on from the length of a slice
+--     counting                                the ruleset of the checks that count on
 -- Assumes nothing.
 use Prim.Native.Nat.{ℕ, _+_, _*_, _^_, _<_, _≤_}
 use mathlib.Core.Path.{_≡_, refl, sym, ap, _∙_}
@@ -22,20 +25,23 @@ use Rattle.refusals.specs.declared.answers.Verdict.{Verdict}
 use Rattle.refusals.specs.Said.{saidFault, saidVerdict}
 use Rattle.shapes.specs.Faults.{shorter-size}
 
+-- The same fault, k places further on.
 abbrev pub further : ℕ → Fault → Fault
 further k (At p) = At (k + p)
 further k Nowhere = Nowhere
 
+-- That place fits 64 bits, if there is one.
 abbrev pub FurtherFits : ℕ → Fault → Type 0
 FurtherFits k (At p) = k + p < 2 ^ 64
 FurtherFits k Nowhere = Unit {0}
 
--- ---- the step
+-- ---- the step, by the fault's case
 
--- By the fault's case.
+-- The sum fits,
 pub further-fits : {f : Fault} (k p : ℕ) → FurtherFits k f → f ≡ At p → Fits w64 (k + p)
 further-fits k p h e = record { fits = rw e at h }
 
+-- and is the place.
 pub further-at : {f : Fault} (k p : ℕ) → f ≡ At p → At (k + p) ≡ further k f
 further-at k p e = rw e
 
@@ -58,7 +64,7 @@ named-fits : (j i size : ℕ) (fault : ℕ → Bool) (f : Fault) (k : ℕ) → s
 named-fits j i size fault (At p) k e h = let (d, is, at, first) = scan-first j i size fault j p (sym e) in omega (arith, first .within)
 named-fits j i size fault Nowhere k e h = tt
 
--- So the place that 4, 5 or 6 names is bounded by the length of the letters, and with the first's length by the sum of both.
+-- So the place that 4, 5 or 6 names is below the length of the letters, and the lengths of two slices have a sum that fits.
 module _ (f : Fault) (k : ℕ) (xs : List ℕ) where
   pub letter-fits : (n : ℕ) → saidFault 4 f ≡ lettersJudged n xs → length xs * 1 < 2 ^ 63 → k * 1 < 2 ^ 63 → FurtherFits k f
   letter-fits n e few less = named-fits 4 0 (length xs) _ f k (e ∙ letters-scan n xs) (omega arith)

@@ -39,10 +39,12 @@ both-accepted n u m v e q =
     let inside : Passes (lettersJudged m v) = not-further (length u) (lettersJudged m v) letters′ in
     (word-passing n u .0 (rank, (short, (letters, tt))), word-passing m v .0 (rank′, (short′, (inside, tt))))
 
+-- The first is,
 pub accepted-first : {r : Verdict} (n : ℕ) (u : List ℕ) (m : ℕ) (v : List ℕ) → saidVerdict r ≡ first (wordsJudgements n u m v) passed → r ≡ Passed
     → Accepted n u
 accepted-first n u m v e q = both-accepted n u m v e q .0
 
+-- and so is the second.
 pub accepted-second : {r : Verdict} (n : ℕ) (u : List ℕ) (m : ℕ) (v : List ℕ) → saidVerdict r ≡ first (wordsJudgements n u m v) passed → r ≡ Passed
     → Accepted m v
 accepted-second n u m v e q = both-accepted n u m v e q .1
