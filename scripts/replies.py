@@ -26,6 +26,7 @@ OPERATIONS = {
     "lower_count_tableau": lambda *a: meaning.count_tableau(False, *a),
     "look": lambda rank, letters, marks, place: found(meaning.look_once(rank, place, letters, marks)),
     "cell_at": lambda *a: found(meaning.cell_at(*a)),
+    "product": meaning.product,
     "check_pair": meaning.check_pair,
     "insert_letter": meaning.insert_letter,
     "word_of_pair": meaning.word_of_pair,
