@@ -1,4 +1,4 @@
-"""The tables of calls, by operation: document 01's checked words, one case at least for each refusal number of each operation, outputs longer than needed
+"""The tables of calls, by operation: the documents' checked words, one case at least for each refusal number of each operation, outputs longer than needed
 and too short by one, and the order of the checks. The program that makes the calls of a table knows its operations alone: at the end of each table it is
 asked for one that it does not know."""
 from line_table import RIBBON_LINES, WORD_LINES
@@ -328,6 +328,110 @@ lower_count_tableau 4 1 1 -
 lower_count_tableau 4 1 1,5 0,0
 """
 
+PRODUCTS = """
+product 3 1,3 0,1 2 0 0*3 0*3
+product 3 2 0 1,3 0,1 0*3 0*3
+product 3 1,3 0,0 2 0 0*3 9*3
+product 2 2 0 1 0 0*2 0*2
+product 2 1 0 2 0 0*2 9*2
+product 2 1 0 1 0 0*2 9*2
+product 2 1,2 0,1 1,2 0,1 0*4 0*4
+product 4 2,3,3,4 0,1,0,1 1,2 0,1 0*6 0*6
+product 4 2,3,3,4 0,1,0,1 1,2 0,1 9*9 8*7
+product 4 - - 3,3,4 0,0,1 0*3 9*3
+product 4 3,3,4 0,0,1 - - 0*3 9*3
+product 4 - - - - - -
+product 4 - - - - 7,7 8
+product 7 1,2,2,3,4,4,5,5,5,6,7 0,0,0,1,1,0,0,0,0,1,0 2,3,3,4 0,1,0,1 0*15 0*15
+product 7 2,3,3,4 0,1,0,1 1,2,2,3,4,4,5,5,5,6,7 0,0,0,1,1,0,0,0,0,1,0 9*15 9*15
+product 3 1,2 0,1 3 0 0*3 0*3
+product 3 1 0 2,3 0,1 0*3 0*3
+product 3 1,2 0,0 1,2 0,0 0*4 0*4
+product 3 1,2 0,0 1,2 0,1 0*4 0*4
+product 3 1,2 0,1 1,2 0,0 0*4 0*4
+product 4 1,3,4 0,1,0 2,4 0,1 9*6 9*5
+product 4 2,4 0,1 1,3,4 0,1,0 9*5 9*6
+product 4 1,4 0,1 2,3 0,0 9*4 9*4
+product 4 2,3 0,0 1,4 0,1 9*4 9*4
+product 4 4 0 1 0 9,9 9,9
+product 64 64 0 1 0 9,9 9,9
+product 64 1 0 64 0 9,9 9,9
+product 64 63,64 0,1 1,64 0,1 9*4 9*4
+product 64 1-64 0*64 1-64 0*64 0*128 9*128
+product 64 1-64 0,1*63 1-64 0*64 0*130 9*129
+product 64 1-64 0*64 64 0 0*65 9*65
+product 64 1-63 0,1*62 64 0 0*64 9*64
+product 64 64 0 1-63 0,1*62 0*64 9*64
+product 1 1*512 0*512 1*512 0*512 0*1024 9*1024
+product 4 1*1024 0*1024 - - 0*1024 9*1024
+product 4 - - 4*1024 0*1024 0*1100 9*1025
+product 4 2*600 0*600 1*424 0*424 0*1024 9*1024
+product 4 1*600 0*600 1*425 0*425 9*3 9*3
+product 4 1*1024 0*1024 1 0 9*3 9*3
+product 4 1 0 1*1024 0*1024 9*3 9*3
+product 4 1*1025 0*1025 - - 9*3 9*3
+product 4 - - 1*1025 0*1025 9*3 9*3
+product 4 1*1025 0*1025 1*1025 0*1025 9*3 9*3
+product 0 1 0 2 0 9,9 9,9
+product 65 1 0 2 0 9,9 9,9
+product 260 1 0 2 0 9,9 9,9
+product 0 - - - - - -
+product 4 1,2 0 3 0 9*3 9*3
+product 4 1,2 0,0,0 3 0 9*3 9*3
+product 4 1,2 0,0 3 - 9*3 9*3
+product 4 1,2 0,0 3,3 0 9*4 9*4
+product 4 1,2 0,0 3 0,0 9*3 9*3
+product 4 1,2 0 3 0,0 9*3 9*3
+product 4 - 0 3 0 9 9
+product 4 3 0 - 0 9 9
+product 4 1 0*1025 3 0 9,9 9,9
+product 4 1 0 3 0*1025 9,9 9,9
+product 4 5,3,4 0,0,0 1,2,3 0,0,0 9*6 9*6
+product 4 1,0,4 0,0,0 1,2,3 0,0,0 9*6 9*6
+product 4 1,3,255 0,0,0 1,2,3 0,0,0 9*6 9*6
+product 4 1,3 0,0 5,2,3 0,0,0 9*5 9*5
+product 4 1,3 0,0 1,5,3 0,0,0 9*5 9*5
+product 4 1,3 0,0 1,2,0 0,0,0 9*5 9*5
+product 4 - - 1,2,5 0,0,0 9*3 9*3
+product 4 1,5 0,0 5,2 0,0 9*4 9*4
+product 4 3,2,4 0,0,0 1,2,3 0,0,0 9*6 9*6
+product 4 1,3,2,4 0,0,0,0 1,2,3 0,0,0 9*7 9*7
+product 4 1,2,1 0,0,0 1,2,3 0,0,0 9*6 9*6
+product 4 1,2 0,0 3,2,4 0,0,0 9*5 9*5
+product 4 1,2 0,0 1,3,2,4 0,0,0,0 9*6 9*6
+product 4 1,2 0,0 1,2,1 0,0,0 9*5 9*5
+product 4 - - 2,1 0,0 9*2 9*2
+product 4 2,1 0,0 2,1 0,0 9*4 9*4
+product 4 1,2,3 1,0,0 1,2,3 0,0,0 9*6 9*6
+product 4 1,2,3 0,2,0 1,2,3 0,0,0 9*6 9*6
+product 4 1,2,2 0,0,1 1,2,3 0,0,0 9*6 9*6
+product 4 1,2 0,0 3 1 9*3 9*3
+product 4 1,2 0,0 1,2,3 1,0,0 9*5 9*5
+product 4 1,2 0,0 1,2,2,3 0,0,1,0 9*6 9*6
+product 4 1,2 0,0 1,2,3 0,0,255 9*5 9*5
+product 4 - - 3 1 9 9
+product 4 1,2 0,2 1,2 1,0 9*4 9*4
+product 65 1*600 0*600 1*425 0*425 9 9
+product 65 1,2 0 3 1 9 9
+product 4 1*600 0*599 1*425 0*424 9 9
+product 4 5*600 0*600 5*425 0*425 9 9
+product 4 5 0 3 - 9 9
+product 4 2,1 2,2 5,1 1,1 9 9
+product 4 2,1 2,2 2,1 1,1 9 9
+product 4 2,2 0,1 2,1 1,1 9 9
+product 4 2,2 0,1 2,2 1,1 9 9
+product 4 2,2 0,0 2,2 0,1 - -
+product 4 1,2 0,0 3,5 0,0 - -
+product 4 1,3 0,1 2 0 9*2 9*3
+product 4 1,3 0,1 2 0 9*3 9*2
+product 4 1,3 0,1 2 0 9*2 9
+product 4 1,3 0,1 2 0 9*7 -
+product 4 - - 1 0 - 9
+product 4 1 0 - - 9 -
+product 4 1*512 0*512 1*512 0*512 9*1023 9*1024
+product 4 1*512 0*512 1*512 0*512 9*1024 9*1023
+"""
+
 NO_WORDS = """
 junction 4 -
 """
@@ -336,10 +440,15 @@ NO_RIBBONS = """
 no_such_operation 1 2 3
 """
 
+NO_PRODUCTS = """
+products 4 - - - - - -
+"""
+
 # The table of each program crate.
 TABLES = {
     "word_operations": (WORDS, COMPARISONS, WORD_LINES, NO_WORDS),
     "ribbon_operations": (RIBBONS, PAIRS, TABLEAUX, RIBBON_LINES, NO_RIBBONS),
+    "product_operations": (PRODUCTS, NO_PRODUCTS),
 }
 
 
