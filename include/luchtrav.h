@@ -1,9 +1,9 @@
 /* luchtrav.h: quasi-ribbon words, for C.
  *
- * The kernel takes words over 1..n and answers with quasi-ribbon tableaux, recording ribbons, moves of the
- * quasi-crystal, classes and weights of the hypoplactic monoid. Every function of the library is proved: it ends,
- * reads and writes inside the memory that it is lent and nowhere else, and answers as this page says. (The compiler is
- * trusted.)
+ * The kernel takes words over 1..n and answers with quasi-ribbon tableaux and their products, recording ribbons, moves
+ * of the quasi-crystal, classes and weights of the hypoplactic monoid. Every function of the library is proved: it
+ * ends, reads and writes inside the memory that it is lent and nowhere else, and answers as this page says. (The
+ * compiler is trusted.)
  *
  * WORDS, TABLEAUX, RIBBONS
  *   rank      1 to 64.
@@ -30,8 +30,9 @@
  *     the first elements of a buffer; those after it keep their values, and are not looked at.
  *   - After a refusal every buffer holds what it held before the call.
  *   - 1, 2 and 3 (below) are judged by the numbers of the call, before memory: where one of them refuses, no buffer
- *     is read or written, whatever its pointer and its number. A number of (size_t)-1 is refused like 1,025. A reader
- *     of lines finds its numbers in the text, which it reads. (What is not read is tested, not proved.)
+ *     is read or written, whatever its pointer and its number. A number of (size_t)-1 is refused like 1,025, and so are
+ *     two tableaux that have more than 1,024 cells together, also where that sum fits no size_t. A reader of lines
+ *     finds its numbers in the text, which it reads. (What is not read is tested, not proved.)
  *   - NULL with a number above 0 is memory that is not there. Where 1, 2 or 3 refuses it is not looked at. Any other
  *     call with it is outside of what is promised here, and most likely ends the program by a fault.
  *   - Nothing is kept after a call, and nothing is allocated: a call needs up to 40,000 bytes of stack.
@@ -59,11 +60,12 @@
  *    13 LUCHTRAV_NO_ROOM        needed      an output is too short
  *    14 LUCHTRAV_BAD_LINE       byte        byte that breaks the grammar of the line, or a line that ends early
  *
- *   Of two words the first is searched first, and places in the second count on from the first's length. The letter
- *   to be inserted has the used count as its place. The place of 13 is the number of elements that the output needs;
- *   the first that is too short in the order letters, marks, entries. The place of 14 is that of the first byte that
- *   breaks the grammar, or the text's length; where a line is read, all other places are those of letters or entries.
- *   With each function stand the numbers that it can refuse with, in order.
+ *   Of two words or two tableaux each check searches the first, then the second, and places in the second count on from
+ *   the first's length. 2 judges each word by itself, and the cells of two tableaux together. The letter to be inserted
+ *   has the used count as its place. The place of 13 is the number of elements that the output needs; the first that is
+ *   too short in the order letters, marks, entries. The place of 14 is that of the first byte that breaks the grammar,
+ *   or the text's length; where a line is read, all other places are those of letters or entries. With each function
+ *   stand the numbers that it can refuse with, in order.
  *
  * EXAMPLE
  *   The tableau of 4323 at rank 4, its steps in words. It prints '2 down 3 right 3 down 4'.
@@ -100,7 +102,7 @@ extern "C" {
 
 /* The version; and the number at the end of the shared library's name, which goes one up whenever a program must be
  * compiled anew to run with the library. */
-#define LUCHTRAV_VERSION "0.2.0"
+#define LUCHTRAV_VERSION "0.3.0"
 #define LUCHTRAV_INTERFACE 0
 
 /* The limits. */
@@ -299,6 +301,19 @@ luchtrav_cell luchtrav_look(size_t rank, const uint8_t *letters, size_t letters_
  * Refuses nothing. */
 luchtrav_cell luchtrav_cell_at(const uint8_t *letters, size_t letters_count,
                                const uint8_t *marks, size_t marks_count, size_t place);
+
+/* The product of two tableaux of one rank: the tableau of the first's column reading followed by the second's. Any word
+ * of the first's class followed by any word of the second's has this tableau, so that classes are multiplied without a
+ * word; count is the cells written. Each factor begins a ribbon of its own: its first mark is 0, and the first may end
+ * in a larger letter than the second begins with.
+ * Needs as many elements in letters, and in marks, as the two factors have cells together.
+ * Refuses 1 2 3 4 5 6 13, each over both factors. */
+luchtrav_count luchtrav_product(size_t rank, const uint8_t *first_letters, size_t first_letters_count,
+                                const uint8_t *first_marks, size_t first_marks_count,
+                                const uint8_t *second_letters, size_t second_letters_count,
+                                const uint8_t *second_marks, size_t second_marks_count,
+                                uint8_t *letters, size_t letters_count,
+                                uint8_t *marks, size_t marks_count);
 
 /* ---- pairs --------------------------------------------------------------------------------------------------- */
 

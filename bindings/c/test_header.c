@@ -62,12 +62,26 @@ static void longest(void) {
     LONGEST(12255, answer, w_line, w_count);
 }
 
+/* The factors of a product without memory, their letters and marks as many as told. */
+static size_t product_says(size_t first, size_t first_marks, size_t second, size_t second_marks) {
+    luchtrav_count said =
+        luchtrav_product(4, NULL, first, NULL, first_marks, NULL, second, NULL, second_marks, NULL, 0, NULL, 0);
+    return said.number;
+}
+
 /* NULL where the number is 0, and where 1, 2 or 3 refuses by the numbers alone. */
 static void null(void) {
     expect("the empty word", luchtrav_tableau_of_word(4, NULL, 0, NULL, 0, NULL, 0).number, LUCHTRAV_OK);
     expect("rank", luchtrav_check_word(0, NULL, 4).number, LUCHTRAV_BAD_RANK);
     expect("length", luchtrav_check_word(4, NULL, (size_t)-1).number, LUCHTRAV_BAD_LENGTH);
     expect("parts", luchtrav_check_tableau(4, NULL, 4, NULL, 3).number, LUCHTRAV_BAD_PARTS);
+    expect("the empty product", product_says(0, 0, 0, 0), LUCHTRAV_OK);
+    expect("cells together", product_says(600, 600, 425, 425), LUCHTRAV_BAD_LENGTH);
+    expect("cells together, a sum of 2^64", product_says((size_t)1 << 63, 0, (size_t)1 << 63, 0), LUCHTRAV_BAD_LENGTH);
+    expect("cells together, a sum above 2^64", product_says((size_t)-1, 2, 2, 2), LUCHTRAV_BAD_LENGTH);
+    expect("the largest factors", product_says((size_t)-1, (size_t)-1, (size_t)-1, (size_t)-1), LUCHTRAV_BAD_LENGTH);
+    expect("parts of the first factor", product_says(2, (size_t)-1, 3, 3), LUCHTRAV_BAD_PARTS);
+    expect("parts of the second factor", product_says(2, 2, 3, 2), LUCHTRAV_BAD_PARTS);
     expect("used", luchtrav_insert_letter(4, 4, 1, NULL, 4, NULL, 3, NULL, 4).number, LUCHTRAV_BAD_PARTS);
     expect("room", luchtrav_answer(NULL, 4097, NULL, 0).place, sizeof "E,14,4096");
 }
