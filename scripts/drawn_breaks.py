@@ -4,11 +4,19 @@ A break may leave an input valid where there is nothing to break (no letter in a
 """
 from drawn_values import FAR
 
-PARTS = ("word", "first", "second", "letters", "marks", "entries")
+# What stands before the names of a tableau's parts: nothing, or which of two factors it is.
+FACTORS = ("", "first_", "second_")
+TABLEAUX = [factor + part for factor in FACTORS for part in ("letters", "marks")]
+PARTS = ["word", "first", "second", *TABLEAUX, "entries"]
 
 
 def lists_of(input, names=PARTS):
     return [name for name in names if input.get(name) is not None]
+
+
+def factor_of(draw, input):
+    """One of two factors; nothing where there is one tableau."""
+    return draw.one_of([factor for factor in FACTORS if factor + "letters" in input])
 
 
 def break_rank(draw, input):
@@ -18,22 +26,28 @@ def break_rank(draw, input):
 
 
 def break_length(draw, input):
-    """More than 1,024 letters; all parts of a ribbon alike, the cells after the first ones as the last."""
+    """More than 1,024 letters, or cells of two factors together; all parts of a ribbon alike, the cells after the first ones as the last."""
     if "used" in input:
         input["used"] = draw.one_of((1025, 1026, 1025 + draw.below(2000), draw.one_of([number for number in FAR if number > 1024])))
     names = lists_of(input)
     if "first" in names:
         names = [draw.one_of(names)]
     length = draw.one_of((1025, 1025, 1026, 1025 + draw.below(1000)))
+    if "first_letters" in names:
+        factor = factor_of(draw, input)
+        length -= len(input["second_letters" if factor == "first_" else "first_letters"])
+        names = [factor + "letters", factor + "marks"]
     for name in names:
         input[name] = input[name] + [input[name][-1] if input[name] else 1] * (length - len(input[name]))
 
 
 def break_parts(draw, input):
-    """One part of a tableau or pair shorter or longer than the others; in insertion, a used count above one of them."""
-    name = draw.one_of(lists_of(input, ("letters", "marks", "entries")))
+    """One part of a tableau or pair shorter or longer than the others; in insertion, a used count above one of them; a mark given to another factor."""
+    name = draw.one_of(lists_of(input, [*TABLEAUX, "entries"]))
     values = input[name]
-    if "used" in input:
+    if "first_marks" in input and input["first_marks"] and draw.below(4) == 0:
+        input["second_marks"].insert(0, input["first_marks"].pop())
+    elif "used" in input:
         if draw.below(2) and values:
             del values[draw.below(len(values)) :]
         else:
@@ -48,7 +62,7 @@ def break_parts(draw, input):
 
 def break_letter(draw, input):
     """A letter 0 or above the rank; in insertion also the new one."""
-    name = draw.one_of(lists_of(input, ("word", "first", "second", "letters")))
+    name = draw.one_of(lists_of(input, ("word", "first", "second", "letters", "first_letters", "second_letters")))
     rank = input.get(name + "_rank", input.get("rank", 64))
     if "letter" in input and draw.below(2):
         input["letter"] = draw.one_of((0, rank + 1, 256 + rank, draw.one_of(FAR)))
@@ -58,7 +72,7 @@ def break_letter(draw, input):
 
 def break_rising(draw, input):
     """A letter smaller than the one before it."""
-    letters = input["letters"]
+    letters = input[factor_of(draw, input) + "letters"]
     places = [place for place in range(1, len(letters)) if letters[place - 1] > 1]
     if places:
         place = draw.one_of(places)
@@ -67,7 +81,8 @@ def break_rising(draw, input):
 
 def break_mark(draw, input):
     """A mark that is none, a step down into the first cell, or one between equals."""
-    letters, marks = input["letters"], input["marks"]
+    factor = factor_of(draw, input)
+    letters, marks = input[factor + "letters"], input[factor + "marks"]
     if not marks:
         return
     equals = [place for place in range(1, min(len(letters), len(marks))) if letters[place] == letters[place - 1]]
@@ -78,6 +93,13 @@ def break_mark(draw, input):
         marks[0] = 1
     else:
         marks[draw.below(len(marks))] = draw.one_of((2, 3, 255, 128, 2 + draw.below(254)))
+
+
+def break_both(draw, input):
+    """One thing in each of two factors."""
+    for factor in FACTORS[1:]:
+        tableau = {"rank": input["rank"], "letters": input[factor + "letters"], "marks": input[factor + "marks"]}
+        draw.one_of((break_letter, break_rising, break_mark, break_parts))(draw, tableau)
 
 
 def break_entry(draw, input):
@@ -115,7 +137,7 @@ def break_full(draw, input):
 
 BREAKS = {
     "rank": break_rank, "length": break_length, "parts": break_parts, "letter": break_letter, "falling letter": break_rising, "mark": break_mark,
-    "entry": break_entry, "step": break_step, "index": break_index, "full": break_full,
+    "both factors": break_both, "entry": break_entry, "step": break_step, "index": break_index, "full": break_full,
 }
 
 # ---- breaks of a text

@@ -69,6 +69,15 @@ def hide(draw, arguments, places):
         arguments[at] = Claimed([], draw.one_of(HUGE) if draw.below(2) else len(arguments[at]))
 
 
+def claim_sum(draw, arguments):
+    """Two factors, letters and marks alike, with more than 2^64 cells together: a sum that is cut to 64 bits is 0 to 1,024."""
+    first = draw.one_of([1, 2, 3, 512, 1024] + HUGE)
+    counts = [first, 2**64 - first + draw.below(min(first, 1025))]
+    for at, count in zip((1, 3), counts if draw.below(2) else reversed(counts)):
+        for part in (at, at + 1):
+            arguments[part] = Claimed(memory_of(arguments[part])[:count], count)
+
+
 def edge_input(draw, function, kind):
     """An input of drawn.py, its buffers as they are or with larger counts or no memory, so that the plain Python can answer from the memory that is there."""
     while True:
@@ -76,6 +85,8 @@ def edge_input(draw, function, kind):
         if kind == AS_LENT:
             return arguments
         (claim if kind == CLAIMED else hide)(draw, arguments, claimable(function))
+        if function.name == "product" and draw.below(4) == 0:
+            claim_sum(draw, arguments)
         try:
             said = plain_reply(function, [copied(argument) for argument in arguments])
         except NotThere:

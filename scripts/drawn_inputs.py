@@ -43,6 +43,14 @@ def draw_look(draw):
     return {"place": draw.place(len(input["letters"])), **input}
 
 
+def draw_factors(draw):
+    rank = draw.rank()
+    (first_letters, first_marks), (second_letters, second_marks) = draw.factors(rank)
+    return {
+        "rank": rank, "first_letters": first_letters, "first_marks": first_marks, "second_letters": second_letters, "second_marks": second_marks,
+    }
+
+
 def draw_pair(draw):
     rank = draw.rank()
     letters, marks, entries = draw.pair(rank, draw.length())
@@ -105,6 +113,7 @@ INPUTS = {
     "lower_count_tableau": (draw_tableau_move, TABLEAU + ["index"]),
     "look": (draw_look, TABLEAU),
     "cell_at": (draw_look, ["length", "letter", "parts", "falling letter", "mark"]),
+    "product": (draw_factors, TABLEAU + ["both factors", "room"]),
     "check_pair": (draw_pair, PAIR),
     "insert_letter": (draw_insertion, PAIR + ["full", "room"]),
     "word_of_pair": (draw_pair, PAIR + ["room"]),

@@ -32,6 +32,15 @@ class Draw:
             return self.below(13)
         return self.one_of((1024, 1023, self.below(1025), 13 + self.below(200), 13 + self.below(200)))
 
+    def lengths(self):
+        """Of two factors, at most 1,024 together; about one time in 50 nearly as many or exactly so."""
+        if self.below(50):
+            first, second = self.length(), self.length()
+            return first, min(second, 1024 - first)
+        together = self.one_of((1024, 1024, 1023, 1022))
+        first = self.one_of((0, 1, together - 1, together, self.below(together + 1), self.below(together + 1)))
+        return first, together - first
+
     def place(self, count):
         """A place, most often one of the first `count` or not far behind them."""
         return self.below(count + 3) if self.below(8) else self.one_of((count, count + self.below(2000), self.one_of(FAR)))
@@ -62,10 +71,29 @@ class Draw:
 
     def tableau(self, rank, length):
         """Rising letters, and a step down at some of the places where they rise."""
-        letters = sorted(self.word(rank, length))
+        return self.stepped(self.word(rank, length))
+
+    def stepped(self, word):
+        letters = sorted(word)
         of_four = self.below(5)
         marks = [int(place > 0 and letter > letters[place - 1] and self.below(4) < of_four) for place, letter in enumerate(letters)]
         return letters, marks
+
+    def factors(self, rank):
+        """Two tableaux: of a word, by themselves, or the second of letters near to those of the first; now and then both the same."""
+        first_length, second_length = self.lengths()
+        first = self.factor(rank, first_length, [])
+        if self.below(16) == 0 and first_length <= 512:
+            return first, ([*first[0]], [*first[1]])
+        return first, self.factor(rank, second_length, first[0])
+
+    def factor(self, rank, length, others):
+        kind = self.below(4)
+        if kind == 0:
+            return self.pair(rank, length)[:2]
+        if kind == 1 or not others:
+            return self.tableau(rank, length)
+        return self.stepped([min(rank, max(1, self.one_of(others) - 1 + self.below(3))) for _ in range(length)])
 
     def pair(self, rank, length):
         """The pair of a word: its letters sorted, equal ones as they stand; each entry a place from 1; a step down where the entry falls."""

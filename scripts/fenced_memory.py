@@ -8,7 +8,7 @@ import sys
 from lent_memory import PAGE, Laid, Piece, packed
 
 ROOM = 8 * PAGE
-MOST_BUFFERS = 4
+MOST_BUFFERS = 6
 
 
 class NotThere(Exception):

@@ -1,6 +1,6 @@
 """The edits of wrong_kernels.py: what goes wrong, the module, and the text that is exchanged, which stands there once.
 
-Those of EDGES leave every reply and every byte as they must be: they only touch memory that they need not, or were not lent.
+Those of EDGES leave every reply and every byte as they must be: they only touch memory that they need not, or were not lent. RIGHT changes nothing.
 """
 
 CHECKS = [
@@ -119,6 +119,92 @@ MOVES = [
     ("weights to the first word's rank", "meaning", "range(1, 65)]", "range(1, first_rank + 1)]"),
 ]
 
+# The product as it stands, and by letters and marks alone, as a kernel finds it: counts of both factors, the letters that a step down leaves in each, and
+# from the largest letter down the step into the next larger one of either.
+MULTIPLIED = "    new_letters, new_marks, _ = pair_of(reading(first_letters, first_marks) + reading(second_letters, second_marks))\n"
+BY_LETTERS = """    first, second = ([letters.count(a) for a in range(65)] for letters in (first_letters, second_letters))
+    first_down = {first_letters[p - 1] for p, mark in enumerate(first_marks) if mark}
+    second_down = {second_letters[p - 1] for p, mark in enumerate(second_marks) if mark}
+    steps, larger = {}, 0
+    for a in range(64, 0, -1):
+        steps[larger] = first[larger] > 0 and (a in first_down or second[a] > 0) or second[larger] > 0 and a in second_down
+        if first[a] or second[a]:
+            larger = a
+    new_letters = sorted(first_letters + second_letters)
+    new_marks = [int(letter not in new_letters[:place] and steps.get(letter, 0)) for place, letter in enumerate(new_letters)]
+"""
+
+
+def by_letters(old, new):
+    """The product by letters with an edit."""
+    assert BY_LETTERS.count(old) == 1, old
+    return BY_LETTERS.replace(old, new)
+
+
+RIGHT = [("the product by letters", "meaning", MULTIPLIED, BY_LETTERS)]
+
+PRODUCTS = [
+    ("2 times 1 goes right", "meaning", MULTIPLIED, by_letters("(a in first_down or second[a] > 0)", "a in first_down")),
+    ("the factors' steps down exchanged", "meaning", MULTIPLIED, by_letters("    steps,", "    first_down, second_down = second_down, first_down\n    steps,")),
+    ("the next letter by the first factor alone", "meaning", MULTIPLIED, by_letters("if first[a] or second[a]", "if first[a]")),
+    ("the next letter by the second factor alone", "meaning", MULTIPLIED, by_letters("if first[a] or second[a]", "if second[a]")),
+    ("a step down of the first factor kept before the second's letter", "meaning", MULTIPLIED, by_letters("first[larger] > 0 and ", "")),
+    ("a step down wherever the first factor has the next letter", "meaning", MULTIPLIED, by_letters(" and (a in first_down or second[a] > 0)", "")),
+    (
+        "the factors exchanged", "meaning",
+        "reading(first_letters, first_marks) + reading(second_letters, second_marks)",
+        "reading(second_letters, second_marks) + reading(first_letters, first_marks)",
+    ),
+    ("the first factor's steps down dropped", "meaning", "pair_of(reading(first_letters, first_marks) +", "pair_of(first_letters +"),
+    (
+        "the element after the product cleared", "meaning",
+        MULTIPLIED,
+        MULTIPLIED + "    letters[len(new_letters) : len(new_letters) + 1] = [0] * (len(letters) > len(new_letters))\n",
+    ),
+    (
+        "2 judged of each factor alone", "meaning",
+        "    check_length(first_count + len(second_letters))\n",
+        "    check_length(first_count)\n    check_length(len(second_letters))\n",
+    ),
+    (
+        "the marks of both factors counted together", "meaning",
+        "    check_alike(first_letters, first_marks)\n    check_alike(second_letters, second_marks)\n",
+        "    check_alike(first_letters + second_letters, first_marks + second_marks)\n",
+    ),
+    (
+        "4 of the second factor not counted on", "meaning",
+        "check_letters(rank, second_letters, first_count)",
+        "check_letters(rank, second_letters)",
+    ),
+    ("5 of the second factor not counted on", "meaning", "check_rising(second_letters, first_count)", "check_rising(second_letters)"),
+    ("6 of the second factor not counted on", "meaning", "second_marks, first_count)", "second_marks)"),
+    (
+        "5 judged across the factors", "meaning",
+        "    check_rising(first_letters)\n    check_rising(second_letters, first_count)\n",
+        "    check_rising(first_letters + second_letters)\n",
+    ),
+    (
+        "the second factor's first mark judged as a step out of the first", "meaning",
+        "    check_marks(first_letters, first_marks)\n    check_marks(second_letters, second_marks, first_count)\n",
+        "    check_marks(first_letters + second_letters, first_marks + second_marks)\n",
+    ),
+    (
+        "5 of the first factor before 4 of the second", "meaning",
+        "    check_letters(rank, second_letters, first_count)\n    check_rising(first_letters)\n",
+        "    check_rising(first_letters)\n    check_letters(rank, second_letters, first_count)\n",
+    ),
+    (
+        "6 of the first factor before 5 of the second", "meaning",
+        "    check_rising(second_letters, first_count)\n    check_marks(first_letters, first_marks)\n",
+        "    check_marks(first_letters, first_marks)\n    check_rising(second_letters, first_count)\n",
+    ),
+    (
+        "13 of marks that fit the larger factor only", "meaning",
+        "    check_room(len(first_letters) + len(second_letters), letters, marks)\n",
+        "    check_room(len(first_letters) + len(second_letters), letters)\n    check_room(max(len(first_letters), len(second_letters)), marks)\n",
+    ),
+]
+
 LINES = [
     ("a leading zero passes", "lines", 'digits != "0" and ', ""),
     ("a fifth digit passes", "lines", "len(digits) < 4", "len(digits) < 5"),
@@ -148,7 +234,7 @@ LINES = [
     ("the length as the place of a long input", "lines", "Refused(14, 4096)", "Refused(14, len(text))"),
 ]
 
-EDITS = CHECKS + RIBBONS + MOVES + LINES
+EDITS = CHECKS + RIBBONS + MOVES + PRODUCTS + LINES
 
 EDGES = [
     (
@@ -199,5 +285,20 @@ EDGES = [
         "column reading: the mark before the first read", "meaning",
         "    check_tableau(rank, letters, marks)\n    check_room(len(letters), word)\n",
         "    check_tableau(rank, letters, marks)\n    check_room(len(letters), word)\n    marks[-1]\n",
+    ),
+    (
+        "product: cells judged by a sum that is cut to 64 bits", "meaning",
+        "    check_length(first_count + len(second_letters))\n",
+        "    check_length((first_letters.elements + second_letters.elements) % 2**64)\n",
+    ),
+    (
+        "product: letters of the second factor read before 2 is judged", "meaning",
+        "    check_length(first_count + len(second_letters))\n",
+        "    sum(second_letters)\n    check_length(first_count + len(second_letters))\n",
+    ),
+    (
+        "product: marks of the second factor read before 3 is judged", "meaning",
+        "    check_alike(second_letters, second_marks)\n",
+        "    sum(second_marks)\n    check_alike(second_letters, second_marks)\n",
     ),
 ]

@@ -3,7 +3,8 @@
     python3 scripts/wrong_kernels.py         each edit in turn, until an input shows it; exit status 1 if one is never found
 
 Each is the plain Python with one edit, put in the library's place: it reads the lent memory, replies, and writes. The plain Python without the edit
-judges it, as drawn.py does the library; or, where the edit touches memory that it need not, as drawn_edges.py does.
+judges it, as drawn.py does the library; or, where the edit touches memory that it need not, as drawn_edges.py does. Of an edit that changes nothing,
+and of none, nothing must be found.
 """
 import ctypes
 import os
@@ -19,9 +20,10 @@ from drawn_inputs import drawn_input
 from drawn_values import Draw
 from fenced_memory import python_length
 from lent_memory import Memory, packed, unpacked
-from wrong_edits import EDGES, EDITS
+from wrong_edits import EDGES, EDITS, RIGHT
 
 MOST = 1000000
+MOST_RIGHT = 100000
 MOST_EDGES = 300
 MODULES = ("meaning", "lines", "replies")
 
@@ -110,12 +112,12 @@ def over_memory(function, replies):
     return function._replace(call=lambda *passed: struct(*replies.plain_reply(function, arguments_of(function, passed, Elements))))
 
 
-def found_after(replies, seed):
+def found_after(replies, seed, most=MOST):
     """The function in which a wrong kernel is found, and the number of inputs until then, or None."""
     functions = [in_its_place(function, replies) for function in header.functions_of(None).values()]
     draw = Draw(seed)
     memory = Memory(draw)
-    for at in range(MOST):
+    for at in range(most):
         function = functions[at % len(functions)]
         if called(function, memory, drawn_input(draw, function)[1])[1]:
             return function.name, at + 1
@@ -139,6 +141,10 @@ def main():
         print("%-70s %s" % (what, "found at the edge of memory in " + ", ".join(found) if found else "NOT FOUND"), flush=True)
         missed += not found
     print("%d wrong kernels, %d not found" % (len(EDITS) + len(EDGES), missed))
+    for what, module, old, new in RIGHT:
+        found = found_after(edited(module, old, new), "right: " + what, MOST_RIGHT)
+        print("%s: %s" % (what, "FOUND in %s after %d inputs" % found if found else "nothing found in %d inputs" % MOST_RIGHT))
+        missed += found is not None
     right = failing(edited(None, "", ""), "right")
     print("no edit: " + ("FOUND at the edge of memory in " + ", ".join(right) if right else "nothing found at the edge of memory"))
     sys.exit(1 if missed or right else 0)
