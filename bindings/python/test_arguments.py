@@ -29,6 +29,8 @@ class Sequences(Case):
             parts = kind(LETTERS), kind(MARKS), kind(ENTRIES)
             self.assertEqual(lu.word_of_pair(4, *parts), word)
             self.assertEqual(lu.insert_letter(4, 1, *parts), lu.Pair([1, 2, 3, 3, 4], [0, 1, 1, 0, 1], [5, 3, 2, 4, 1]))
+            self.assertEqual(lu.product(4, parts[:2], parts[:2]), lu.product(4, TABLEAU, TABLEAU))
+            self.assertEqual(lu.product(4, *parts[:2], *parts[:2]), lu.product(4, TABLEAU, TABLEAU))
         self.assertEqual(lu.write_recording_line(range(1, 4)), b"N,3,1,2,3\n")
         self.assertEqual(lu.write_word_line(1, [True, True]), b"W,1,2,1,1\n")
         for text in (b"W,4,1,3\n", bytearray(b"W,4,1,3\n"), memoryview(b"W,4,1,3\n")):
@@ -53,6 +55,8 @@ class Sequences(Case):
             self.refuses(1, 0, lu.check_word, 0, long)
             self.refuses(2, 0, lu.check_tableau, 4, long, [])
             self.refuses(3, 0, lu.check_tableau, 4, [1], long)
+            self.refuses(2, 0, lu.product, 4, ([1], [0]), (long, [0]))
+            self.refuses(3, 0, lu.product, 4, ([1], [0]), ([1], long))
             self.refuses(3, 0, lu.check_pair, 4, [1], [0], long)
             self.refuses(2, 0, lu.write_recording_line, long)
         self.assertEqual(lu.cell_at(range(3000), range(3000), 200), lu.Cell(200, 1, 0))
@@ -63,6 +67,7 @@ class Sequences(Case):
         lu.raise_word(3, 2, word)
         lu.raise_tableau(4, 1, letters, marks)
         lu.insert_letter(4, 1, letters, marks, entries)
+        lu.product(4, letters, marks, letters, marks)
         lent = bytearray(b"\3\1\3\1")
         lu.raise_word(3, 2, lent)
         self.assertEqual((word, letters, marks, entries, lent), ([3, 1, 3, 1], [2, 3], [0, 1], [2, 1], b"\3\1\3\1"))
@@ -77,6 +82,7 @@ class Sequences(Case):
             calls: List[Tuple[Any, ...]] = [
                 (lu.check_word, 4, other), (lu.same_class, 4, [1], 4, other), (lu.column_reading, 4, other, [0, 0]), (lu.write_recording_line, other),
                 (lu.check_pair, 4, other, [0, 0], [1, 2]), (lu.Tableau, other, [0, 0]), (lu.Pair, [1, 2], [0, 0], other),
+                (lu.product, 4, ([1], [0]), (other, [0])), (lu.product, 4, ([1], [0]), ([1], other)),
             ]
             for call, *arguments in calls:
                 with self.assertRaisesRegex(TypeError, "^a sequence or a buffer of integers is needed, not %s$" % type(other).__name__):
@@ -174,6 +180,29 @@ class Values(Case):
         self.assertEqual(lu.look(4, letters=LETTERS, marks=MARKS, place=3), lu.Cell(4, 2, 1))
         self.assertIsNone(lu.look(4, TABLEAU, 4))
         self.refuses(4, 3, lu.look, 3, TABLEAU, 0)
+
+    def test_two_tableaux(self) -> None:
+        """Each a Tableau, a pair of letters and marks, or letters and marks one after the other."""
+        letters, marks = [1, 2], [0, 1]
+        expected = lu.Tableau([1, 2, 2, 3, 3, 4], [0, 1, 0, 1, 0, 1])
+        second = lu.Tableau(letters, marks)
+        self.assertEqual(lu.product(4, TABLEAU, second), expected)
+        self.assertEqual(lu.product(4, first=TABLEAU, second=second), expected)
+        self.assertEqual(lu.product(4, (LETTERS, MARKS), (letters, marks)), expected)
+        self.assertEqual(lu.product(4, TABLEAU, (letters, marks)), expected)
+        self.assertEqual(lu.product(4, (tuple(LETTERS), tuple(MARKS)), second), expected)
+        self.assertEqual(lu.product(4, LETTERS, MARKS, letters, marks), expected)
+        self.assertEqual(lu.product(4, TABLEAU, letters, marks), expected)
+        self.assertEqual(lu.product(4, LETTERS, MARKS, second), expected)
+        self.assertEqual(lu.product(4, tuple(LETTERS), tuple(MARKS), tuple(letters), tuple(marks)), expected)
+        call: Callable[..., Any] = lu.product
+        others: List[Tuple[Any, ...]] = [
+            (TABLEAU,), (LETTERS, MARKS), (TABLEAU, letters), (LETTERS, MARKS, letters), (TABLEAU, second, second), (TABLEAU, letters, marks, marks),
+            (LETTERS, MARKS, letters, marks, marks), (LETTERS, MARKS, second, marks), (TABLEAU, PAIR), (PAIR, TABLEAU), (TABLEAU, None), (TABLEAU, ()),
+            (TABLEAU, [letters, marks]), ((1, 2), (0, 1)), (TABLEAU, b"12"), (TABLEAU, second, None),
+        ]
+        for other in others:
+            self.assertRaises(TypeError, call, 4, *other)
 
     def test_pair_for_its_parts(self) -> None:
         lu.check_pair(4, PAIR)

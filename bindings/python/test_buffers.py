@@ -40,6 +40,7 @@ def uses(values: Any) -> Tuple[Any, ...]:
         came_of(lu.tableau_of_word, 64, values), came_of(lu.same_class, 64, [1], 64, values), came_of(lu.raise_word, 64, 1, values),
         [lu.cell_at(values, [0] * len(values), place) for place in range(len(values))],
         [lu.cell_at([1] * len(values), values, place) for place in range(len(values))],
+        came_of(lu.product, 64, ([1], [0]), (values, [0] * len(values))), came_of(lu.product, 64, ([1] * len(values), values), ([1], [0])),
         came_of(lu.check_tableau, 64, [1] * len(values), values), came_of(lu.write_recording_line, values), lu.Tableau(values, values),
     )
 
@@ -108,6 +109,7 @@ class Buffers(Case):
             self.assertEqual(lu.raise_word(3, 2, word), [2, 1, 3, 1])
             self.assertEqual(lu.raise_tableau(4, 1, letters, marks), lu.Tableau([1, 3], [0, 1]))
             self.assertEqual(lu.insert_letter(4, 1, letters, marks, entries), lu.Pair([1, 2, 3], [0, 1, 1], [3, 2, 1]))
+            self.assertEqual(lu.product(4, letters, marks, letters, marks), lu.Tableau([2, 2, 3, 3], [0, 0, 1, 0]))
             self.assertEqual([part.tobytes() for part in (word, letters, marks, entries)], before)
             word.append(1)  # No buffer is held after the call.
 

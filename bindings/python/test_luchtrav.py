@@ -1,4 +1,4 @@
-"""Tests of the operations: document 01's checked words, and what they do not call.
+"""Tests of the operations: document 01's checked words, what they do not call, and products.
 
     python3 bindings/python/test_luchtrav.py
 """
@@ -108,6 +108,35 @@ class Operations(Case):
         self.assertEqual([lu.cell_at(letters, marks, place) for place in range(5)], cells)
         self.assertEqual(lu.cell_at([9, 1], [7], 1), (1, 0, 0))
         self.refuses(4, 3, lu.look, 3, letters, marks, 99)
+
+    def test_products(self) -> None:
+        for rank, first, second, letters, marks in (
+            (3, "31", "2", "123", "001"), (3, "2", "31", "123", "010"), (3, "13", "2", "123", "001"), (2, "2", "1", "12", "01"), (2, "1", "2", "12", "00"),
+            (2, "21", "21", "1122", "0010"), (4, "4323", "21", "122334", "010101"), (4, "", "433", "334", "001"), (4, "433", "", "334", "001"),
+            (4, "", "", "", ""), (7, "12446553275", "4323", "122233344455567", "000010010010010"),
+        ):
+            product = lu.product(rank, lu.tableau_of_word(rank, word_of(first)), lu.tableau_of_word(rank, word_of(second)))
+            self.assertEqual(product, lu.Tableau(word_of(letters), word_of(marks)))
+            self.assertIs(type(product), lu.Tableau)
+
+    def test_laws_of_products(self) -> None:
+        """Words one after the other, three factors either way, and the empty tableau, on all words of up to two letters over 1 to 3."""
+        words = [word_of(digits) for digits in ("", "1", "2", "3", "11", "12", "13", "21", "22", "23", "31", "32", "33")]
+        tableaux = {tuple(word): lu.tableau_of_word(3, word) for word in words}
+        empty = lu.Tableau([], [])
+        for u, first in tableaux.items():
+            self.assertEqual(lu.product(3, empty, first), first)
+            self.assertEqual(lu.product(3, first, empty), first)
+            for v, second in tableaux.items():
+                self.assertEqual(lu.product(3, first, second), lu.tableau_of_word(3, u + v))
+                for third in tableaux.values():
+                    self.assertEqual(lu.product(3, lu.product(3, first, second), third), lu.product(3, first, lu.product(3, second, third)))
+
+    def test_longest_product(self) -> None:
+        word = [64 - place % 64 for place in range(1024)]
+        for cut in (0, 1, 512, 1024):
+            self.assertEqual(lu.product(64, lu.tableau_of_word(64, word[:cut]), lu.tableau_of_word(64, word[cut:])), lu.tableau_of_word(64, word))
+        self.refuses(2, 0, lu.product, 64, lu.tableau_of_word(64, word), lu.Tableau([1], [0]))
 
     def test_lines_there_and_back(self) -> None:
         word = word_of("12446553275")

@@ -44,6 +44,25 @@ class Numbers(Case):
             self.refuses(number, 0, lu.check_pair, 4, *parts)
 
 
+    def test_product(self) -> None:
+        """1 to 6, each over the first factor, then over the second, before the next."""
+        good = [1, 2], [0, 0]
+        self.refuses(1, 0, lu.product, 65, good, good)
+        self.refuses(2, 0, lu.product, 4, ([1] * 600, [0] * 600), ([1] * 425, [0] * 425))
+        self.refuses(2, 0, lu.product, 4, ([1] * 1024, []), ([1], []))
+        for parts in (([1, 2], [0]), ([1], [0, 0]), ([], [0]), ([1], [])):
+            self.refuses(3, 0, lu.product, 4, parts, good)
+            self.refuses(3, 0, lu.product, 4, good, parts)
+        self.refuses(3, 0, lu.product, 4, ([1, 2], [0]), ([1], [0, 0]))
+        faults = (4, 0, ([5, 2], [0, 0])), (4, 1, ([1, 0], [0, 0])), (5, 1, ([2, 1], [0, 0])), (6, 0, ([3], [1])), (6, 1, ([2, 2], [0, 1]))
+        for number, place, parts in faults:
+            self.refuses(number, place, lu.product, 4, parts, good)
+            self.refuses(number, 2 + place, lu.product, 4, good, parts)
+            self.refuses(number, place, lu.product, 4, parts, parts)
+        self.refuses(4, 3, lu.product, 4, ([2, 1], [0, 0]), ([1, 5], [2, 2]))
+        self.refuses(5, 3, lu.product, 4, ([2, 2], [0, 1]), ([2, 1], [0, 0]))
+
+
 class Exceptions(Case):
     def test_value(self) -> None:
         """What stands at the place, as the caller gave it, and nothing where nothing stands there."""
@@ -56,6 +75,10 @@ class Exceptions(Case):
             (7, lu.same_class, (4, [1, 2], 4, [3, 7])),
             (5, lu.compare_weights, (4, [1, 5], 4, [3, 7])),
             (2, lu.check_tableau, (4, [3, 2], [0, 0])),
+            (9, lu.product, (4, shape, ([3, 9], [0, 0]))),
+            (-7, lu.product, (4, *shape, array("q", [3, -7]), [0, 0])),
+            (8, lu.product, (4, shape, ([3, 3], [0, 8]))),
+            (2, lu.product, (4, lu.Tableau([3, 2], [0, 0]), lu.Tableau([3, 1], [0, 0]))),
             (1, lu.column_reading, (4, [2, 2], [0, 1])),
             (256, lu.look, (4, [2, 2], [0, 256], 0)),
             (2**16 + 1, lu.check_pair, (4, *shape, [1, 2**16 + 1])),

@@ -25,9 +25,9 @@ except that 14 comes first. MEANINGS has the numbers too:
     13  an output is too short
     14  byte that breaks the grammar of the line, or a line that ends early
 
-4 to 8 have the first such place, 12 the place 1024, 14 that of the byte or the line's length, all others 0. Of two words the first is searched first,
-and places in the second count on from the first's length; a letter to be inserted has the number of cells as its place. Memory for outputs is lent by
-the binding, so that 13 does not arise.
+4 to 8 have the first such place, 12 the place 1024, 14 that of the byte or the line's length, all others 0. Of two words or tableaux the first is
+searched first, and places in the second count on from the first's length; 2 judges each word by itself, and the cells of two tableaux together. A
+letter to be inserted has the number of cells as its place. Memory for outputs is lent by the binding, so that 13 does not arise.
 
 A letter that fits no byte is handed on as 0, a mark as 255, an entry that does not fit 16 bits as 0, a rank, index or inserted letter that fits no
 size_t as 0: so the kernel refuses them (4, 6, 7, 1, 9, 4) at their place. A place that fits no size_t is one without a cell. What is no integer is a
@@ -41,7 +41,7 @@ from .pairs import check_pair, insert_letter, word_of_pair
 from .places import HEADER as _HEADER, version_in as _version_in
 from .refusal import MEANINGS, Refusal
 from .tableaux import (
-    cell_at, check_tableau, column_reading, look, lower_count_tableau, lower_tableau, raise_count_tableau, raise_tableau,
+    cell_at, check_tableau, column_reading, look, lower_count_tableau, lower_tableau, product, raise_count_tableau, raise_tableau,
 )
 from .values import Cell, Junctions, Pair, Tableau
 from .words import (
@@ -53,7 +53,7 @@ __version__ = _version_in(_HEADER)
 
 __all__ = [
     "Cell", "Junctions", "MEANINGS", "Pair", "Refusal", "Tableau", "answer", "cell_at", "check_pair", "check_tableau", "check_word", "column_reading",
-    "compare_weights", "insert_letter", "junctions", "look", "lower_count_tableau", "lower_count_word", "lower_tableau", "lower_word",
+    "compare_weights", "insert_letter", "junctions", "look", "lower_count_tableau", "lower_count_word", "lower_tableau", "lower_word", "product",
     "raise_count_tableau", "raise_count_word", "raise_tableau", "raise_word", "read_recording_line", "read_tableau_line", "read_word_line",
     "recording_of_word", "same_class", "tableau_line_of_word", "tableau_of_word", "word_of_pair", "write_junction_line", "write_recording_line",
     "write_refusal_line", "write_tableau_line", "write_word_line",

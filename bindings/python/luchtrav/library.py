@@ -37,6 +37,7 @@ FUNCTIONS: Dict[str, Tuple[Any, List[Any]]] = {
     "lower_count_tableau": (Count, N + N + B + B),
     "look": (Cell, N + B + B + N),
     "cell_at": (Cell, B + B + N),
+    "product": (Count, N + B + B + B + B + B + B),
     "check_pair": (Done, N + B + B + B),
     "insert_letter": (Count, N + N + N + B + B + B),
     "word_of_pair": (Count, N + B + B + B + B),
@@ -79,7 +80,7 @@ Given = Tuple[Integers, ...]
 
 
 def value_at(place: int, given: Given) -> Optional[int]:
-    """The number that was refused, as the caller gave it; places in a second word count on from the first's length."""
+    """The number that was refused, as the caller gave it; places in a second word or tableau count on from the first's length."""
     for values in given:
         numbers = elements(values)
         if place < len(numbers):

@@ -12,6 +12,9 @@ from .values import Cell, Tableau, tableau_in
 # Letters, or the Tableau that stands for letters and marks.
 Letters = Union[Integers, Tableau]
 
+# One of two tableaux: letters and marks as a pair, which a Tableau is too.
+Factor = Tuple[Integers, Integers]
+
 
 def parts_of(letters: Letters, marks: Optional[Integers]) -> Tuple[Integers, Integers]:
     """Letters and marks, however they were given."""
@@ -133,3 +136,46 @@ def cell_at(letters: Letters, marks: Union[Integers, int, None] = None, place: O
     however many, it gives the letter, and as row and column how many marks 1 and how many marks 0 stand from place 1 to the cell. Refuses nothing."""
     letters, marks, place = parts_and_place(letters, marks, place)
     return seen(ask("cell_at", as_letters(letters, None), as_marks(marks, None), as_place(place)))
+
+
+def factor_in(given: object) -> Factor:
+    """Letters and marks of one of two tableaux."""
+    if not isinstance(given, tuple) or len(given) != 2:
+        raise TypeError("of two tableaux each is a Tableau, or a pair of letters and marks, or letters and marks one after the other")
+    letters, marks = given
+    return letters, marks
+
+
+def factors_in(first: object, second: object, *more: object) -> Tuple[Factor, Factor]:
+    """Letters and marks of two tableaux, however they were given."""
+    if more and isinstance(first, Tableau):
+        second = second, *more
+    elif more:
+        first, second = (first, second), more if len(more) > 1 else more[0]
+    return factor_in(first), factor_in(second)
+
+
+@overload
+def product(rank: int, first: Factor, second: Factor) -> Tableau: ...
+@overload
+def product(rank: int, first: Tableau, second_letters: Integers, second_marks: Integers, /) -> Tableau: ...
+@overload
+def product(rank: int, first_letters: Integers, first_marks: Integers, second: Tableau, /) -> Tableau: ...
+@overload
+def product(
+    rank: int, first_letters: Integers, first_marks: Integers, second_letters: Integers, second_marks: Integers, /
+) -> Tableau: ...
+def product(rank: int, first: object, second: object, *more: object) -> Tableau:
+    """The product of two tableaux: the tableau of the first's column reading followed by the second's, which any word of the first's class followed by
+    any word of the second's has too. Each is a Tableau, a pair of letters and marks, or letters and marks one after the other. Refuses 1 to 6, over
+    both tableaux; 2 where they have more than 1,024 cells together. Places in the second count on from the first's length.
+
+    >>> luchtrav.product(3, luchtrav.tableau_of_word(3, [3, 1]), luchtrav.tableau_of_word(3, [2]))
+    Tableau(letters=(1, 2, 3), marks=(0, 0, 1))
+    """
+    (first_letters, first_marks), (second_letters, second_marks) = factors_in(first, second, *more)
+    factors = as_letters(first_letters), as_marks(first_marks), as_letters(second_letters), as_marks(second_marks)
+    cells = len(factors[0]) + len(factors[2])
+    letters, marks = room("B", cells), room("B", cells)
+    ask("product", as_number(rank), *factors, letters, marks, letters=(first_letters, second_letters), marks=(first_marks, second_marks))
+    return tableau_in(letters, marks)
