@@ -1,5 +1,6 @@
 //! What is measured on: words drawn by a repeatable generator, with all that belongs to them, and the memory that is lent.
 
+use crate::plain::checks::Tableau;
 use crate::plain::insertion;
 use crate::plain::tableaux::column_reading;
 use crate::plain::writers::{write_recording_line, write_tableau_line, write_word_line};
@@ -47,6 +48,13 @@ impl Pair {
             entries,
         }
     }
+
+    pub fn tableau(&self) -> Tableau<'_> {
+        Tableau {
+            letters: &self.letters,
+            marks: &self.marks,
+        }
+    }
 }
 
 /// All inputs of one rank and number of letters.
@@ -61,6 +69,9 @@ pub struct Input {
     pub other: Vec<u8>,
     /// The pair of all letters of the word but the last.
     pub shorter: Pair,
+    /// The pairs of the word's two halves, the factors of a product.
+    pub front: Pair,
+    pub back: Pair,
     /// Raising is defined at rank - 1 and changes the last letter, so that every scan goes to the end.
     pub raising: Pair,
     /// Lowering is defined at 1 and changes the first letter, likewise.
@@ -100,6 +111,8 @@ impl Input {
             count,
             other,
             shorter,
+            front: Pair::new(rank, word[..count / 2].to_vec()),
+            back: Pair::new(rank, word[count / 2..].to_vec()),
             raising: Pair::new(rank, raised),
             lowering: Pair::new(rank, lowered),
             word_line: line(|out| write_word_line(rank, &word, out).ok()),

@@ -219,6 +219,21 @@ extern "C" {
         marks_count: usize,
         place: usize,
     ) -> Cell;
+    pub fn luchtrav_product(
+        rank: usize,
+        first_letters: *const u8,
+        first_letters_count: usize,
+        first_marks: *const u8,
+        first_marks_count: usize,
+        second_letters: *const u8,
+        second_letters_count: usize,
+        second_marks: *const u8,
+        second_marks_count: usize,
+        letters: *mut u8,
+        letters_count: usize,
+        marks: *mut u8,
+        marks_count: usize,
+    ) -> Count;
     pub fn luchtrav_check_pair(
         rank: usize,
         letters: *const u8,

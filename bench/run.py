@@ -128,8 +128,9 @@ def print_costs(counts):
     head = [*sizes("kernel"), *sizes("Rust"), *sizes("ratio")]
     table(["operation", "rank", *head], rows)
     print(
-        "`same_class` and `compare_weights`: for each letter of both words. `insert_letter`: for each cell of the pair"
-        " before the insertion. `write_refusal_line`: for the whole call.\n"
+        "`same_class` and `compare_weights`: for each letter of both words. `product`: for each cell of both factors"
+        " together. `insert_letter`: for each cell of the pair before the insertion. `write_refusal_line`: for the whole"
+        " call.\n"
     )
 
 

@@ -35,7 +35,7 @@ pub type Call = fn(&Input, &mut Lent) -> Reply;
 
 /// What a call costs is told for each of these.
 pub enum Unit {
-    /// A letter of the word, a cell of the tableau or pair, an item of the line.
+    /// A letter of the word, a cell of the tableau or pair or of the two factors, an item of the line.
     Letter,
     /// A letter of one of two words.
     LetterOfBoth,

@@ -1,13 +1,14 @@
-//! Tableaux: column reading, moves, repeat counts, cells.
+//! Tableaux: column reading, moves, repeat counts, cells, products.
 
 use super::{cell, count, done, operation, Operation};
 use crate::inputs::Lent;
 use crate::kernel::*;
 use crate::plain::checks::check_tableau;
+use crate::plain::products::product;
 use crate::plain::tableaux;
 use crate::plain::words::Side::{Lowering, Raising};
 
-pub const OPERATIONS: [Operation; 8] = [
+pub const OPERATIONS: [Operation; 9] = [
     operation(
         "check_tableau",
         |i, _| call!(luchtrav_check_tableau, i.rank, [i.letters], [i.marks]),
@@ -124,5 +125,29 @@ pub const OPERATIONS: [Operation; 8] = [
         "cell_at",
         |i, _| call!(luchtrav_cell_at, [i.letters], [i.marks], i.count - 1),
         |i, _| cell(Ok(tableaux::cell_at(&i.letters, &i.marks, i.count - 1))),
+    ),
+    operation(
+        "product",
+        |i, m| {
+            call!(
+                luchtrav_product,
+                i.rank,
+                [i.front.letters],
+                [i.front.marks],
+                [i.back.letters],
+                [i.back.marks],
+                [mut m.letters],
+                [mut m.marks]
+            )
+        },
+        |i, m| {
+            count(product(
+                i.rank,
+                i.front.tableau(),
+                i.back.tableau(),
+                &mut m.letters,
+                &mut m.marks,
+            ))
+        },
     ),
 ];

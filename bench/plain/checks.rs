@@ -52,28 +52,28 @@ pub fn check_letters(rank: usize, letters: &[u8], before: usize) -> Answer<()> {
     refuse_at(letters.iter().position(outside).map(|p| before + p), 4)
 }
 
-/// 5.
-fn check_rising(letters: &[u8]) -> Answer<()> {
+/// 5, likewise.
+fn check_rising(letters: &[u8], before: usize) -> Answer<()> {
     let steps = || letters.iter().zip(letters.iter().skip(1));
-    if !steps().fold(false, |wrong, (before, here)| wrong | (here < before)) {
+    if !steps().fold(false, |wrong, (left, here)| wrong | (here < left)) {
         return Ok(());
     }
-    let fault = steps().position(|(before, here)| here < before);
-    refuse_at(fault.map(|p| p + 1), 5)
+    let fault = steps().position(|(left, here)| here < left);
+    refuse_at(fault.map(|p| before + p + 1), 5)
 }
 
-/// 6, of as many marks as letters.
-fn check_marks(letters: &[u8], marks: &[u8]) -> Answer<()> {
-    refuse_if(marks.first().is_some_and(|&mark| mark > 0), 6, 0)?;
+/// 6, likewise, of as many marks as letters.
+fn check_marks(letters: &[u8], marks: &[u8], before: usize) -> Answer<()> {
+    refuse_if(marks.first().is_some_and(|&mark| mark > 0), 6, before)?;
     let steps = || {
         let letters = letters.iter().zip(letters.iter().skip(1));
         letters.zip(marks.iter().skip(1))
     };
-    let wrong = |((before, here), &mark): ((&u8, &u8), &u8)| mark > u8::from(before != here);
+    let wrong = |((left, here), &mark): ((&u8, &u8), &u8)| mark > u8::from(left != here);
     if !steps().fold(false, |seen, step| seen | wrong(step)) {
         return Ok(());
     }
-    refuse_at(steps().position(wrong).map(|p| p + 1), 6)
+    refuse_at(steps().position(wrong).map(|p| before + p + 1), 6)
 }
 
 /// 7: a table of bits, one for each entry.
@@ -129,8 +129,8 @@ pub fn check_words(rank: usize, word: &[u8], other_rank: usize, other: &[u8]) ->
 /// 4, 5 and 6.
 fn check_cells(rank: usize, letters: &[u8], marks: &[u8]) -> Answer<()> {
     check_letters(rank, letters, 0)?;
-    check_rising(letters)?;
-    check_marks(letters, marks)
+    check_rising(letters, 0)?;
+    check_marks(letters, marks, 0)
 }
 
 /// 1 to 6 of a tableau.
@@ -138,6 +138,27 @@ pub fn check_tableau(rank: usize, letters: &[u8], marks: &[u8]) -> Answer<()> {
     check_limits(rank, letters.len())?;
     refuse_if(marks.len() != letters.len(), 3, 0)?;
     check_cells(rank, letters, marks)
+}
+
+/// A tableau where it lies.
+#[derive(Clone, Copy)]
+pub struct Tableau<'a> {
+    pub letters: &'a [u8],
+    pub marks: &'a [u8],
+}
+
+/// 1 to 6 of two tableaux of one rank: 2 of their cells together, every other check over the first, then over the second.
+pub fn check_factors(rank: usize, first: Tableau, second: Tableau) -> Answer<()> {
+    let before = first.letters.len();
+    check_limits(rank, before.saturating_add(second.letters.len()))?;
+    refuse_if(first.marks.len() != first.letters.len(), 3, 0)?;
+    refuse_if(second.marks.len() != second.letters.len(), 3, 0)?;
+    check_letters(rank, first.letters, 0)?;
+    check_letters(rank, second.letters, before)?;
+    check_rising(first.letters, 0)?;
+    check_rising(second.letters, before)?;
+    check_marks(first.letters, first.marks, 0)?;
+    check_marks(second.letters, second.marks, before)
 }
 
 /// 1 to 8 of a pair.
@@ -160,8 +181,8 @@ pub fn check_used(
 ) -> Answer<()> {
     check_letters(rank, letters, 0)?;
     refuse_if(letter < 1 || letter > rank, 4, letters.len())?;
-    check_rising(letters)?;
-    check_marks(letters, marks)?;
+    check_rising(letters, 0)?;
+    check_marks(letters, marks, 0)?;
     check_entries(entries)?;
     check_steps(entries, marks)
 }

@@ -5,6 +5,7 @@ pub mod checks;
 pub mod insertion;
 pub mod lines;
 pub mod pairs;
+pub mod products;
 pub mod readers;
 pub mod tableaux;
 pub mod words;
