@@ -4,9 +4,7 @@ use crate::kernel::compare_on_tableau;
 use crate::kernel::compare_on_two;
 use crate::kernel::compare_on_word;
 use crate::partners::partner;
-use crate::scanning::Tableau;
 use crate::scanning::plain_move;
-use crate::scanning::plain_tableau;
 use crate::scanning::plain_times;
 use crate::scanning::tableau_after;
 use crate::two_words::plain_class;
@@ -14,6 +12,8 @@ use crate::two_words::plain_weights;
 use operators::changes::Side;
 use plain_words::Word;
 use plain_words::one_if;
+use plain_words::tableau::Tableau;
+use plain_words::tableau::plain_tableau;
 ghost use Prim.Native.Nat.{_<_, _≤_};
 
 // One more answer, with so many differences.

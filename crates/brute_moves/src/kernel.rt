@@ -1,13 +1,13 @@
 // The kernel's moves and repeat counts, classes and weights, each held to an answer of the second implementation: how many answers differ.
-use crate::comparing::unlike;
 use crate::scanning::Moved;
-use crate::scanning::Tableau;
 use comparisons::classes::same_class;
 use comparisons::weights::compare_weights;
 use operators::changes::Side;
 use operators::moves::move_word;
 use operators::moves::repeat_word;
+use plain_words::comparing::unlike;
 use plain_words::one_if;
+use plain_words::tableau::Tableau;
 use refusals::answers::Class;
 use refusals::answers::Move;
 use refusals::answers::Repeat;

@@ -1,7 +1,6 @@
 // The second implementation of moves, repeat counts, classes and weights, by plain scans and plain insertion, run against the kernel: it prints how many words
 // were compared, how often each answer came of moves on them and on their tableaux, and of pairs of them, and how many differences were found; and then how
 // many answers were spoilt on purpose and how many of these the same comparison found.
-mod comparing;
 mod counting;
 mod kernel;
 mod partners;

@@ -1,17 +1,12 @@
 // Moves on words and on tableaux (document 01, "Moves") by plain scans of the word. Nothing here is of the kernel.
-use plain_words::insertion::plain_pair;
+use plain_words::tableau::Tableau;
+use plain_words::tableau::plain_tableau;
 ghost use Prim.Native.Nat.{_<_, _≤_};
 
 // A word after a move: 0 or the number that the move is refused with, and its letters.
 pub struct Moved {
     pub reply: usize,
     pub letters: [u8; 1024],
-}
-
-// A tableau as the kernel takes it.
-pub struct Tableau {
-    pub letters: [u8; 1024],
-    pub marks: [u8; 1024],
 }
 
 // Where a letter stands first from a place on; the length where it does not stand.
@@ -130,28 +125,6 @@ pub(crate) fn plain_times(
         times += 1;
     }
     times
-}
-
-// Numbers as bytes.
-fn narrowed(list: [u16; 1024]) -> [u8; 1024] {
-    let mut out = [0u8; 1024];
-    let mut i = 0;
-    while i < 1024 {
-        out[i] = (list[i] % 256) as u8;
-        i += 1;
-    }
-    out
-}
-
-// The tableau of a word, by plain insertion.
-pub(crate) fn plain_tableau(length: usize, word: [u8; 1024]) -> Tableau {
-    let pair = plain_pair(length, word);
-    let letters = pair.letters;
-    let marks = pair.marks;
-    Tableau {
-        letters: narrowed(letters),
-        marks: narrowed(marks),
-    }
 }
 
 // The tableau after a move on its word: that of the moved word. It stays where the move is refused.

@@ -4,10 +4,10 @@ use crate::kernel::compare_on_tableau;
 use crate::kernel::compare_on_two;
 use crate::kernel::compare_on_word;
 use crate::scanning::Moved;
-use crate::scanning::Tableau;
-use crate::scanning::plain_tableau;
 use operators::changes::Side;
 use plain_words::one_if;
+use plain_words::tableau::Tableau;
+use plain_words::tableau::plain_tableau;
 use plain_words::word_of;
 ghost use Prim.Native.Nat.{_≤_};
 

@@ -1,9 +1,9 @@
 // Class and weights of two words (document 01, "Same class" and "Weights"): by plain insertion of both words, and by plain counting.
 // Nothing here is of the kernel.
-use crate::comparing::unlike;
-use crate::scanning::plain_tableau;
 use plain_words::Word;
+use plain_words::comparing::unlike;
 use plain_words::one_if;
+use plain_words::tableau::plain_tableau;
 ghost use Prim.Native.Nat.{_≤_};
 
 // 1 for two words of one rank and one tableau, 0 for others.

@@ -2,7 +2,7 @@
 ghost use Prim.Native.Nat.{_≤_};
 
 // 1 where two lists differ, else 0.
-pub(crate) fn unlike(one: [u8; 1024], other: [u8; 1024]) -> usize
+pub fn unlike(one: [u8; 1024], other: [u8; 1024]) -> usize
     ensures { λ r. ⌜ r ≤ 1 ⌝ }
 {
     let mut i = 0;

@@ -1,8 +1,8 @@
--- `brute_moves::comparing::unlike` meets its contract. The invariant: the place is at most 1,024. Assumes nothing.
+-- `plain_words::comparing::unlike` meets its contract. The invariant: the place is at most 1,024. Assumes nothing.
 use Prim.Native.Nat.{_-_, _≤_}
 use borrow.Author.Needs.{needs}
-use Rattle.brute_moves.proofs.comparing.unlike.Statement.{statement}
-use Rattle.brute_moves.proofs.comparing.unlike.Tie as tie
+use Rattle.plain_words.proofs.comparing.unlike.Statement.{statement}
+use Rattle.plain_words.proofs.comparing.unlike.Tie as tie
 
 abbrev Inv-loop : tie.InvT-loop
 Inv-loop one other i₀ i = i ≤ 1024

@@ -1,8 +1,8 @@
--- `brute_moves::scanning::narrowed` is safe and ends. The invariant: the place is at most 1,024. Assumes nothing.
+-- `plain_words::tableau::narrowed` is safe and ends. The invariant: the place is at most 1,024. Assumes nothing.
 use Prim.Native.Nat.{_-_, _≤_}
 use borrow.Author.Needs.{needs}
-use Rattle.brute_moves.proofs.scanning.narrowed.Statement.{statement}
-use Rattle.brute_moves.proofs.scanning.narrowed.Tie as tie
+use Rattle.plain_words.proofs.tableau.narrowed.Statement.{statement}
+use Rattle.plain_words.proofs.tableau.narrowed.Tie as tie
 
 abbrev Inv-loop : tie.InvT-loop
 Inv-loop list out₀ i₀ out i = i ≤ 1024

@@ -1,0 +1,30 @@
+// The tableau of a word by plain insertion, as the kernel gives and takes it.
+use crate::insertion::plain_pair;
+
+// Letters and marks in the first cells of two arrays.
+pub struct Tableau {
+    pub letters: [u8; 1024],
+    pub marks: [u8; 1024],
+}
+
+// Numbers as bytes.
+fn narrowed(list: [u16; 1024]) -> [u8; 1024] {
+    let mut out = [0u8; 1024];
+    let mut i = 0;
+    while i < 1024 {
+        out[i] = (list[i] % 256) as u8;
+        i += 1;
+    }
+    out
+}
+
+// The tableau of a word.
+pub fn plain_tableau(length: usize, word: [u8; 1024]) -> Tableau {
+    let pair = plain_pair(length, word);
+    let letters = pair.letters;
+    let marks = pair.marks;
+    Tableau {
+        letters: narrowed(letters),
+        marks: narrowed(marks),
+    }
+}
