@@ -19,7 +19,7 @@ use Rattle.hypoplactic.specs.Insertion.{lettersOf, marksOf}
 use Rattle.hypoplactic.specs.Rewriting.{Rule, acb-cab, bac-bca, cadb-acbd, bdac-dbca, Step, forth, back, Joined, same, via}
 use Rattle.hypoplactic.proofs.Theory.Letters.{letters-same}
 use Rattle.hypoplactic.proofs.Theory.Marks.{Apart, marks-same}
-use Rattle.hypoplactic.proofs.Theory.Occurrences.{count-append, count-tail, occurs-count, before-append}
+use Rattle.hypoplactic.proofs.Theory.Occurrences.{before-append, count-append, count-tail, occurs-count, occurs-same}
 use Rattle.hypoplactic.proofs.Theory.Pairs.{le-or-lt}
 
 -- Equal counts, and equal precedence of neighbouring letters.
@@ -39,17 +39,13 @@ kept-trans k m = record {
   order = λ p q l apart. k .order p q l apart ∙ m .order p q l (λ x g h. sym (k .counts x) ∙ apart x g h);
 }
 
--- A letter counted as often in both occurs in both or in neither.
-occurs-kept : (a : ℕ) (u v : List ℕ) → count a u ≡ count a v → occurs a u ≡ occurs a v
-occurs-kept a u v e = rw (occurs-count a u, occurs-count a v, e)
-
 kept-front : (s : List ℕ) {u v : List ℕ} → Kept u v → Kept (s ++ u) (s ++ v)
 kept-front s {u} {v} k = record {
   counts = λ a. rw (count-append a s u, count-append a s v, k .counts a);
   order = λ p q l apart. rw (
     before-append s u p q,
     before-append s v p q,
-    occurs-kept p u v (k .counts p),
+    occurs-same p u v (k .counts p),
     k .order p q l (λ x g h. omega (arith, apart x g h, count-append x s u)),
   );
 }
@@ -113,7 +109,7 @@ module _ (s t : List ℕ) (x y : ℕ) (l : x < y) where
 
       apartly : (eqb y q && eqb x p) ≡ false → before (s ++ x ∷ y ∷ t) p q ≡ before (s ++ y ∷ x ∷ t) p q
       apartly e = before-append s (x ∷ y ∷ t) p q
-          ∙ ap₂ (λ (o r : Bool). before s p q || occurs q s && o || r) (occurs-kept p (x ∷ y ∷ t) (y ∷ x ∷ t) (count-swap [] t x y p))
+          ∙ ap₂ (λ (o r : Bool). before s p q || occurs q s && o || r) (occurs-same p (x ∷ y ∷ t) (y ∷ x ∷ t) (count-swap [] t x y p))
           (order-swap (eqb x p) (eqb x q) (eqb y p) (eqb y q) (occurs p t) (before t p q) (never (le-or-lt q x)) e)
           ∙ sym (before-append s (y ∷ x ∷ t) p q)
 

@@ -4,7 +4,7 @@
 --     count-length         no letter stands in a list more often than the list has letters
 --     up-to-append, up-to-length     the same two of the count of letters up to a
 --     before-snoc          before of w with one letter more at its end
---     occurs-count         a letter occurs where its count is not 0
+--     occurs-count         a letter occurs where its count is not 0; occurs-same: counted as often in two words, it occurs in both or in neither
 --     before-absent        no absent letter stands left of another
 -- Assumes nothing.
 use Prim.Native.Nat.{ℕ, suc, _+_, _≤_}
@@ -81,6 +81,10 @@ occurs-count a (x ∷ w) = go (eqb x a) (occurs-count a w)
     go : (b : Bool) → occurs a w ≡ ltb 0 (count a w) → (b || occurs a w) ≡ ltb 0 (tick b (count a w))
     go true e = sym (lt-ltb 0 (suc (count a w)) (omega arith))
     go false e = e
+
+-- A letter counted as often in both occurs in both or in neither.
+pub occurs-same : (a : ℕ) (u v : List ℕ) → count a u ≡ count a v → occurs a u ≡ occurs a v
+occurs-same a u v e = rw (occurs-count a u, occurs-count a v, e)
 
 -- An absent letter stands left of none.
 pub before-absent : (w : List ℕ) (p q : ℕ) → occurs q w ≡ false → before w p q ≡ false

@@ -8,7 +8,7 @@
 --     first-past           what a chain says past judgements that refuse nothing; first-both past all of two lists
 --     passes-then          a test and the rest pass exactly when the facts of both hold
 --     passes-test          a single test passes exactly when its fact holds
---     passes-further       a refusal's place is no reason to refuse
+--     passes-further       a refusal's place is no reason to refuse; passes-nearer: nor not to
 --     ran-answer           where none refuses, lent memory is changed
 --     refused-keeps        a refusal changes no lent memory
 -- Assumes nothing.
@@ -70,10 +70,15 @@ pub passes-test : {P : Type 0} (b : Bool) (k i : ℕ) → ((b ≡ false) ↔ P) 
 passes-test true k i p = (λ r. absurd r, λ r. true≢false (p .1 r))
 passes-test false k i p = (λ r. p .0 refl, λ r. tt)
 
--- Counting a refusal's place on refuses nothing.
+-- Counting a refusal's place on refuses nothing,
 pub passes-further : (k : ℕ) (s : Said) → Passes s → Passes (countOn k s)
 passes-further k (gives vs) p = tt
 passes-further k (refused j i) p = p
+
+-- nor does counting it back.
+pub passes-nearer : (k : ℕ) (s : Said) → Passes (countOn k s) → Passes s
+passes-nearer k (gives vs) p = tt
+passes-nearer k (refused j i) p = p
 
 -- Where no judgement refuses, the values are given and lent memory is the new one.
 pub ran-answer : {A : Type 0} (js ks : List Said) (vs : List ℕ) (new old : A) → Passing js → Passing ks → ranTo (first (js ++ ks) (gives vs)) new old ≡ (gives vs, new)

@@ -1,6 +1,7 @@
 -- The same-class test decides equality of tableaux, for words with letters 1 to 64 (document 01, "Same class").
 --     same-class      of one rank, the test passes exactly when letters and marks of the two tableaux are equal
 --     class-rank      words of different rank are never in one class
+--     before-neighbours     the order of neighbouring letters, by the junction of the smaller
 -- Assumes nothing.
 use Prim.Native.Nat.{ℕ, zero, suc, _+_, _≤_, _<_}
 use mathlib.Core.Path.{_≡_, refl, sym, ap, ap₂, _∙_}
@@ -8,13 +9,13 @@ use mathlib.Core.Logic.{_↔_, _⊎_, inl, inr, dite, Dec·and}
 use mathlib.Core.List.{List}
 use mathlib.Core.Bool.{Bool, true, false, _&&_}
 use mathlib.Core.Option.{some}
-use borrow.Author.Tests.{eq-eqb, eqb-true, ne-eqb}
+use borrow.Author.Tests.{eq-eqb, eqb-true, lt-ltb, ne-eqb}
 use native.Mathlib.Nat.{eq-or-lt-of-le, eq-zero-or-pos}
 use native.Mathlib.Numerals.{one-add}
 use native.Mathlib.Decide.{decLe}
 use native.Mathlib.Omega.{arith}
 use lib.Dec.{eqb}
-use Rattle.hypoplactic.specs.Words.{Inside, Within, before, count}
+use Rattle.hypoplactic.specs.Words.{Inside, Within, before, count, occurs}
 use Rattle.hypoplactic.specs.Insertion.{lettersOf, marksOf}
 use Rattle.hypoplactic.specs.Junctions.{downOut, junction, junctionSet, leftOf, nextLarger, sameClass, sameCounts}
 use Rattle.hypoplactic.proofs.Theory.Bits.{bits-number, number-bits}
@@ -23,7 +24,7 @@ use Rattle.hypoplactic.proofs.Theory.Letters.{count-letters, letters-sa
 use Rattle.hypoplactic.proofs.Theory.Limits.{and-both, count-outside, occurs-none}
 use Rattle.hypoplactic.proofs.Theory.Marks.{Apart, marks-same}
 use Rattle.hypoplactic.proofs.Theory.NextLarger.{next-is}
-use Rattle.hypoplactic.proofs.Theory.Occurrences.{before-absent}
+use Rattle.hypoplactic.proofs.Theory.Occurrences.{before-absent, occurs-count, occurs-same}
 
 -- ---- the test of the counts
 
@@ -55,18 +56,22 @@ junction-outside a w h o = sym (left-occurs w a (nextLarger a w)) ∙ ap (λ (b 
 
 -- ---- the tableau and the class tell each other
 
--- Of two neighbouring letters that occur, the junction of the smaller tells their order.
-before-junction : (w : List ℕ) (p q : ℕ) → p < q → Apart p q w → 1 ≤ count q w → before w p q ≡ junction w p
-before-junction w p q l apart h = ap (leftOf w p) (sym (next-is p w (some q) (l, h, apart)))
+-- Of p < q with no letter of the word between them, some q stands left of some p exactly where q occurs and p has a junction.
+pub before-neighbours : (w : List ℕ) (p q : ℕ) → p < q → Apart p q w → before w p q ≡ (occurs q w && junction w p)
+before-neighbours w p q l apart = go (eq-zero-or-pos (count q w))
+  where
+    go : (count q w ≡ 0) ⊎ (0 < count q w) → before w p q ≡ (occurs q w && junction w p)
+    go (inl z) = let absent : occurs q w ≡ false = occurs-none q w z in before-absent w p q absent ∙ rw absent
+    go (inr h) = rw (next-is p w (some q) (l, h, apart), occurs-count q w, lt-ltb 0 (count q w) h)
 
 module _ (u v : List ℕ) where
   -- Equal counts and equal junctions make equal marks.
   junctions-marks : ((a : ℕ) → count a u ≡ count a v) → ((a : ℕ) → junction u a ≡ junction v a) → marksOf u ≡ marksOf v
-  junctions-marks c j = marks-same u v c (λ p q l apart. go p q l apart (eq-zero-or-pos (count q u)))
-    where
-      go : (p q : ℕ) → p < q → Apart p q u → (count q u ≡ 0) ⊎ (0 < count q u) → before u p q ≡ before v p q
-      go p q l apart (inl z) = before-absent u p q (occurs-none q u z) ∙ sym (before-absent v p q (occurs-none q v (sym (c q) ∙ z)))
-      go p q l apart (inr h) = before-junction u p q l apart h ∙ j p ∙ sym (before-junction v p q l (λ x g k. sym (c x) ∙ apart x g k) (omega (arith, c q)))
+  junctions-marks c j =
+      marks-same u v c
+      (λ p q l apart.
+      before-neighbours u p q l apart ∙ ap₂ _&&_ (occurs-same q u v (c q)) (j p)
+      ∙ sym (before-neighbours v p q l (λ x g k. sym (c x) ∙ apart x g k)))
 
   -- Equal junction sets are equal junctions, of the letters 1 to 64 and so of all.
   set-junctions : Within 64 u → Within 64 v → junctionSet u ≡ junctionSet v → (a : ℕ) → junction u a ≡ junction v a

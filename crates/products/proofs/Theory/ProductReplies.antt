@@ -30,18 +30,13 @@ use Rattle.hypoplactic.proofs.Theory.Joining.{joined-eq, joined-sym}
 use Rattle.hypoplactic.proofs.Theory.Judged.{tableau-passing, word-passing}
 use Rattle.hypoplactic.proofs.Theory.Judgements.{length-judged, room-judged}
 use Rattle.hypoplactic.proofs.Theory.Pairs.{length-letters}
-use Rattle.hypoplactic.proofs.Theory.Passing.{Passing, first-past, passes-further, ran-answer, refused-keeps}
+use Rattle.hypoplactic.proofs.Theory.Passing.{Passing, first-past, passes-further, passes-nearer, ran-answer, refused-keeps}
 use Rattle.hypoplactic.proofs.Theory.Together.{reading-and-back}
 use Rattle.products.specs.Products.{factorsJudgements, productLetters, productMarks, productRun, productSays, productWord}
 use Rattle.products.proofs.Theory.ProductContents.{product-accepted, product-at, product-cells}
 use Rattle.products.proofs.Theory.ProductLaws.{product-of-joined, three-joined}
 
 -- ---- what the judgements let through
-
--- A refusal counted on is one.
-not-further : (k : ℕ) (s : Said) → Passes (countOn k s) → Passes s
-not-further k (gives vs) p = tt
-not-further k (refused j i) p = p
 
 -- 1 to 6 refuse nothing: both factors are tableaux within the limits, and they fit together.
 pub factors-passing : (n : ℕ) (xs ms ys ns : List ℕ)
@@ -51,9 +46,9 @@ factors-passing n xs ms ys ns = (there, back)
     there : Passing (factorsJudgements n xs ms ys ns) → TableauAt n xs ms × TableauAt n ys ns × (length xs + length ys ≤ 1024)
     there (rank, (short, (alike, (alike′, (letters, (letters′, (rising, (rising′, (marks, (marks′, t)))))))))) =
         let fit : length xs + length ys ≤ 1024 = length-judged _ .0 short in
-        let inside = not-further _ (lettersJudged n ys) letters′ in
-        let rises = not-further _ (risingJudged ys) rising′ in
-        let steps = not-further _ (marksJudged ys ns) marks′ in (
+        let inside = passes-nearer _ (lettersJudged n ys) letters′ in
+        let rises = passes-nearer _ (risingJudged ys) rising′ in
+        let steps = passes-nearer _ (marksJudged ys ns) marks′ in (
           tableau-passing n xs ms .0 (rank, (length-judged _ .1 (omega arith), (alike, (letters, (rising, (marks, tt)))))),
           tableau-passing n ys ns .0 (rank, (length-judged _ .1 (omega arith), (alike′, (inside, (rises, (steps, tt)))))),
           fit,

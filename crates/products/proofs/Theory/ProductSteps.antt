@@ -7,14 +7,12 @@
 --     product-junction, product-no-junction    the same of the junctions of the product word
 --     product-only                             no other tableau has the letters of both factors and these down steps
 -- Assumes nothing.
-use Prim.Native.Nat.{ℕ, _+_, _≤_, _<_}
+use Prim.Native.Nat.{ℕ, _+_, _<_}
 use native.Mathlib.Omega.{arith}
 use mathlib.Core.Path.{_≡_, refl, ap, ap₂, sym, _∙_}
 use mathlib.Core.Bool.{Bool, true, false, _&&_, _||_}
 use mathlib.Core.List.{List, _++_}
 use mathlib.Core.Option.{Option, none, some}
-use mathlib.Core.Logic.{_⊎_, inl, inr}
-use borrow.Author.Tests.{lt-ltb}
 use Rattle.hypoplactic.specs.Words.{before, count, occurs}
 use Rattle.hypoplactic.specs.Ribbons.{Tableau}
 use Rattle.hypoplactic.specs.Reading.{columnReading}
@@ -22,30 +20,13 @@ use Rattle.hypoplactic.specs.Junctions.{downOut, junction, leftOf, nextLarger}
 use Rattle.hypoplactic.proofs.Theory.Boundary.{tableau-of-word}
 use Rattle.hypoplactic.proofs.Theory.DownSteps.{junction-down}
 use Rattle.hypoplactic.proofs.Theory.Letters.{letters-same}
-use Rattle.hypoplactic.proofs.Theory.Limits.{occurs-none}
 use Rattle.hypoplactic.proofs.Theory.Marks.{Apart, marks-same}
-use Rattle.hypoplactic.proofs.Theory.NextLarger.{next-is, next-larger, next-same}
-use Rattle.hypoplactic.proofs.Theory.Occurrences.{before-absent, before-append, count-append, occurs-count}
-use Rattle.hypoplactic.proofs.Theory.Pairs.{le-or-lt}
+use Rattle.hypoplactic.proofs.Theory.NextLarger.{next-larger, next-same}
+use Rattle.hypoplactic.proofs.Theory.Occurrences.{before-append, count-append, occurs-same}
 use Rattle.hypoplactic.proofs.Theory.ReadBack.{read-back}
+use Rattle.hypoplactic.proofs.Theory.SameClass.{before-neighbours}
 use Rattle.products.specs.Products.{productLetters, productMarks, productWord}
 use Rattle.products.proofs.Theory.ProductContents.{product-letters-count, product-next, reading-count}
-
--- ---- neighbouring letters
-
--- A letter counted as often in both lists occurs in both or in neither.
-occurs-same : (a : ℕ) (u v : List ℕ) → count a u ≡ count a v → occurs a u ≡ occurs a v
-occurs-same a u v e = rw (occurs-count a u, occurs-count a v, e)
-
--- Of p < q with no letter of the word between them, some q stands left of some p where q occurs and p has a junction.
-before-neighbours : (w : List ℕ) (p q : ℕ) → p < q → Apart p q w → before w p q ≡ (occurs q w && junction w p)
-before-neighbours w p q l apart = go (le-or-lt 1 (count q w))
-  where
-    go : (1 ≤ count q w) ⊎ (count q w < 1) → before w p q ≡ (occurs q w && junction w p)
-    go (inl c) = rw (next-is p w (some q) (l, c, apart), occurs-count q w, lt-ltb 0 (count q w) c)
-    go (inr c) =
-        let absent : occurs q w ≡ false = occurs-none q w (omega arith) in
-        before-absent w p q absent ∙ rw absent
 
 -- ---- one factor
 
