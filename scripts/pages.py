@@ -32,7 +32,7 @@ FUNCTION = r"\bfn NAME\b(?:[^{]*?\bensures)?(.*?)(?:^ *| )\{$"
 THEOREM = r"^ *pub NAME :(.*?)^ *(?:unfolding|NAME) "
 DECLARED = r"\b(fn|struct|enum) NAME\b|^ *pub NAME:|^ *(abbrev |unfoldable )?(pub )?((record|data) )?NAME [:({]"
 REQUIRED = "classes written-classes word-of-pair pair-of-word word-reading read-back class-joined tableau-answer repeat-word starred outputs".split()
-EDITS = [(edit.stem, re.search(r"^file: (\w+)/", edit.read_text(), re.M).group(1)) for edit in CRATES.glob("*/must-fail/*.edit")]
+EDITS = [(edit.stem, re.search(r"^file: (\w+)/", edit.read_text(), re.M).group(1).replace("proofs", "specs")) for edit in CRATES.glob("*/must-fail/*.edit")]
 HEADER = header.functions_of(None)
 EXPORTED = ["luchtrav_" + name for name in HEADER]
 RENAMED = {"look": "look_once", "write_refusal_line": "write_returned_line"}  # what the header calls otherwise than the kernel
@@ -134,9 +134,10 @@ def numbers(text):
 
 
 def listed():
-    """The refusals that specs/ of hypoplactic list for definitions: in headers, for a reply with and without memory; in comments above judgements."""
+    """The refusals that specs/ of hypoplactic and products list for definitions: in headers, for a reply with and without memory; in comments above
+    judgements."""
     specs, found, told = CRATES / "hypoplactic/specs", {}, ""
-    for file in (*specs.glob("*Operations.antt"), specs / "LineReadings.antt"):
+    for file in (*specs.glob("*Operations.antt"), specs / "LineReadings.antt", CRATES / "products/specs/Products.antt"):
         for names, checks in re.findall(rf"^--     (\w+(?:, \w+)*) {{2,}}({NUMBERS})", file.read_text(), re.M):
             found.update((re.sub("(Says|Run)$", end, name), numbers(checks)) for name in names.split(", ") for end in ("Says", "Run"))
     for comment, name in re.findall(rf"^-- ({NUMBERS})|\bpub (\w+(?:Judged|Judgements)) :", (specs / "Judgements.antt").read_text(), re.M):
