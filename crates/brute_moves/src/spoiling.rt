@@ -5,6 +5,7 @@ use crate::kernel::compare_on_two;
 use crate::kernel::compare_on_word;
 use crate::scanning::Moved;
 use operators::changes::Side;
+use plain_words::comparing::turned;
 use plain_words::one_if;
 use plain_words::tableau::Tableau;
 use plain_words::tableau::plain_tableau;
@@ -13,13 +14,6 @@ ghost use Prim.Native.Nat.{_≤_};
 
 // How many answers are spoilt.
 pub(crate) const SPOILT: usize = 9;
-
-// The lowest bit of the first byte turned.
-fn turned(list: [u8; 1024]) -> [u8; 1024] {
-    let mut all = list;
-    all[0] = all[0] ^ 1;
-    all
-}
 
 // Lowering 1 in 3113 at rank 3, which gives 3123 and can be made twice: reply, letters and count.
 pub(crate) fn spoilt_on_word() -> usize

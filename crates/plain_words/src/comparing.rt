@@ -1,4 +1,4 @@
-// The comparison of two lists of bytes.
+// The comparison of two lists of bytes, and a list spoilt on purpose.
 ghost use Prim.Native.Nat.{_≤_};
 
 // 1 where two lists differ, else 0.
@@ -13,4 +13,11 @@ pub fn unlike(one: [u8; 1024], other: [u8; 1024]) -> usize
         i += 1;
     }
     0
+}
+
+// A list with the lowest bit of its first byte turned.
+pub fn turned(list: [u8; 1024]) -> [u8; 1024] {
+    let mut all = list;
+    all[0] = all[0] ^ 1;
+    all
 }

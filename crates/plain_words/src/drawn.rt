@@ -14,7 +14,7 @@ fn next(state: u64) -> u64
 }
 
 // A number below a bound.
-fn below(bound: usize, state: u64) -> usize
+pub fn below(bound: usize, state: u64) -> usize
     requires { ⌜ 0 < bound ⌝ }
     ensures { λ r. ⌜ r < bound ⌝ }
 {

@@ -1,0 +1,48 @@
+// The kernel's product, held to an answer of the second implementation.
+use multiplication::product::product;
+use plain_words::comparing::unlike;
+use plain_words::one_if;
+use plain_words::tableau::Tableau;
+use refusals::answers::Written;
+ghost use Prim.Native.Nat.{_≤_};
+
+// 1 for a refusal and for a count of cells that is not the one given, else 0.
+fn wrong_written(reply: Written, cells: usize) -> usize
+    ensures { λ r. ⌜ r ≤ 1 ⌝ }
+{
+    match reply {
+        Written::Elements(count) => one_if(count != cells),
+        Written::Refused(_) => 1,
+    }
+}
+
+// In how many of reply, letters and marks the product of two tableaux, in so many cells of two arrays each, differs from an answer.
+pub(crate) fn compare(
+    rank: usize,
+    first_count: usize,
+    first_letters: [u8; 1024],
+    first_marks: [u8; 1024],
+    second_count: usize,
+    second_letters: [u8; 1024],
+    second_marks: [u8; 1024],
+    cells: usize,
+    answer: Tableau,
+) -> usize
+    requires { ⌜ («first_count» ≤ 1024) × («second_count» ≤ 1024) ⌝ }
+    ensures { λ r. ⌜ r ≤ 3 ⌝ }
+{
+    let mut letters = [0u8; 1024];
+    let mut marks = [0u8; 1024];
+    let reply = product(
+        rank,
+        &first_letters[0..first_count],
+        &first_marks[0..first_count],
+        &second_letters[0..second_count],
+        &second_marks[0..second_count],
+        &mut letters,
+        &mut marks,
+    );
+    let own_letters = answer.letters;
+    let own_marks = answer.marks;
+    wrong_written(reply, cells) + unlike(letters, own_letters) + unlike(marks, own_marks)
+}

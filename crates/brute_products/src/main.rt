@@ -1,0 +1,104 @@
+// The product of two tableaux, held to plain insertion: words are cut in two, the kernel multiplies the tableaux of both parts, and the product is compared
+// with the tableau of the whole word. Each word of at most 6 letters over 1 to 3 is cut at every place: so every two tableaux over 1 to 3 with at most 6 cells
+// together are multiplied, once for their column readings and once for any other two words of their classes. Each word of plain_words is cut at one place. It
+// prints how many words there were, products and differences; and then how many answers were spoilt on purpose, and how many of these the same comparison
+// found.
+mod cutting;
+mod kernel;
+
+use crate::cutting::SHORT;
+use crate::cutting::compare_cut;
+use crate::cutting::compare_cuts;
+use crate::cutting::compare_with;
+use crate::cutting::short_word;
+use libc::STDOUT_FILENO;
+use plain_words::WORDS;
+use plain_words::comparing::turned;
+use plain_words::drawn::below;
+use plain_words::one_if;
+use plain_words::tableau::Tableau;
+use plain_words::tableau::plain_tableau;
+use plain_words::word_of;
+ghost use Prim.Native.Nat.{_*_, _≤_};
+
+// How many products were compared, and how many differences there were.
+struct Compared {
+    products: usize,
+    differences: usize,
+}
+
+// Short words, each cut at every place.
+fn compare_short() -> Compared
+    ensures { λ r. ⌜ (r .products ≤ 7 * 1093) × (r .differences ≤ 21 * 1093) ⌝ }
+{
+    let mut products = 0;
+    let mut differences = 0;
+    let mut number = 0;
+    while number < SHORT {
+        let word = short_word(number);
+        products += word.length + 1;
+        differences += compare_cuts(word);
+        number += 1;
+    }
+    Compared {
+        products,
+        differences,
+    }
+}
+
+// The words of document 01 and drawn ones, each cut at one place.
+fn compare_drawn() -> usize
+    ensures { λ r. ⌜ r ≤ 3 * 2770 ⌝ }
+{
+    let mut state: u64 = 20201;
+    let mut found = 0;
+    let mut k = 0;
+    while k < WORDS {
+        let word = word_of(k, state);
+        state = word.state;
+        found += compare_cut(word, below(word.length + 1, k as u64));
+        k += 1;
+    }
+    found
+}
+
+// How many of three answers that are spoilt for 31 times 2 the comparison finds: the count of cells, the letters and the marks.
+fn compare_spoilt() -> usize {
+    let word = short_word(24);
+    if word.length != 3 {
+        return 0;
+    }
+    let whole = word.letters;
+    let right = plain_tableau(3, whole);
+    let letters = right.letters;
+    let marks = right.marks;
+    let lettered = Tableau {
+        letters: turned(letters),
+        marks,
+    };
+    let stepped = Tableau {
+        letters,
+        marks: turned(marks),
+    };
+    let count = compare_with(word, 2, 4, right);
+    let letter = compare_with(word, 2, 3, lettered);
+    let mark = compare_with(word, 2, 3, stepped);
+    one_if(count == 1) + one_if(letter == 1) + one_if(mark == 1)
+}
+
+// One line: a name and a number.
+fn print(name: &[u8], number: usize) {
+    io::write_all(STDOUT_FILENO, name);
+    io::print_decimal(STDOUT_FILENO, number as u64);
+    io::write_all(STDOUT_FILENO, b"\n");
+}
+
+// The five lines.
+fn main() {
+    let short = compare_short();
+    print(b"words ", SHORT + WORDS);
+    print(b"products ", short.products + WORDS);
+    print(b"differences ", short.differences + compare_drawn());
+    print(b"spoilt ", 3);
+    print(b"found ", compare_spoilt());
+}
