@@ -1,6 +1,7 @@
 """The edits of wrong_kernels.py: what goes wrong, the module, and the text that is exchanged, which stands there once.
 
-Those of EDGES leave every reply and every byte as they must be: they only touch memory that they need not, or were not lent. RIGHT changes nothing.
+Those of EDGES leave every reply and every byte as they must be where buffers are as long as they say: they only touch memory that they need not, or were
+not lent. RIGHT changes nothing.
 """
 
 CHECKS = [
