@@ -440,15 +440,9 @@ NO_RIBBONS = """
 no_such_operation 1 2 3
 """
 
-NO_PRODUCTS = """
-products 4 - - - - - -
-"""
-
-# The table of each program crate.
 TABLES = {
     "word_operations": (WORDS, COMPARISONS, WORD_LINES, NO_WORDS),
-    "ribbon_operations": (RIBBONS, PAIRS, TABLEAUX, RIBBON_LINES, NO_RIBBONS),
-    "product_operations": (PRODUCTS, NO_PRODUCTS),
+    "ribbon_operations": (RIBBONS, PAIRS, TABLEAUX, PRODUCTS, RIBBON_LINES, NO_RIBBONS),
 }
 
 

@@ -1,8 +1,10 @@
 // Makes every call of operations that make or take tableaux and recording ribbons, or their lines, that a table names, and prints each line of the table with
 // what came of its call (notation).
 mod calls;
+mod factors;
 mod lending;
 
+use factors::multiply;
 use lending::make_call;
 use notation::fields::field;
 use notation::fields::field_of;
@@ -10,11 +12,11 @@ use notation::fields::place_of;
 use notation::printing::print;
 use notation::source::read_argument;
 
-// The place of a line's operation in the order of the calls; 14 where there is no such operation.
+// The place of a line's operation in the order of the calls, the product last; 15 where there is no such operation.
 fn operation_of(line: &[u8]) -> usize {
     let names =
-        b"raise_tableau lower_tableau raise_count_tableau lower_count_tableau look_once column_reading write_tableau_line word_of_pair write_recording_line read_tableau_line insert_letter tableau_of_word recording_of_word read_recording_line";
-    field_of(names, field(line, 0), 14)
+        b"raise_tableau lower_tableau raise_count_tableau lower_count_tableau look_once column_reading write_tableau_line word_of_pair write_recording_line read_tableau_line insert_letter tableau_of_word recording_of_word read_recording_line product";
+    field_of(names, field(line, 0), 15)
 }
 
 // A line, and what came of its call.
@@ -24,6 +26,10 @@ fn answer_line(line: &[u8]) {
     print(b" = ");
     if operation < 14 {
         make_call(operation, line);
+        return print(b"\n");
+    }
+    if operation == 14 {
+        multiply(line);
         return print(b"\n");
     }
     print(b"unknown\n");

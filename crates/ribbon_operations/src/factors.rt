@@ -1,5 +1,5 @@
-// The call of a line: its lists, given or lent to the call. Lent lists are printed after it. The kinds of arguments: n is the rank, a and b are letters and
-// marks of the first factor, c and d those of the second, L and M are lent letters and marks.
+// The call of a product: four lists that are given and two that are lent, which are printed after it. The kinds of arguments: n is the rank, a and b are
+// letters and marks of the first factor, c and d those of the second, L and M are lent letters and marks.
 use multiplication::product::product;
 use notation::answers::print_written;
 use notation::fields::number;
@@ -40,7 +40,7 @@ fn lend(kinds: &[u8], line: &[u8], a: &[u8], b: &[u8], c: &[u8], d: &[u8]) {
 }
 
 // Gives the two factors.
-pub(crate) fn make_call(line: &[u8]) {
+pub(crate) fn multiply(line: &[u8]) {
     let kinds = b"nabcdLM";
     let a_list = list_of(kinds, line, b'a');
     let b_list = list_of(kinds, line, b'b');
