@@ -9,18 +9,18 @@
 --     merging                           the ruleset of the functions that make the set
 -- Assumes nothing.
 use Prim.Native.Nat.{ℕ, zero, suc, _+_, _*_, _-_, _^_, _%_, _≤_, _<_}
-use mathlib.Core.Path.{_≡_, refl, sym, ap, ap₂, _∙_}
+use mathlib.Core.Path.{_≡_, refl, sym}
 use mathlib.Core.List.{List, _++_}
 use mathlib.Core.Bool.{Bool, true, false, cond, _&&_, _||_}
 use mathlib.Core.Option.{Option, none, some}
 use native.Mathlib.Omega.{arith}
 use lib.Bits.{bitOr}
 use lib.Dec.{ltb}
-use lib.ListN.{length, getD}
+use lib.ListN.{getD}
 use borrow.Author.Needs.{needs}
 use Rattle.hypoplactic.specs.Junctions.{downOut, junction, junctionSet, nextLarger, number}
 use Rattle.hypoplactic.specs.Ribbons.{TableauAt}
-use Rattle.hypoplactic.specs.Words.{Within, count, occurs, tick}
+use Rattle.hypoplactic.specs.Words.{count, occurs, tick}
 use Rattle.hypoplactic.proofs.Theory.Bits.{number-below}
 use Rattle.hypoplactic.proofs.Theory.Limits.{count-outside}
 use Rattle.hypoplactic.proofs.Theory.NextLarger.{next-is}

@@ -6,15 +6,15 @@
 --     product-refused, product-passed    the reply, and both outputs, from the verdict of the checks on
 --     checking, replying                 the rulesets of the checks and of the operation
 -- Assumes nothing.
-use Prim.Native.Nat.{ℕ, suc, _+_, _≤_, _<_}
-use mathlib.Core.Path.{_≡_, refl, sym, ap₂, _∙_}
+use Prim.Native.Nat.{ℕ, suc, _+_, _≤_}
+use mathlib.Core.Path.{_≡_, sym, ap₂, _∙_}
 use mathlib.Core.List.{List, [], _∷_}
 use native.Mathlib.Omega.{arith}
-use lib.ListN.{length, getD}
+use lib.ListN.{length}
 use mir.Syntax.{w64}
 use mir.Val.{Fits}
 use borrow.Author.Needs.{needs}
-use Rattle.hypoplactic.specs.Junctions.{downOut, junctionSet}
+use Rattle.hypoplactic.specs.Junctions.{downOut}
 use Rattle.hypoplactic.specs.Judgements.{roomJudged}
 use Rattle.hypoplactic.specs.Replies.{Said, gives, first, orElse, passed, written}
 use Rattle.hypoplactic.specs.Ribbons.{LetterStep, TableauAt}

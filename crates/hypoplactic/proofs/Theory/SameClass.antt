@@ -17,7 +17,7 @@ use native.Mathlib.Omega.{arith}
 use lib.Dec.{eqb}
 use Rattle.hypoplactic.specs.Words.{Inside, Within, before, count, occurs}
 use Rattle.hypoplactic.specs.Insertion.{lettersOf, marksOf}
-use Rattle.hypoplactic.specs.Junctions.{downOut, junction, junctionSet, leftOf, nextLarger, sameClass, sameCounts}
+use Rattle.hypoplactic.specs.Junctions.{downOut, junction, junctionSet, nextLarger, sameClass, sameCounts}
 use Rattle.hypoplactic.proofs.Theory.Bits.{bits-number, number-bits}
 use Rattle.hypoplactic.proofs.Theory.DownSteps.{junction-down, left-occurs}
 use Rattle.hypoplactic.proofs.Theory.Letters.{count-letters, letters-same}

@@ -21,7 +21,7 @@ use Rattle.hypoplactic.specs.Ribbons.{TableauAt}
 use Rattle.hypoplactic.specs.Rewriting.{Joined, same}
 use Rattle.hypoplactic.specs.Insertion.{lettersOf, marksOf}
 use Rattle.hypoplactic.specs.Reading.{columnReading}
-use Rattle.hypoplactic.specs.Replies.{Said, gives, refused, Passes, first, countOn, written}
+use Rattle.hypoplactic.specs.Replies.{Said, gives, refused, first, written}
 use Rattle.hypoplactic.specs.Judgements.{lengthJudged, lettersJudged, marksJudged, rankJudged, risingJudged, roomJudged, wordJudgements}
 use Rattle.hypoplactic.specs.TableauOperations.{tableauRun, tableauSays}
 use Rattle.hypoplactic.proofs.Theory.Closure.{chain-accepted, word-tableau-at}

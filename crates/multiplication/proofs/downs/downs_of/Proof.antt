@@ -12,4 +12,10 @@ abbrev μ-loop : tie.MeasureT-loop
 μ-loop letters marks table₀ i₀ table i = length letters - i
 
 pub downs-of-spec : {M : Type 1} → statement M
-downs-of-spec = tie.close (tie.spec Inv-loop μ-loop (λ c. search stepping) (λ c. search stepping) (λ c. search stepping) (λ c κs. search stepping) (λ c. search stepping) (λ c. search stepping) (λ c. search stepping) (λ c. search stepping) (λ c κs. search stepping) (λ c. search stepping) (λ c. search stepping) (λ c. search stepping) (λ c. search stepping) (λ c. search stepping) (λ c. search (c .before .loop .inv, stepping)))
+downs-of-spec =
+    tie.close
+    (tie.spec Inv-loop μ-loop (λ c. search stepping) (λ c. search stepping) (λ c. search stepping)
+    (λ c κs. search stepping) (λ c. search stepping) (λ c. search stepping) (λ c. search stepping)
+    (λ c. search stepping) (λ c κs. search stepping) (λ c. search stepping) (λ c. search stepping)
+    (λ c. search stepping) (λ c. search stepping) (λ c. search stepping)
+    (λ c. search (c .before .loop .inv, stepping)))

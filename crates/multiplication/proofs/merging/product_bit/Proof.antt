@@ -4,4 +4,7 @@ use Rattle.multiplication.proofs.merging.product_bit.Statement.{stateme
 use Rattle.multiplication.proofs.merging.product_bit.Tie as tie
 
 pub product-bit-spec : {M : Type 1} → statement M
-product-bit-spec = tie.close (tie.spec (λ c κs. search merging) (λ c κs. search merging) (λ c κs. search merging) (λ c κs. search merging) (λ c. search merging) (λ c. search merging))
+product-bit-spec =
+    tie.close
+    (tie.spec (λ c κs. search merging) (λ c κs. search merging) (λ c κs. search merging) (λ c κs. search merging)
+    (λ c. search merging) (λ c. search merging))

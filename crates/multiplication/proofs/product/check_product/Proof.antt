@@ -4,4 +4,8 @@ use Rattle.multiplication.proofs.product.check_product.Statement.{state
 use Rattle.multiplication.proofs.product.check_product.Tie as tie
 
 pub check-product-spec : {M : Type 1} → statement M
-check-product-spec = tie.close (tie.spec (λ c κs. search checking) (λ c. search checking) (λ c. search checking) (λ c. search checking) (λ c. search checking) (λ c κs. search checking) (λ c κs. search checking) (λ c κs. search checking) (λ c. search checking))
+check-product-spec =
+    tie.close
+    (tie.spec (λ c κs. search checking) (λ c. search checking) (λ c. search checking) (λ c. search checking)
+    (λ c. search checking) (λ c κs. search checking) (λ c κs. search checking) (λ c κs. search checking)
+    (λ c. search checking))

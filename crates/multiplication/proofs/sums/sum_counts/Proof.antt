@@ -1,6 +1,5 @@
 -- `multiplication::sums::sum_counts` meets its contract, by the laws of specs/Sums. Assumes nothing.
 use Prim.Native.Nat.{_-_}
-use lib.ListN.{length}
 use Rattle.multiplication.specs.Sums.{summing, Summing}
 use Rattle.multiplication.proofs.sums.sum_counts.Statement.{statement}
 use Rattle.multiplication.proofs.sums.sum_counts.Tie as tie
@@ -12,4 +11,8 @@ abbrev μ-loop : tie.MeasureT-loop
 μ-loop one other table₀ j₀ table j = 64 - j
 
 pub sum-counts-spec : {M : Type 1} → statement M
-sum-counts-spec = tie.close (tie.spec Inv-loop μ-loop (λ c. search summing) (λ c. search summing) (λ c. search summing) (λ c. search summing) (λ c. search summing) (λ c. search summing) (λ c. search summing) (λ c. search summing) (λ c. search summing) (λ c. search summing) (λ c. search summing) (λ c. search summing))
+sum-counts-spec =
+    tie.close
+    (tie.spec Inv-loop μ-loop (λ c. search summing) (λ c. search summing) (λ c. search summing) (λ c. search summing)
+    (λ c. search summing) (λ c. search summing) (λ c. search summing) (λ c. search summing) (λ c. search summing)
+    (λ c. search summing) (λ c. search summing) (λ c. search summing))
