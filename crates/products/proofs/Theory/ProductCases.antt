@@ -1,97 +1,28 @@
--- Products and refusals computed by the checker: what the written meaning gives beside what is expected, in the form of hypoplactic's specs/Starred.
--- A reply stands as its numbers: 0 and the values, or the refusal's number and place; what lent letters and marks then hold follows.
---     worked-products      products, with one element of lent memory beyond those needed
---     refused-products     every refusal number in both factors, at its place and in its order
---     largest-products     1,024 cells together are not refused
+-- The cases of the product (specs/Cases), computed by the checker.
+--     worked-products      products
+--     refused-products     refusals
+--     largest-products     1,024 cells
 -- Assumes nothing.
 use mathlib.Core.Path.{_≡_, refl}
-use mathlib.Core.List.{List, [], _∷_, map}
-use lib.ListN.{replicate}
+use mathlib.Core.List.{map}
 use Rattle.hypoplactic.specs.Insertion.{insert, pairOf}
 use Rattle.hypoplactic.specs.Reading.{columnReading}
 use Rattle.hypoplactic.specs.Judgements.{alikeJudged, lengthJudged, lettersJudged, marksJudged, rankJudged, risingJudged, roomJudged}
-use Rattle.hypoplactic.specs.Starred.{Case, case, lent, m12446553275, numbers, outcomes, x12446553275}
+use Rattle.hypoplactic.specs.Starred.{Case}
+use Rattle.products.specs.Cases.{productLimits, productCases, productRefusals}
 use Rattle.products.specs.Products.{productRun, productSays, productWord}
-
--- ---- products
-
-abbrev productCases : List Case
-productCases =
-    -- 31 times 2, 2 times 31, 13 times 2
-    case (outcomes (productRun 3 (1 ∷ 3 ∷ []) (0 ∷ 1 ∷ []) (2 ∷ []) (0 ∷ []) (lent 4) (lent 4))) (0 ∷ 3 ∷ 1 ∷ 2 ∷ 3 ∷ 99 ∷ 0 ∷ 0 ∷ 1 ∷ 99 ∷ [])
-    ∷ case (outcomes (productRun 3 (2 ∷ []) (0 ∷ []) (1 ∷ 3 ∷ []) (0 ∷ 1 ∷ []) (lent 4) (lent 4))) (0 ∷ 3 ∷ 1 ∷ 2 ∷ 3 ∷ 99 ∷ 0 ∷ 1 ∷ 0 ∷ 99 ∷ [])
-    ∷ case (outcomes (productRun 3 (1 ∷ 3 ∷ []) (0 ∷ 0 ∷ []) (2 ∷ []) (0 ∷ []) (lent 4) (lent 4))) (0 ∷ 3 ∷ 1 ∷ 2 ∷ 3 ∷ 99 ∷ 0 ∷ 0 ∷ 1 ∷ 99 ∷ [])
-    -- 2 times 1 goes down, 1 times 2 goes right
-    ∷ case (outcomes (productRun 2 (2 ∷ []) (0 ∷ []) (1 ∷ []) (0 ∷ []) (lent 3) (lent 3))) (0 ∷ 2 ∷ 1 ∷ 2 ∷ 99 ∷ 0 ∷ 1 ∷ 99 ∷ [])
-    ∷ case (outcomes (productRun 2 (1 ∷ []) (0 ∷ []) (2 ∷ []) (0 ∷ []) (lent 3) (lent 3))) (0 ∷ 2 ∷ 1 ∷ 2 ∷ 99 ∷ 0 ∷ 0 ∷ 99 ∷ [])
-    -- 21 times itself
-    ∷ case (outcomes (productRun 2 (1 ∷ 2 ∷ []) (0 ∷ 1 ∷ []) (1 ∷ 2 ∷ []) (0 ∷ 1 ∷ []) (lent 5) (lent 5)))
-    (0 ∷ 4 ∷ 1 ∷ 1 ∷ 2 ∷ 2 ∷ 99 ∷ 0 ∷ 0 ∷ 1 ∷ 0 ∷ 99 ∷ [])
-    -- 4323 times 21
-    ∷ case (outcomes (productRun 4 (2 ∷ 3 ∷ 3 ∷ 4 ∷ []) (0 ∷ 1 ∷ 0 ∷ 1 ∷ []) (1 ∷ 2 ∷ []) (0 ∷ 1 ∷ []) (lent 7) (lent 7)))
-    (0 ∷ 6 ∷ 1 ∷ 2 ∷ 2 ∷ 3 ∷ 3 ∷ 4 ∷ 99 ∷ 0 ∷ 1 ∷ 0 ∷ 1 ∷ 0 ∷ 1 ∷ 99 ∷ [])
-    -- 12446553275 times 4323
-    ∷ case (outcomes (productRun 7 x12446553275 m12446553275 (2 ∷ 3 ∷ 3 ∷ 4 ∷ []) (0 ∷ 1 ∷ 0 ∷ 1 ∷ []) (lent 16) (lent 16)))
-    (0 ∷ 15 ∷ 1 ∷ 2 ∷ 2 ∷ 2 ∷ 3 ∷ 3 ∷ 3 ∷ 4 ∷ 4 ∷ 4 ∷ 5 ∷ 5 ∷ 5 ∷ 6 ∷ 7 ∷ 99
-    ∷ 0 ∷ 0 ∷ 0 ∷ 0 ∷ 1 ∷ 0 ∷ 0 ∷ 1 ∷ 0 ∷ 0 ∷ 1 ∷ 0 ∷ 0 ∷ 1 ∷ 0 ∷ 99 ∷ [])
-    -- the empty tableau before 433, after it, and with itself
-    ∷ case (outcomes (productRun 4 [] [] (3 ∷ 3 ∷ 4 ∷ []) (0 ∷ 0 ∷ 1 ∷ []) (lent 4) (lent 4))) (0 ∷ 3 ∷ 3 ∷ 3 ∷ 4 ∷ 99 ∷ 0 ∷ 0 ∷ 1 ∷ 99 ∷ [])
-    ∷ case (outcomes (productRun 4 (3 ∷ 3 ∷ 4 ∷ []) (0 ∷ 0 ∷ 1 ∷ []) [] [] (lent 4) (lent 4))) (0 ∷ 3 ∷ 3 ∷ 3 ∷ 4 ∷ 99 ∷ 0 ∷ 0 ∷ 1 ∷ 99 ∷ [])
-    ∷ case (outcomes (productRun 4 [] [] [] [] (lent 1) (lent 1))) (0 ∷ 0 ∷ 99 ∷ 99 ∷ [])
-    ∷ []
 
 -- Every product: the meaning is what is expected.
 pub worked-products : map (λ (c : Case). c .meaning) productCases ≡ map (λ (c : Case). c .document) productCases
 unfolding pairOf insert columnReading rankJudged lengthJudged alikeJudged lettersJudged risingJudged marksJudged roomJudged productWord productSays productRun
 worked-products = refl
 
--- ---- refusals
-
-abbrev refusalCases : List Case
-refusalCases =
-    -- 1: rank 1 and 64 pass, 0 and 65 do not, whatever else is wrong
-    case (numbers (productSays 1 (1 ∷ []) (0 ∷ []) (1 ∷ []) (0 ∷ []) 2 2)) (0 ∷ 2 ∷ [])
-    ∷ case (numbers (productSays 64 (64 ∷ []) (0 ∷ []) (64 ∷ []) (0 ∷ []) 2 2)) (0 ∷ 2 ∷ [])
-    ∷ case (numbers (productSays 0 (replicate 1024 1) [] (1 ∷ []) [] 0 0)) (1 ∷ 0 ∷ [])
-    ∷ case (numbers (productSays 65 [] [] [] [] 0 0)) (1 ∷ 0 ∷ [])
-    -- 2: 1,025 cells together do not pass, however they are shared out, and before 3
-    ∷ case (numbers (productSays 1 (replicate 600 1) [] (replicate 425 1) [] 1024 1024)) (2 ∷ 0 ∷ [])
-    ∷ case (numbers (productSays 1 (replicate 1025 1) [] [] [] 1024 1024)) (2 ∷ 0 ∷ [])
-    -- 3: marks one short in the first, and in the second, before 4
-    ∷ case (numbers (productSays 4 (1 ∷ 2 ∷ []) (0 ∷ []) (3 ∷ []) (0 ∷ []) 3 3)) (3 ∷ 0 ∷ [])
-    ∷ case (numbers (productSays 4 (5 ∷ 2 ∷ []) (0 ∷ 0 ∷ []) (3 ∷ 4 ∷ []) (0 ∷ []) 4 4)) (3 ∷ 0 ∷ [])
-    -- 4: in both the first's place; in the second places count on; in the second before 5 in the first
-    ∷ case (numbers (productSays 4 (1 ∷ 5 ∷ []) (0 ∷ 0 ∷ []) (0 ∷ []) (0 ∷ []) 3 3)) (4 ∷ 1 ∷ [])
-    ∷ case (numbers (productSays 4 (1 ∷ 2 ∷ []) (0 ∷ 0 ∷ []) (5 ∷ []) (0 ∷ []) 3 3)) (4 ∷ 2 ∷ [])
-    ∷ case (numbers (productSays 4 (2 ∷ 1 ∷ []) (0 ∷ 0 ∷ []) (4 ∷ 5 ∷ []) (0 ∷ 0 ∷ []) 4 4)) (4 ∷ 3 ∷ [])
-    -- 5: the same, and in the second before 6 in the first
-    ∷ case (numbers (productSays 4 (2 ∷ 1 ∷ []) (0 ∷ 0 ∷ []) (2 ∷ 1 ∷ []) (0 ∷ 0 ∷ []) 4 4)) (5 ∷ 1 ∷ [])
-    ∷ case (numbers (productSays 4 (1 ∷ 2 ∷ []) (0 ∷ 0 ∷ []) (2 ∷ 1 ∷ []) (0 ∷ 0 ∷ []) 4 4)) (5 ∷ 3 ∷ [])
-    ∷ case (numbers (productSays 4 (1 ∷ 1 ∷ []) (0 ∷ 1 ∷ []) (2 ∷ 1 ∷ []) (0 ∷ 0 ∷ []) 4 4)) (5 ∷ 3 ∷ [])
-    -- 6: in both the first's place; in the second the first mark, a step between equals, a mark that is none, and all before 13
-    ∷ case (numbers (productSays 4 (1 ∷ 1 ∷ []) (0 ∷ 1 ∷ []) (3 ∷ []) (1 ∷ []) 3 3)) (6 ∷ 1 ∷ [])
-    ∷ case (numbers (productSays 4 (1 ∷ 2 ∷ []) (0 ∷ 0 ∷ []) (3 ∷ []) (1 ∷ []) 3 3)) (6 ∷ 2 ∷ [])
-    ∷ case (numbers (productSays 4 (1 ∷ 2 ∷ []) (0 ∷ 0 ∷ []) (3 ∷ 3 ∷ []) (0 ∷ 1 ∷ []) 4 4)) (6 ∷ 3 ∷ [])
-    ∷ case (numbers (productSays 4 (1 ∷ 2 ∷ []) (0 ∷ 0 ∷ []) (3 ∷ 4 ∷ []) (0 ∷ 2 ∷ []) 0 0)) (6 ∷ 3 ∷ [])
-    -- nothing is judged across the factors
-    ∷ case (numbers (productSays 4 (3 ∷ 4 ∷ []) (0 ∷ 1 ∷ []) (1 ∷ []) (0 ∷ []) 3 3)) (0 ∷ 3 ∷ [])
-    -- 13: letters or marks one short of 3; both outputs are as they were
-    ∷ case (outcomes (productRun 3 (1 ∷ 3 ∷ []) (0 ∷ 1 ∷ []) (2 ∷ []) (0 ∷ []) (lent 2) (lent 3))) (13 ∷ 3 ∷ 99 ∷ 99 ∷ 99 ∷ 99 ∷ 99 ∷ [])
-    ∷ case (outcomes (productRun 3 (1 ∷ 3 ∷ []) (0 ∷ 1 ∷ []) (2 ∷ []) (0 ∷ []) (lent 3) (lent 2))) (13 ∷ 3 ∷ 99 ∷ 99 ∷ 99 ∷ 99 ∷ 99 ∷ [])
-    ∷ []
-
 -- Every refusal.
-pub refused-products : map (λ (c : Case). c .meaning) refusalCases ≡ map (λ (c : Case). c .document) refusalCases
+pub refused-products : map (λ (c : Case). c .meaning) productRefusals ≡ map (λ (c : Case). c .document) productRefusals
 unfolding rankJudged lengthJudged alikeJudged lettersJudged risingJudged marksJudged roomJudged productSays productRun
 refused-products = refl
 
--- 1,024 cells together pass, however they are shared out.
-abbrev largestCases : List Case
-largestCases =
-    case (numbers (productSays 1 (replicate 1024 1) (replicate 1024 0) [] [] 1024 1024)) (0 ∷ 1024 ∷ [])
-    ∷ case (numbers (productSays 1 (replicate 600 1) (replicate 600 0) (replicate 424 1) (replicate 424 0) 1024 1024)) (0 ∷ 1024 ∷ [])
-    ∷ []
-
-pub largest-products : map (λ (c : Case). c .meaning) largestCases ≡ map (λ (c : Case). c .document) largestCases
+-- 1,024 cells together.
+pub largest-products : map (λ (c : Case). c .meaning) productLimits ≡ map (λ (c : Case). c .document) productLimits
 unfolding rankJudged lengthJudged alikeJudged lettersJudged risingJudged marksJudged roomJudged productSays
 largest-products = refl
