@@ -2,6 +2,7 @@
 --     downOr m known               1 for a step down, else what was known
 --     Stepping xs ms i table       the table of the steps into the cells before place i; the steps from there on make it that of all steps
 --     step-start, step-turn, step-end     the loop
+--     letter-told, slot-under, slot-fits     the letter before a cell, and its place in a table
 --     stepping                     the ruleset of the functions that make the table
 -- Assumes nothing.
 use Prim.Native.Nat.{ℕ, suc, _+_, _-_, _*_, _≤_, _<_}
@@ -24,6 +25,7 @@ use Rattle.words.specs.Tables.{Slot, Table, letter-least, slot-is, table-store}
 
 -- ---- one step
 
+-- 1 for a step down, else what was known before.
 unfoldable pub downOr : ℕ → ℕ → ℕ
 downOr m known = cond (eqb m 1) 1 known
 
@@ -37,7 +39,7 @@ down-not m known e = rw (ne-eqb m 1 e)
 
 -- ---- the loop
 
--- The steps before place i are in the table, as the test d tells them.
+-- The steps into the cells before place i are in the table, as the test `known` tells them.
 pub record Stepping (xs ms : List ℕ) (i : ℕ) (table : List ℕ) : Type 0 where
   pub from-one : 1 ≤ i
   pub known : ℕ → Bool

@@ -5,7 +5,8 @@
 --     countOf xs o                      how often the letter o, if there is one, stands in xs
 --     Ahead                             the set of the letters above a, and how often the next larger letter stands in each factor
 --     Merging                           the loop's invariant: so for all factors with these tables
---     merge-start, merge-turn, merge-end     the loop
+--     bit-one, bit-zero                 the bit from the tests that the code makes
+--     merge-start, merge-turn, merge-end, merge-under     the loop
 --     merging                           the ruleset of the functions that make the set
 -- Assumes nothing.
 use Prim.Native.Nat.{ℕ, zero, suc, _+_, _*_, _-_, _^_, _%_, _≤_, _<_}
@@ -38,6 +39,7 @@ unfoldable pub productBit : ℕ → ℕ → ℕ → ℕ → ℕ → Bool
 productBit first-next second-next first-down second-count second-down =
     ltb 0 first-next && (ltb 0 first-down || ltb 0 second-count) || ltb 0 second-next && ltb 0 second-down
 
+-- The tests as the code makes them: the two ways, then either of them.
 module _ {from within : Bool} (first-next second-next first-down second-count second-down : ℕ) {across : Bool} (a : across ≡ (ltb 0 first-down || ltb 0 second-count))
     (f : from ≡ (ltb 0 first-next && across)) (w : within ≡ (ltb 0 second-next && ltb 0 second-down)) where
   told : (from || within) ≡ productBit first-next second-next first-down second-count second-down
@@ -52,6 +54,7 @@ module _ {from within : Bool} (first-next second-next first-down second-count se
 
 -- ---- tables of two factors
 
+-- Letter counts and down steps of the first factor, and of the second.
 pub record Tables (n : ℕ) (xs ms ys ns cs ds es gs : List ℕ) : Type 0 where
   pub first : TableauAt n xs ms
   pub second : TableauAt n ys ns
@@ -75,20 +78,19 @@ pub record Ahead (xs ms ys ns : List ℕ) (a set first-next second-next : ℕ) :
   pub first-ahead : first-next ≡ countOf xs (nextLarger a (xs ++ ys))
   pub second-ahead : second-next ≡ countOf ys (nextLarger a (xs ++ ys))
 
+-- The loop's invariant.
 pub record Merging (n : ℕ) (cs ds es gs : List ℕ) (a set first-next second-next : ℕ) : Type 0 where
   pub reached : a ≤ 64
   pub ahead : (xs ms ys ns : List ℕ) → Tables n xs ms ys ns cs ds es gs → Ahead xs ms ys ns a set first-next second-next
 
 -- ---- the loop
 
+-- A test that a table holds as 1 or 0.
 tick-told : (b : Bool) → ltb 0 (tick b 0) ≡ b
 tick-told true = refl
 tick-told false = refl
 
 module _ {n : ℕ} {xs ms ys ns cs ds es gs : List ℕ} (t : Tables n xs ms ys ns cs ds es gs) where
-  w : List ℕ
-  w = productWord xs ms ys ns
-
   -- No letter above the rank stands in either factor,
   none-above : (a : ℕ) → n ≤ a → nextLarger a (xs ++ ys) ≡ none
   none-above a l =
@@ -179,6 +181,7 @@ merge-end n cs ds es gs a set first-next second-next h l =
     let none : a ≡ 0 = omega arith in
     record { is = λ xs ms ys ns t. rw none at (h .ahead xs ms ys ns t .built) }
 
+-- The place of the next letter is within a table.
 pub merge-under : (n : ℕ) (cs ds es gs : List ℕ) (a set first-next second-next : ℕ) → Merging n cs ds es gs a set first-next second-next → 0 < a → a - 1 < 64
 merge-under n cs ds es gs a set first-next second-next h l = omega (arith, h .reached)
 
