@@ -305,9 +305,10 @@ luchtrav_cell luchtrav_cell_at(const uint8_t *letters, size_t letters_count,
 /* The product of two tableaux of one rank: the tableau of the first's column reading followed by the second's. Any word
  * of the first's class followed by any word of the second's has this tableau, so that classes are multiplied without a
  * word; count is the cells written. Each factor begins a ribbon of its own: its first mark is 0, and the first may end
- * in a larger letter than the second begins with.
+ * in a larger letter than the second begins with. Both factors may be the same buffers, for a square; letters and
+ * marks must not overlap them. A factor without cells changes nothing.
  * Needs as many elements in letters, and in marks, as the two factors have cells together.
- * Refuses 1 2 3 4 5 6 13, each over both factors. */
+ * Refuses 1 2 3 4 5 6 13; of the factors the first before the second. */
 luchtrav_count luchtrav_product(size_t rank, const uint8_t *first_letters, size_t first_letters_count,
                                 const uint8_t *first_marks, size_t first_marks_count,
                                 const uint8_t *second_letters, size_t second_letters_count,

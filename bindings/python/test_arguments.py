@@ -182,7 +182,7 @@ class Values(Case):
         self.refuses(4, 3, lu.look, 3, TABLEAU, 0)
 
     def test_two_tableaux(self) -> None:
-        """Each a Tableau, a pair of letters and marks, or letters and marks one after the other."""
+        """Each a Tableau or another pair of letters and marks; or all four lists, where a Tableau can stand for two."""
         letters, marks = [1, 2], [0, 1]
         expected = lu.Tableau([1, 2, 2, 3, 3, 4], [0, 1, 0, 1, 0, 1])
         second = lu.Tableau(letters, marks)

@@ -141,7 +141,7 @@ def cell_at(letters: Letters, marks: Union[Integers, int, None] = None, place: O
 def factor_in(given: object) -> Factor:
     """Letters and marks of one of two tableaux."""
     if not isinstance(given, tuple) or len(given) != 2:
-        raise TypeError("of two tableaux each is a Tableau, or a pair of letters and marks, or letters and marks one after the other")
+        raise TypeError("of two tableaux each is a Tableau or another pair of letters and marks, or all four lists follow one another, where a Tableau can stand for two")
     letters, marks = given
     return letters, marks
 
@@ -167,8 +167,8 @@ def product(
 ) -> Tableau: ...
 def product(rank: int, first: object, second: object, *more: object) -> Tableau:
     """The product of two tableaux: the tableau of the first's column reading followed by the second's, which any word of the first's class followed by
-    any word of the second's has too. Each is a Tableau, a pair of letters and marks, or letters and marks one after the other. Refuses 1 to 6, over
-    both tableaux; 2 where they have more than 1,024 cells together. Places in the second count on from the first's length.
+    any word of the second's has too. Each is a Tableau or another pair of letters and marks; or all four lists follow one another, where a Tableau can
+    stand for two. Refuses 1 to 6, over both tableaux; 2 where they have more than 1,024 cells together. Places in the second count on from the first's length.
 
     >>> luchtrav.product(3, luchtrav.tableau_of_word(3, [3, 1]), luchtrav.tableau_of_word(3, [2]))
     Tableau(letters=(1, 2, 3), marks=(0, 0, 1))

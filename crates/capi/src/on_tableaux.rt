@@ -1,4 +1,5 @@
-// The C interface to tableaux: checks, column reading, moves, a look at a cell, the product of two. Each function is one of the kernel's, its answer as a struct of numbers.
+// The C interface to tableaux: checks, column reading, moves, a look at a cell, the product of two. Each function is one of the kernel's, its answer as a
+// struct of numbers.
 use columns::reading::column_reading;
 use coordinates::cells::cell_at;
 use multiplication::product::product;

@@ -22,7 +22,7 @@ use Rattle.hypoplactic.specs.Replies.{Said, gives, passed, orElse, first}
 use Rattle.hypoplactic.specs.WordOperations.{sameClassSays, wordsJudgements}
 use Rattle.hypoplactic.proofs.Theory.SameClass.{class-rank}
 use Rattle.hypoplactic.proofs.Theory.Passing.{first-else}
-use Rattle.seconds.specs.Passed.{judging}
+use Rattle.second_inputs.specs.Passed.{judging}
 use Rattle.words.specs.Given.{accepted-counts, accepted-set, countGiven, junctionGiven}
 use Rattle.words.specs.Tables.{Table}
 use Rattle.comparisons.specs.Weights.{Counts, absent-above}

@@ -29,7 +29,7 @@ use Rattle.hypoplactic.proofs.Theory.Limits.{accepted-within, count-outside}
 use Rattle.words.specs.Given.{accepted-counts, countGiven}
 use Rattle.words.specs.Tables.{Table, sumOf, table-sum}
 use Rattle.hypoplactic.proofs.Theory.Passing.{first-else}
-use Rattle.seconds.specs.Passed.{judging}
+use Rattle.second_inputs.specs.Passed.{judging}
 
 -- ---- on tables
 

@@ -1,7 +1,7 @@
 // The same-class test: equal rank, equal count of each letter, equal junction set.
 use refusals::answers::Class;
 use refusals::answers::Verdict;
-use seconds::two_words::check_words;
+use second_inputs::two_words::check_words;
 use words::junctions::junction_set;
 use words::tables::letter_counts;
 ghost use mathlib.Core.List.{[], _∷_};

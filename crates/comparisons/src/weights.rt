@@ -1,7 +1,7 @@
 // Comparison of weights: the sums of the first k letter counts of two words, for every k.
 use refusals::answers::Verdict;
 use refusals::answers::Weights;
-use seconds::two_words::check_words;
+use second_inputs::two_words::check_words;
 use words::tables::letter_counts;
 ghost use mathlib.Core.Path.{_≡_};
 ghost use mathlib.Core.List.{[], _∷_};

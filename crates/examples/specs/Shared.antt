@@ -1,6 +1,6 @@
 -- Cases for the definitions of code crates that public contracts rest on beside those of hypoplactic, in the form of the starred ones: what crates lend each
 -- other, each in its smallest inputs.
---     sharedCases     the cases; tests stand as 1 and 0
+--     sharedCases     the cases; tests stand as 1 and 0 (told), lent letters and marks one after the other (filling)
 -- That the two sides of every case are equal is proved in proofs/Theory/Shared.antt. Assumes nothing.
 use Prim.Native.Nat.{ℕ}
 use mathlib.Core.Bool.{Bool, true, false}
@@ -19,6 +19,7 @@ use Rattle.scans.specs.Kept.{kept}
 use Rattle.scans.specs.Scans.{wholeCells}
 use Rattle.words.specs.Given.{countGiven, junctionGiven}
 use Rattle.words.specs.Junctions.{bitAt}
+use Rattle.fillings.specs.Filled.{filled}
 use Rattle.operators.specs.Changes.{moveLettersRun, repeatLettersSays}
 use Rattle.admissions.specs.Checks.{insertChecks, pairWith}
 use Rattle.examples.specs.Pinned.{onPairs, pairOrder}
@@ -26,6 +27,10 @@ use Rattle.examples.specs.Pinned.{onPairs, pairOrder}
 -- A test as a number.
 abbrev pub told : Bool → ℕ
 told b = tick b 0
+
+-- Lent letters and marks with the letter 1 once and 3 twice, of the letters 1 to n.
+abbrev pub filling : ℕ → ℕ → List ℕ → List ℕ → List ℕ
+filling n set ls ks = let (xs, ms) = filled n (1 ∷ 0 ∷ 2 ∷ []) set ls ks in xs ++ ms
 
 unfoldable pub sharedCases : List Case
 sharedCases =
@@ -53,6 +58,13 @@ sharedCases =
     ∷ case (junctionGiven 4 w4323 ∷ junctionGiven 65 w4323 ∷ junctionGiven 3 w4323 ∷ []) (6 ∷ 0 ∷ 0 ∷ [])
     -- bit a - 1 of a set, none of the letter 0
     ∷ case (map (λ a. told (bitAt 6 a)) (0 ∷ 1 ∷ 2 ∷ 3 ∷ 4 ∷ [])) (0 ∷ 0 ∷ 1 ∷ 1 ∷ 0 ∷ [])
+    -- a filling by counts and a set: the letters, then the marks; both as they were where one is too short, or the rank is above 64
+    ∷ case (filling 3 1 (9 ∷ 9 ∷ 9 ∷ 9 ∷ []) (8 ∷ 8 ∷ 8 ∷ 8 ∷ [])) (1 ∷ 3 ∷ 3 ∷ 9 ∷ 0 ∷ 1 ∷ 0 ∷ 8 ∷ [])
+    ∷ case (filling 3 6 (9 ∷ 9 ∷ 9 ∷ []) (8 ∷ 8 ∷ 8 ∷ [])) (1 ∷ 3 ∷ 3 ∷ 0 ∷ 0 ∷ 0 ∷ [])
+    ∷ case (filling 3 1 (9 ∷ 9 ∷ []) (8 ∷ 8 ∷ 8 ∷ [])) (9 ∷ 9 ∷ 8 ∷ 8 ∷ 8 ∷ [])
+    ∷ case (filling 3 1 (9 ∷ 9 ∷ 9 ∷ []) (8 ∷ 8 ∷ [])) (9 ∷ 9 ∷ 9 ∷ 8 ∷ 8 ∷ [])
+    ∷ case (filling 1 1 (9 ∷ []) (8 ∷ [])) (1 ∷ 0 ∷ [])
+    ∷ case (filling 65 1 (9 ∷ 9 ∷ 9 ∷ []) (8 ∷ 8 ∷ 8 ∷ [])) (9 ∷ 9 ∷ 9 ∷ 8 ∷ 8 ∷ 8 ∷ [])
     -- a move once its inversion is known: 1, 9, 10, 11, or made
     ∷ case (outcome (moveLettersRun 65 (raise 0) true [])) (1 ∷ 0 ∷ [])
     ∷ case (outcome (moveLettersRun 4 (raise 0) true [])) (9 ∷ 0 ∷ [])

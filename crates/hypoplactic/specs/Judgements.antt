@@ -4,6 +4,7 @@
 --     entriesJudged L rs, recordingJudged rs ms                              7, 8
 --     indexJudged n i, inversionJudged b, letterJudged a w                   9, 10, 11
 --     fullJudged k, roomJudged need have                                     12, 13
+--     tableauRooms need letters marks                                        13 of a tableau's letters and marks
 --     wordJudgements, tableauJudgements, pairJudgements                      the lists that operations share
 -- Assumes nothing.
 use Prim.Native.Nat.{ℕ, zero, suc}
@@ -109,6 +110,10 @@ fullJudged k = refuseIf (leb 1024 k) 12 1024 passed
 -- 13: an output shorter than the elements needed.
 unfoldable pub roomJudged : ℕ → ℕ → Said
 roomJudged need have = refuseIf (ltb have need) 13 need passed
+
+-- 13 of the lent letters and marks of a tableau.
+abbrev pub tableauRooms : ℕ → ℕ → ℕ → List Said
+tableauRooms need letters marks = roomJudged need letters ∷ roomJudged need marks ∷ []
 
 -- 1, 2 and 4 of a word.
 abbrev pub wordJudgements : ℕ → List ℕ → List Said

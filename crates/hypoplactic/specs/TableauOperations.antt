@@ -18,13 +18,12 @@ use Rattle.hypoplactic.specs.Insertion.{Pair, insert, lettersOf, marksOf
 use Rattle.hypoplactic.specs.Reading.{columnReading}
 use Rattle.hypoplactic.specs.Moves.{Move, below, movedTableau, repeatTableau}
 use Rattle.hypoplactic.specs.Replies.{Said, gives, passed, orElse, first, ranTo, written}
-use Rattle.hypoplactic.specs.Judgements.{rankJudged, lengthJudged, usedJudged, lettersJudged, risingJudged, marksJudged, entriesJudged, recordingJudged, indexJudged, fullJudged, roomJudged, wordJudgements, tableauJudgements, pairJudgements}
+use Rattle.hypoplactic.specs.Judgements.{rankJudged, lengthJudged, usedJudged, lettersJudged, risingJudged, marksJudged, entriesJudged, recordingJudged, indexJudged, fullJudged, roomJudged, tableauRooms, wordJudgements, tableauJudgements, pairJudgements}
 use Rattle.hypoplactic.specs.WordOperations.{moveJudgements, orSame}
 
 -- Tableau of a word, into lent letters and marks.
 unfoldable pub tableauSays : ℕ → List ℕ → ℕ → ℕ → Said
-tableauSays n w letters marks =
-    first (wordJudgements n w ++ (roomJudged (length w) letters ∷ roomJudged (length w) marks ∷ [])) (gives (length w ∷ []))
+tableauSays n w letters marks = first (wordJudgements n w ++ tableauRooms (length w) letters marks) (gives (length w ∷ []))
 
 unfoldable pub tableauRun : ℕ → List ℕ → List ℕ → List ℕ → Said × (List ℕ × List ℕ)
 tableauRun n w letters marks =

@@ -14,7 +14,7 @@ use borrow.Author.Needs.{needs}
 use Rattle.hypoplactic.specs.Words.{Accepted}
 use Rattle.hypoplactic.specs.Insertion.{lettersOf, marksOf}
 use Rattle.hypoplactic.specs.Replies.{Said, gives, written}
-use Rattle.hypoplactic.specs.Judgements.{roomJudged, tableauJudgements, wordJudgements}
+use Rattle.hypoplactic.specs.Judgements.{tableauJudgements, tableauRooms, wordJudgements}
 use Rattle.hypoplactic.specs.TableauOperations.{tableauRun, tableauSays}
 use Rattle.hypoplactic.specs.LineOperations.{tableauLine, tableauLineRun, tLineRun}
 use Rattle.hypoplactic.proofs.Theory.Closure.{word-tableau-at}
@@ -38,16 +38,12 @@ pub record Made (n : ℕ) (w xs ms : List ℕ) (m : ℕ) : Type 0 where
   pub letters-reach : m ≤ length xs
   pub marks-reach : m ≤ length ms
 
--- The rooms of both.
-abbrev rooms : List ℕ → List ℕ → List ℕ → List Said
-rooms w ls ks = roomJudged (length w) (length ls) ∷ roomJudged (length w) (length ks) ∷ []
-
 module _ (n : ℕ) (w ls ks : List ℕ) (long : 1024 ≤ length ls) (long′ : 1024 ≤ length ks) where
-  enough : Accepted n w → Passing (rooms w ls ks)
+  enough : Accepted n w → Passing (tableauRooms (length w) (length ls) (length ks))
   enough a = let short : length w ≤ 1024 = a .short in (room-judged _ _ .1 (omega arith), (room-judged _ _ .1 (omega arith), tt))
 
-  judged : Outcome n w (rooms w ls ks) (length w ∷ [])
-  judged = outcome n w (rooms w ls ks) (length w ∷ []) enough
+  judged : Outcome n w (tableauRooms (length w) (length ls) (length ks)) (length w ∷ [])
+  judged = outcome n w (tableauRooms (length w) (length ls) (length ks)) (length w ∷ []) enough
 
   module _ (xs ms : List ℕ) (made : Written) (e : (saidWritten made, (xs, ms)) ≡ tableauRun n w ls ks) where
     said : saidWritten made ≡ tableauSays n w (length ls) (length ks)
@@ -59,8 +55,8 @@ module _ (n : ℕ) (w ls ks : List ℕ) (long : 1024 ≤ length ls) (long′ : 1
     unfolding tableauRun tableauSays
     tableau-made m q = go judged
       where
-        go : Outcome n w (rooms w ls ks) (length w ∷ []) → Made n w xs ms m
-        go (stopped j p h) = absurd (not-both (sym (ap saidWritten q) ∙ said ∙ h (rooms w ls ks) (gives (length w ∷ []))))
+        go : Outcome n w (tableauRooms (length w) (length ls) (length ks)) (length w ∷ []) → Made n w xs ms m
+        go (stopped j p h) = absurd (not-both (sym (ap saidWritten q) ∙ said ∙ h (tableauRooms (length w) (length ls) (length ks)) (gives (length w ∷ []))))
         go (accepted a h) =
             let all : _≡_ {A = Said × (List ℕ × List ℕ)} (saidWritten made, (xs, ms)) (gives (length w ∷ []), (written (lettersOf w) ls, written (marksOf w) ks)) = e ∙ rw h refl in
             let size : m ≡ length w =
@@ -83,11 +79,11 @@ module _ (n : ℕ) (w ls ks : List ℕ) (long : 1024 ≤ length ls) (long′ : 1
     unfolding tableauSays tableauLineRun
     made-refused q out h = go judged
       where
-        go : Outcome n w (rooms w ls ks) (length w ∷ []) → (saidWritten made, out) ≡ tableauLineRun n w out
+        go : Outcome n w (tableauRooms (length w) (length ls) (length ks)) (length w ∷ []) → (saidWritten made, out) ≡ tableauLineRun n w out
         go (accepted a g) = absurd (not-both (sym (sym (ap saidWritten h) ∙ said ∙ g)))
         go (stopped j p f) =
             rw (f (roomJudged (length (tableauLine n w)) (length out) ∷ []) (gives (length (tableauLine n w) ∷ [])))
-            (ap (λ (s : Said). (s, out)) (said ∙ f (rooms w ls ks) (gives (length w ∷ []))))
+            (ap (λ (s : Said). (s, out)) (said ∙ f (tableauRooms (length w) (length ls) (length ks)) (gives (length w ∷ []))))
 
 module _ {n : ℕ} {w xs ms : List ℕ} {m : ℕ} (h : Made n w xs ms m) where
   -- What the writer of T lines replies to them is the reply of the tableau line.

@@ -1,5 +1,5 @@
 -- The table of the letters that a down step leads out of, made by one pass over the cells of a tableau.
---     downOr m known               1 for a step down, else what was known
+--     downOr m known               1 for a step down, else what was known; down-is, down-not: by a test of the mark
 --     Stepping xs ms i table       the table of the steps into the cells before place i; the steps from there on make it that of all steps
 --     step-start, step-turn, step-end     the loop
 --     letter-told, slot-under, slot-fits     the letter before a cell, and its place in a table
@@ -103,7 +103,8 @@ module _ {x : ℕ} (xs ms : List ℕ) (i : ℕ) (w : Within 64 xs) (l : i < leng
           ≡ (eqb x a && eqb (getD ms i 0) 1 || downAfter (outOf a) (getD xs i 0) (drop (suc i) xs) (drop (suc i) ms))
       cells a = rw (drop-cons xs i 0 l, drop-cons ms i 0 (omega arith), e)
 
-      or-assoc-at : (a : ℕ) → ((h .known a || eqb x a && eqb (getD ms i 0) 1) || downAfter (outOf a) (getD xs (suc i - 1) 0) (drop (suc i) xs) (drop (suc i) ms))
+      or-assoc-at : (a : ℕ)
+          → ((h .known a || eqb x a && eqb (getD ms i 0) 1) || downAfter (outOf a) (getD xs (suc i - 1) 0) (drop (suc i) xs) (drop (suc i) ms))
           ≡ downOut a xs ms
       or-assoc-at a = let d : suc i - 1 ≡ i = omega arith in rw (d, or-assoc, ← cells a) (h .rest a)
 

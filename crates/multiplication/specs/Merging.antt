@@ -10,7 +10,7 @@
 --     merging                           the ruleset of the functions that make the set
 -- Assumes nothing.
 use Prim.Native.Nat.{ℕ, zero, suc, _+_, _*_, _-_, _^_, _%_, _≤_, _<_}
-use mathlib.Core.Path.{_≡_, refl, sym}
+use mathlib.Core.Path.{_≡_, refl, sym, ap₂, _∙_}
 use mathlib.Core.List.{List, _++_}
 use mathlib.Core.Bool.{Bool, true, false, cond, _&&_, _||_}
 use mathlib.Core.Option.{Option, none, some}
@@ -40,8 +40,8 @@ productBit first-next second-next first-down second-count second-down =
     ltb 0 first-next && (ltb 0 first-down || ltb 0 second-count) || ltb 0 second-next && ltb 0 second-down
 
 -- The tests as the code makes them: the two ways, then either of them.
-module _ {from within : Bool} (first-next second-next first-down second-count second-down : ℕ) {across : Bool} (a : across ≡ (ltb 0 first-down || ltb 0 second-count))
-    (f : from ≡ (ltb 0 first-next && across)) (w : within ≡ (ltb 0 second-next && ltb 0 second-down)) where
+module _ {from within across : Bool} (first-next second-next first-down second-count second-down : ℕ)
+    (a : across ≡ (ltb 0 first-down || ltb 0 second-count)) (f : from ≡ (ltb 0 first-next && across)) (w : within ≡ (ltb 0 second-next && ltb 0 second-down)) where
   told : (from || within) ≡ productBit first-next second-next first-down second-count second-down
   unfolding productBit
   told = rw (f, w, a)
@@ -95,7 +95,9 @@ module _ {n : ℕ} {xs ms ys ns cs ds es gs : List ℕ} (t : Tables n xs ms ys n
   none-above : (a : ℕ) → n ≤ a → nextLarger a (xs ++ ys) ≡ none
   none-above a l =
       next-is a (xs ++ ys) none
-      (λ b k. rw (count-append b xs ys, count-outside b xs (t .first .word .letters) (λ i. omega arith), count-outside b ys (t .second .word .letters) (λ i. omega arith)))
+      (λ b k.
+      count-append b xs ys
+      ∙ ap₂ _+_ (count-outside b xs (t .first .word .letters) (λ i. omega arith)) (count-outside b ys (t .second .word .letters) (λ i. omega arith)))
 
   -- so none has a bit.
   start : Ahead xs ms ys ns n 0 0 0

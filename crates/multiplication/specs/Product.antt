@@ -3,7 +3,7 @@
 --     Factors n xs ms ys ns              two tableaux of a rank that fit together
 --     filled-product                     filled by the counts of both, added, and the set that both make, outputs hold the product
 --     first-cells, .. counts-fit         what the tables and their sums ask, once the checks have passed
---     product-refused, product-passed    the reply, and both outputs, from the verdict of the checks on
+--     refused-product, passed-product    the reply, and both outputs, from the verdict of the checks on
 --     checking, replying                 the rulesets of the checks and of the operation
 -- Assumes nothing.
 use Prim.Native.Nat.{ℕ, suc, _+_, _≤_}
@@ -15,7 +15,7 @@ use mir.Syntax.{w64}
 use mir.Val.{Fits}
 use borrow.Author.Needs.{needs}
 use Rattle.hypoplactic.specs.Junctions.{downOut}
-use Rattle.hypoplactic.specs.Judgements.{roomJudged}
+use Rattle.hypoplactic.specs.Judgements.{roomJudged, tableauRooms}
 use Rattle.hypoplactic.specs.Replies.{Said, gives, first, orElse, passed, written}
 use Rattle.hypoplactic.specs.Ribbons.{LetterStep, TableauAt}
 use Rattle.hypoplactic.specs.Words.{Within, count, tick}
@@ -42,13 +42,9 @@ use Rattle.multiplication.specs.Sums.{Sums, SumsFit}
 
 -- ---- the checks
 
--- 13 of both outputs.
-abbrev rooms : ℕ → ℕ → ℕ → List Said
-rooms need letters marks = roomJudged need letters ∷ roomJudged need marks ∷ []
-
 -- What 1 to 6 of the factors say, and then 13 of outputs of so many elements.
 unfoldable pub productChecked : ℕ → List ℕ → List ℕ → List ℕ → List ℕ → ℕ → ℕ → Said
-productChecked n xs ms ys ns letters marks = checksThen (factorsJudgements n xs ms ys ns) (rooms (length xs + length ys) letters marks)
+productChecked n xs ms ys ns letters marks = checksThen (factorsJudgements n xs ms ys ns) (tableauRooms (length xs + length ys) letters marks)
 
 -- 1 to 6 refuse, or what follows decides.
 module _ {v : Verdict} (n : ℕ) (xs ms ys ns : List ℕ) (e : saidVerdict v ≡ first (factorsJudgements n xs ms ys ns) passed) where
@@ -62,7 +58,7 @@ module _ {v : Verdict} (n : ℕ) (xs ms ys ns : List ℕ) (e : saidVerdict v ≡
   unfolding productChecked checksThen
   checked-rooms letters marks q g =
       goes-on (first (factorsJudgements n xs ms ys ns) passed) _ e q g
-      ∙ sym (first-append (factorsJudgements n xs ms ys ns) (rooms (length xs + length ys) letters marks) passed)
+      ∙ sym (first-append (factorsJudgements n xs ms ys ns) (tableauRooms (length xs + length ys) letters marks) passed)
 
 pub ruleset checking = (checked-factors, checked-rooms, chaining)
 
@@ -118,7 +114,8 @@ module _ {n : ℕ} {xs ms ys ns cs es : List ℕ} (h : Factors n xs ms ys ns) (c
 -- ---- the operation
 
 -- The verdict of 1 to 6 on the factors and of 13 passes.
-module _ {v : Verdict} (n : ℕ) (xs ms ys ns : List ℕ) (letters marks : ℕ) (e : saidVerdict v ≡ productChecked n xs ms ys ns letters marks) (q : v ≡ Passed) where
+module _ {v : Verdict} (n : ℕ) (xs ms ys ns : List ℕ) (letters marks : ℕ) (e : saidVerdict v ≡ productChecked n xs ms ys ns letters marks)
+    (q : v ≡ Passed) where
   -- Both are tableaux that fit together,
   factors : Factors n xs ms ys ns
   unfolding productChecked
@@ -153,17 +150,18 @@ module _ {v : Verdict} (n : ℕ) (xs ms ys ns : List ℕ) (letters marks : ℕ) 
 -- The operation, from that verdict on:
 module _ {v : Verdict} (n : ℕ) (xs ms ys ns letters marks : List ℕ) (e : saidVerdict v ≡ productChecked n xs ms ys ns (length letters) (length marks)) where
   -- a refusal, and both outputs are as they were,
-  pub product-refused : (r : Refusal) → v ≡ Refused r → (saidRefusal r, (letters, marks)) ≡ productRun n xs ms ys ns letters marks
+  pub refused-product : (r : Refusal) → v ≡ Refused r → (saidRefusal r, (letters, marks)) ≡ productRun n xs ms ys ns letters marks
   unfolding productRun productSays productChecked
-  product-refused r q = run-refused _ _ e _ _ (letters, marks) r q
+  refused-product r q = run-refused _ _ e _ _ (letters, marks) r q
 
   -- or both, filled by the counts of both factors and the set that these make, hold the product.
-  pub product-passed : {cs ds es gs sums : List ℕ} {set : ℕ} (ls ks : List ℕ) → v ≡ Passed → Table (countGiven n xs) cs → Table (countGiven n ys) es
+  pub passed-product : {cs ds es gs sums : List ℕ} {set : ℕ} (ls ks : List ℕ) → v ≡ Passed → Table (countGiven n xs) cs → Table (countGiven n ys) es
       → Table (λ a. tick (downOut a xs ms) 0) ds → Table (λ a. tick (downOut a ys ns) 0) gs → Merged n cs ds es gs set → Sums cs es sums
       → (ls, ks) ≡ filled n sums set letters marks → (gives ((length xs + length ys) ∷ []), (ls, ks)) ≡ productRun n xs ms ys ns letters marks
   unfolding productRun productSays productChecked
-  product-passed ls ks q c t d g m s f =
+  passed-product ls ks q c t d g m s f =
       let (as-letters, as-marks) = room n xs ms ys ns (length letters) (length marks) e q in
-      run-passed _ _ e _ _ (letters, marks) (ls, ks) q (f ∙ filled-product (factors n xs ms ys ns (length letters) (length marks) e q) c t letters marks d g m s as-letters as-marks)
+      run-passed _ _ e _ _ (letters, marks) (ls, ks) q
+      (f ∙ filled-product (factors n xs ms ys ns (length letters) (length marks) e q) c t letters marks d g m s as-letters as-marks)
 
-pub ruleset replying = (cells-fit, rank-high, counts-fit, product-passed, product-refused, needs)
+pub ruleset replying = (cells-fit, rank-high, counts-fit, passed-product, refused-product, needs)

@@ -7,7 +7,7 @@ use refusals::answers::Verdict;
 use refusals::answers::Written;
 use refusals::chains::or_else;
 use refusals::numbers::check_room;
-use seconds::factors::check_factors;
+use second_inputs::factors::check_factors;
 use words::tables::letter_counts;
 ghost use mathlib.Core.Path.{_≡_};
 ghost use Rattle.products.specs.Products.{productRun};

@@ -57,7 +57,7 @@ productRefusals =
     ∷ case (numbers (productSays 4 (2 ∷ 1 ∷ []) (0 ∷ 0 ∷ []) (4 ∷ 5 ∷ []) (0 ∷ 0 ∷ []) 4 4)) (4 ∷ 3 ∷ [])
     -- 5: the same, and in the second before 6 in the first
     ∷ case (numbers (productSays 4 (2 ∷ 1 ∷ []) (0 ∷ 0 ∷ []) (2 ∷ 1 ∷ []) (0 ∷ 0 ∷ []) 4 4)) (5 ∷ 1 ∷ [])
-    ∷ case (numbers (productSays 4 (1 ∷ 2 ∷ []) (0 ∷ 0 ∷ []) (2 ∷ 1 ∷ []) (0 ∷ 0 ∷ []) 4 4)) (5 ∷ 3 ∷ [])
+    ∷ case (numbers (productSays 4 (1 ∷ 2 ∷ 3 ∷ []) (0 ∷ 0 ∷ 0 ∷ []) (2 ∷ 1 ∷ []) (0 ∷ 0 ∷ []) 5 5)) (5 ∷ 4 ∷ [])
     ∷ case (numbers (productSays 4 (1 ∷ 1 ∷ []) (0 ∷ 1 ∷ []) (2 ∷ 1 ∷ []) (0 ∷ 0 ∷ []) 4 4)) (5 ∷ 3 ∷ [])
     -- 6: in both the first's place; in the second the first mark, a step between equals, a mark that is none, and all before 13
     ∷ case (numbers (productSays 4 (1 ∷ 1 ∷ []) (0 ∷ 1 ∷ []) (3 ∷ []) (1 ∷ []) 3 3)) (6 ∷ 1 ∷ [])

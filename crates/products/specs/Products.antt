@@ -3,15 +3,16 @@
 --     productWord xs ms ys ns           the column reading of the first factor, then that of the second
 --     productLetters, productMarks      the letters and the marks of that word's tableau
 --     factorsJudgements                 1 to 6 of two factors of one rank: 2 on the cells together, places in the second counting on from the first's length
---     productRun                        1 to 6, 13               gives the cells written
+--     productSays, productRun           1 to 6, 13               gives the cells written
+--     leftLetters, leftMarks            the first elements of both outputs, as a call has left them
 -- Nothing is judged across the factors: the first may end in a larger letter than the second begins with. Assumes nothing.
 use Prim.Native.Nat.{ℕ, _+_}
 use mathlib.Core.List.{List, [], _∷_, _++_}
-use lib.ListN.{length}
+use lib.ListN.{length, take}
 use Rattle.hypoplactic.specs.Insertion.{lettersOf, marksOf}
 use Rattle.hypoplactic.specs.Reading.{columnReading}
 use Rattle.hypoplactic.specs.Replies.{Said, gives, countOn, first, ranTo, written}
-use Rattle.hypoplactic.specs.Judgements.{rankJudged, lengthJudged, alikeJudged, lettersJudged, risingJudged, marksJudged, roomJudged}
+use Rattle.hypoplactic.specs.Judgements.{rankJudged, lengthJudged, alikeJudged, lettersJudged, risingJudged, marksJudged, tableauRooms}
 
 -- The two column readings, one after the other.
 unfoldable pub productWord : List ℕ → List ℕ → List ℕ → List ℕ → List ℕ
@@ -38,10 +39,18 @@ factorsJudgements n xs ms ys ns =
 unfoldable pub productSays : ℕ → List ℕ → List ℕ → List ℕ → List ℕ → ℕ → ℕ → Said
 productSays n xs ms ys ns letters marks =
     first
-    (factorsJudgements n xs ms ys ns ++ (roomJudged (length xs + length ys) letters ∷ roomJudged (length xs + length ys) marks ∷ []))
+    (factorsJudgements n xs ms ys ns ++ tableauRooms (length xs + length ys) letters marks)
     (gives ((length xs + length ys) ∷ []))
 
 unfoldable pub productRun : ℕ → List ℕ → List ℕ → List ℕ → List ℕ → List ℕ → List ℕ → Said × (List ℕ × List ℕ)
 productRun n xs ms ys ns letters marks =
     ranTo (productSays n xs ms ys ns (length letters) (length marks))
     (written (productLetters xs ms ys ns) letters, written (productMarks xs ms ys ns) marks) (letters, marks)
+
+-- The first k letters of lent memory after a call,
+abbrev pub leftLetters : ℕ → Said × (List ℕ × List ℕ) → List ℕ
+leftLetters k run = take k (run .1 .0)
+
+-- and the first k marks.
+abbrev pub leftMarks : ℕ → Said × (List ℕ × List ℕ) → List ℕ
+leftMarks k run = take k (run .1 .1)

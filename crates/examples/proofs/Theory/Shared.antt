@@ -16,6 +16,7 @@ use lib.ListN.{length, getD}
 use Rattle.grammar.specs.Reading.{readField}
 use Rattle.hypoplactic.specs.Junctions.{number, junctionSet}
 use Rattle.hypoplactic.specs.Judgements.{entriesJudged, fullJudged, indexJudged, inversionJudged, lengthJudged, letterJudged, lettersJudged, marksJudged, rankJudged, recordingJudged, risingJudged, roomJudged, usedJudged}
+use Rattle.hypoplactic.specs.Places.{layers}
 use Rattle.hypoplactic.specs.Starred.{Case, lower, raise, text}
 use Rattle.buffers.specs.Shifts.{pushed}
 use Rattle.refusals.specs.Running.{checksThen}
@@ -29,13 +30,14 @@ use Rattle.scans.specs.Scans.{Scanned, readBody, readWhole, wholeCells}
 use Rattle.scans.specs.declared.line.Line.the-variants as line
 use Rattle.words.specs.Given.{countGiven, junctionGiven}
 use Rattle.words.specs.Tables.{Table}
+use Rattle.fillings.specs.Filled.{filled}
 use Rattle.operators.specs.Changes.{moveLettersRun, repeatLettersSays}
 use Rattle.operators.specs.Targets.{moveOf}
 use Rattle.operators.specs.declared.changes.Side.the-variants.{Lowering, Raising}
 use Rattle.examples.specs.Shared.{sharedCases}
 
 pub shared-pinned : map (λ (c : Case). c .meaning) sharedCases ≡ map (λ (c : Case). c .document) sharedCases
-unfolding sharedCases pushed wholeCells readHead readCounted number junctionSet rankJudged lengthJudged usedJudged lettersJudged risingJudged marksJudged entriesJudged recordingJudged indexJudged inversionJudged letterJudged fullJudged roomJudged checksThen countGiven junctionGiven moveLettersRun repeatLettersSays
+unfolding sharedCases pushed wholeCells readHead readCounted number junctionSet rankJudged lengthJudged usedJudged lettersJudged risingJudged marksJudged entriesJudged recordingJudged indexJudged inversionJudged letterJudged fullJudged roomJudged checksThen countGiven junctionGiven filled layers moveLettersRun repeatLettersSays
 shared-pinned = refl
 
 pub sides-named : (i : ℕ) → (moveOf Raising i ≡ raise i) × (moveOf Lowering i ≡ lower i)

@@ -1,4 +1,5 @@
 -- What the product holds: the letters of both factors, each as often as in both together. Its down steps stand in ProductSteps.
+--     reading-count       each letter stands in a column reading as often as in the tableau
 --     product-count       each letter stands in the product word as often as in both factors; product-letters-count: so in the product's letters
 --     product-length      the product word is as long as both; product-cells: so many letters and marks has the product
 --     product-next        the next larger letter in the product word is that in the letters of both

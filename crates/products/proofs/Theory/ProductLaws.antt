@@ -1,6 +1,7 @@
 -- The laws of the product: it is the product of classes, it is associative, and the empty tableau is its unit.
 --     product-of-words             the tableau of u ++ v is the product of the tableaux of u and v, for all words
 --     product-joined               u ++ v is joined to the product word of the tableaux of u and v; product-of-joined: and so are words joined to u and v
+--     three-joined                 the product words of three factors, whichever two are taken first, are joined
 --     associative                  three factors have one product, whichever two are taken first
 --     unit-before, unit-after      the product with the empty tableau is the other factor
 -- Assumes nothing.

@@ -6,6 +6,8 @@
 --     product-of-classes            the product of the tableaux of u and v has the very reply and memory of the tableau of u ++ v;
 --     product-of-any-words          and of the tableau of any word of the first's class followed by any of the second's
 --     products-associate            three factors have one reply and one memory, whichever two are taken first, also where it is a refusal
+--     product-left                  the cells that a call has written are the product
+--     calls-associate               three factors in four calls, each inner product taken from where its call has left it
 --     empty-before, empty-after     with the empty tableau on either side the other factor is written
 -- Assumes nothing.
 use Prim.Native.Nat.{ℕ, _+_, _≤_, _<_}
@@ -14,15 +16,15 @@ use native.Mathlib.Decide.{decLe}
 use mathlib.Core.Path.{_≡_, ap, sym, _∙_}
 use mathlib.Core.List.{List, [], _∷_, _++_, append-nil}
 use mathlib.Core.Logic.{_↔_, dite}
-use lib.ListN.{length}
+use lib.ListN.{length, take}
 use borrow.Author.Tests.{le-ltb, lt-ltb}
 use Rattle.hypoplactic.specs.Words.{Accepted, Inside}
 use Rattle.hypoplactic.specs.Ribbons.{TableauAt}
 use Rattle.hypoplactic.specs.Rewriting.{Joined, same}
 use Rattle.hypoplactic.specs.Insertion.{lettersOf, marksOf}
 use Rattle.hypoplactic.specs.Reading.{columnReading}
-use Rattle.hypoplactic.specs.Replies.{Said, gives, refused, first, written}
-use Rattle.hypoplactic.specs.Judgements.{lengthJudged, lettersJudged, marksJudged, rankJudged, risingJudged, roomJudged, wordJudgements}
+use Rattle.hypoplactic.specs.Replies.{gives, refused, first, written}
+use Rattle.hypoplactic.specs.Judgements.{lengthJudged, lettersJudged, marksJudged, rankJudged, risingJudged, tableauRooms, wordJudgements}
 use Rattle.hypoplactic.specs.TableauOperations.{tableauRun, tableauSays}
 use Rattle.hypoplactic.proofs.Theory.Closure.{chain-accepted, word-tableau-at}
 use Rattle.hypoplactic.proofs.Theory.Invariants.{joined-tableau}
@@ -30,9 +32,10 @@ use Rattle.hypoplactic.proofs.Theory.Joining.{joined-eq, joined-sym}
 use Rattle.hypoplactic.proofs.Theory.Judged.{tableau-passing, word-passing}
 use Rattle.hypoplactic.proofs.Theory.Judgements.{length-judged, room-judged}
 use Rattle.hypoplactic.proofs.Theory.Pairs.{length-letters}
+use Rattle.hypoplactic.proofs.Theory.Memory.{written-needed}
 use Rattle.hypoplactic.proofs.Theory.Passing.{Passing, first-past, passes-further, passes-nearer, ran-answer, refused-keeps}
 use Rattle.hypoplactic.proofs.Theory.Together.{reading-and-back}
-use Rattle.products.specs.Products.{factorsJudgements, productLetters, productMarks, productRun, productSays, productWord}
+use Rattle.products.specs.Products.{factorsJudgements, leftLetters, leftMarks, productLetters, productMarks, productRun, productSays, productWord}
 use Rattle.products.proofs.Theory.ProductContents.{product-accepted, product-at, product-cells}
 use Rattle.products.proofs.Theory.ProductLaws.{product-of-joined, three-joined}
 
@@ -65,10 +68,6 @@ factors-passing n xs ms ys ns = (there, back)
 
 -- ---- factors that fit, and factors that do not
 
--- 13 of both outputs.
-abbrev rooms : ℕ → ℕ → ℕ → List Said
-rooms need letters marks = roomJudged need letters ∷ roomJudged need marks ∷ []
-
 module _ (n : ℕ) (xs ms ys ns letters marks : List ℕ) where
   -- Two tableaux within the limits that fit together, with outputs long enough, get their product.
   pub product-result : TableauAt n xs ms → TableauAt n ys ns → length xs + length ys ≤ 1024
@@ -77,7 +76,7 @@ module _ (n : ℕ) (xs ms ys ns letters marks : List ℕ) where
       ≡ (gives ((length xs + length ys) ∷ []), (written (productLetters xs ms ys ns) letters, written (productMarks xs ms ys ns) marks))
   unfolding productRun productSays
   product-result h k fit p q =
-      ran-answer (factorsJudgements n xs ms ys ns) (rooms (length xs + length ys) (length letters) (length marks)) _ _ _
+      ran-answer (factorsJudgements n xs ms ys ns) (tableauRooms (length xs + length ys) (length letters) (length marks)) _ _ _
       (factors-passing n xs ms ys ns .1 (h, k, fit)) (room-judged _ _ .1 p, (room-judged _ _ .1 q, tt))
 
   -- A refusal leaves both outputs as they were.
@@ -101,9 +100,9 @@ module _ (n : ℕ) (xs ms ys ns : List ℕ) (h : TableauAt n xs ms) (k : Tableau
   unfolding productSays tableauSays rankJudged lengthJudged
   word-says w letters marks size accepted = dite (decLe (length xs + length ys) 1024)
       (λ (fit : length xs + length ys ≤ 1024).
-      first-past (factorsJudgements n xs ms ys ns) (rooms (length xs + length ys) letters marks) _ (factors-passing n xs ms ys ns .1 (h, k, fit))
-      ∙ ap (λ (k : ℕ). first (rooms k letters marks) (gives (k ∷ []))) (sym size)
-      ∙ sym (first-past (wordJudgements n w) (rooms (length w) letters marks) _ (word-passing n w .1 (accepted fit))))
+      first-past (factorsJudgements n xs ms ys ns) (tableauRooms (length xs + length ys) letters marks) _ (factors-passing n xs ms ys ns .1 (h, k, fit))
+      ∙ ap (λ (k : ℕ). first (tableauRooms k letters marks) (gives (k ∷ []))) (sym size)
+      ∙ sym (first-past (wordJudgements n w) (tableauRooms (length w) letters marks) _ (word-passing n w .1 (accepted fit))))
       (λ (long : ¬ (length xs + length ys ≤ 1024)).
       rw (size, le-ltb n 1 (h .word .rank-low), le-ltb 64 n (h .word .rank-high), lt-ltb 1024 (length xs + length ys) (omega arith)))
 
@@ -167,3 +166,32 @@ module _ (n : ℕ) (xs ms letters marks : List ℕ) (h : TableauAt n xs ms) (p :
   empty-after =
       word-run n xs ms [] [] h (empty-at h) (columnReading xs ms) letters marks (joined-eq (sym (append-nil (columnReading xs ms))))
       ∙ reading-and-back n xs ms letters marks h p q
+
+-- ---- calls one after the other
+
+-- Of a list that values were written into, so many elements as they are.
+needed : (k : ℕ) (vs old : List ℕ) → length vs ≡ k → take k (written vs old) ≡ vs
+needed k vs old e = rw (← e) (written-needed vs old)
+
+-- The cells that the operation has written are the product.
+pub product-left : (n : ℕ) (xs ms ys ns letters marks : List ℕ) → TableauAt n xs ms → TableauAt n ys ns → length xs + length ys ≤ 1024
+    → length xs + length ys ≤ length letters → length xs + length ys ≤ length marks
+    → (leftLetters (length xs + length ys) (productRun n xs ms ys ns letters marks) ≡ productLetters xs ms ys ns)
+    × (leftMarks (length xs + length ys) (productRun n xs ms ys ns letters marks) ≡ productMarks xs ms ys ns)
+product-left n xs ms ys ns letters marks h k fit p q =
+    let (cells, steps) = product-cells xs ms ys ns (h .tableau) (k .tableau) in
+    rw (product-result n xs ms ys ns letters marks h k fit p q)
+    (needed _ (productLetters xs ms ys ns) letters cells, needed _ (productMarks xs ms ys ns) marks steps)
+
+-- So of four calls, each inner product taken from where its call has left it, the outer ones have one reply and leave one memory.
+pub calls-associate : (n : ℕ) (xs ms ys ns zs os a b c d letters marks : List ℕ) → TableauAt n xs ms → TableauAt n ys ns → TableauAt n zs os
+    → length xs + length ys ≤ 1024 → length xs + length ys ≤ length a → length xs + length ys ≤ length b
+    → length ys + length zs ≤ 1024 → length ys + length zs ≤ length c → length ys + length zs ≤ length d
+    → productRun n (leftLetters (length xs + length ys) (productRun n xs ms ys ns a b)) (leftMarks (length xs + length ys) (productRun n xs ms ys ns a b))
+    zs os letters marks
+    ≡ productRun n xs ms (leftLetters (length ys + length zs) (productRun n ys ns zs os c d)) (leftMarks (length ys + length zs) (productRun n ys ns zs os c d))
+    letters marks
+calls-associate n xs ms ys ns zs os a b c d letters marks h k l fit p q fit′ p′ q′ =
+    let (is-letters, is-marks) = product-left n xs ms ys ns a b h k fit p q in
+    let (is-letters′, is-marks′) = product-left n ys ns zs os c d k l fit′ p′ q′ in
+    rw (is-letters, is-marks, is-letters′, is-marks′) (products-associate n xs ms ys ns zs os letters marks h k l)

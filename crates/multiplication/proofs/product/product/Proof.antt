@@ -1,7 +1,7 @@
 -- `multiplication::product::product` meets its contract, by the laws of specs/Product. What the steps past the checks rest on lies far back: what the checks
 -- say (`check-product`), and that they pass (`enum-told`). Assumes nothing.
 use borrow.Author.Needs.{needs}
-use Rattle.multiplication.specs.Product.{counts-fit, first-cells, product-passed, rank-high, replying, second-cells}
+use Rattle.multiplication.specs.Product.{counts-fit, first-cells, passed-product, rank-high, replying, second-cells}
 use Rattle.multiplication.proofs.product.product.Statement.{statement}
 use Rattle.multiplication.proofs.product.product.Tie as tie
 
@@ -24,7 +24,8 @@ sum-counts-requires : tie.Need-sum-counts-requires
 sum-counts-requires c κs =
     let counts = c .before .before .before .before .before .before .before .before .before in
     let told = counts .before .before in
-    counts-fit _ _ _ _ _ _ _ (told .before .before .check-product .ensures) (told .enum-told .given .1) (counts .before .letter-counts .ensures) (counts .letter-counts2 .ensures)
+    counts-fit _ _ _ _ _ _ _ (told .before .before .check-product .ensures) (told .enum-told .given .1)
+    (counts .before .letter-counts .ensures) (counts .letter-counts2 .ensures)
 
 returns-2 : tie.Need-returns-2
 returns-2 c =
@@ -34,7 +35,7 @@ returns-2 c =
     let downs = merged .before .before .before .before .before in
     let counts = downs .before .before in
     let told = counts .before .before in
-    product-passed _ _ _ _ _ _ _ (told .before .before .check-product .ensures) _ _ (told .enum-told .given .1) (counts .before .letter-counts .ensures)
+    passed-product _ _ _ _ _ _ _ (told .before .before .check-product .ensures) _ _ (told .enum-told .given .1) (counts .before .letter-counts .ensures)
     (counts .letter-counts2 .ensures) (downs .before .downs-of .ensures) (downs .downs-of2 .ensures) (merged .merged-set .ensures)
     (sums .sum-counts .ensures) (filled .fill-tableau .ensures)
 

@@ -1,8 +1,8 @@
--- `seconds::factors::check_factors` meets its contract, by laws of refusals' specs/Chains: four checks at the front, then four and two more. Assumes nothing.
+-- `second_inputs::factors::check_factors` meets its contract, by laws of refusals' specs/Chains: four checks at the front, then four and two more. Assumes nothing.
 use Rattle.refusals.specs.Chains.{stops-four, goes-on-four, chained-four, chained, ends}
 use borrow.Author.Needs.{needs}
-use Rattle.seconds.proofs.factors.check_factors.Statement.{statement}
-use Rattle.seconds.proofs.factors.check_factors.Tie as tie
+use Rattle.second_inputs.proofs.factors.check_factors.Statement.{statement}
+use Rattle.second_inputs.proofs.factors.check_factors.Tie as tie
 
 pub check-factors-spec : {M : Type 1} → statement M
 check-factors-spec =

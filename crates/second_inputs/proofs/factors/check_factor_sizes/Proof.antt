@@ -1,8 +1,8 @@
--- `seconds::factors::check_factor_sizes` meets its contract, by the laws of refusals' specs/Chains. Assumes nothing.
+-- `second_inputs::factors::check_factor_sizes` meets its contract, by the laws of refusals' specs/Chains. Assumes nothing.
 use Rattle.refusals.specs.Chains.{chaining}
 use borrow.Author.Needs.{needs}
-use Rattle.seconds.proofs.factors.check_factor_sizes.Statement.{statement}
-use Rattle.seconds.proofs.factors.check_factor_sizes.Tie as tie
+use Rattle.second_inputs.proofs.factors.check_factor_sizes.Statement.{statement}
+use Rattle.second_inputs.proofs.factors.check_factor_sizes.Tie as tie
 
 pub check-factor-sizes-spec : {M : Type 1} → statement M
 check-factor-sizes-spec =

@@ -1,8 +1,8 @@
--- `seconds::factors::check_factor_letters` meets its contract, by the laws of refusals' specs/Chains. Assumes nothing.
+-- `second_inputs::factors::check_factor_letters` meets its contract, by the laws of refusals' specs/Chains. Assumes nothing.
 use Rattle.refusals.specs.Chains.{chaining}
 use borrow.Author.Needs.{needs}
-use Rattle.seconds.proofs.factors.check_factor_letters.Statement.{statement}
-use Rattle.seconds.proofs.factors.check_factor_letters.Tie as tie
+use Rattle.second_inputs.proofs.factors.check_factor_letters.Statement.{statement}
+use Rattle.second_inputs.proofs.factors.check_factor_letters.Tie as tie
 
 pub check-factor-letters-spec : {M : Type 1} → statement M
 check-factor-letters-spec =

@@ -13,7 +13,7 @@ ghost use lib.ListN.{length};
 ghost use Rattle.hypoplactic.specs.Replies.{countOn};
 ghost use Rattle.hypoplactic.specs.Judgements.{lettersJudged, marksJudged, risingJudged};
 ghost use Rattle.refusals.specs.Said.{saidVerdict};
-ghost use Rattle.seconds.specs.Counting.{FurtherFits, further};
+ghost use Rattle.second_inputs.specs.Counting.{FurtherFits, further};
 
 // The same fault, so many places further on.
 fn counted_on(before: usize, fault: Fault) -> Fault
