@@ -14,7 +14,7 @@ use borrow.Author.Needs.{needs}
 use Rattle.hypoplactic.specs.Words.{Accepted}
 use Rattle.hypoplactic.specs.Insertion.{lettersOf, marksOf}
 use Rattle.hypoplactic.specs.Replies.{Said, gives, written}
-use Rattle.hypoplactic.specs.Judgements.{tableauJudgements, tableauRooms, wordJudgements}
+use Rattle.hypoplactic.specs.Judgements.{roomJudged, tableauJudgements, tableauRooms, wordJudgements}
 use Rattle.hypoplactic.specs.TableauOperations.{tableauRun, tableauSays}
 use Rattle.hypoplactic.specs.LineOperations.{tableauLine, tableauLineRun, tLineRun}
 use Rattle.hypoplactic.proofs.Theory.Closure.{word-tableau-at}
