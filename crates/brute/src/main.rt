@@ -1,13 +1,19 @@
 // A second implementation by plain insertion, run against the kernel: it prints how many words were compared and how many differences were found, and then
-// how many answers were spoilt on purpose and how many of these the same comparison found.
+// how many answers were spoilt on purpose and how many of these the same comparison found; then the same of products.
 mod comparing;
+mod cut_words;
+mod cutting;
 mod junctions;
 mod kernel;
+mod multiplying;
 mod picture;
 mod plain;
 
 use crate::comparing::differences;
 use crate::comparing::spoilt;
+use crate::cut_words::compare_drawn;
+use crate::cut_words::compare_short;
+use crate::cut_words::products_spoilt;
 use crate::kernel::answers_at_once;
 use crate::kernel::answers_by_letters;
 use crate::kernel::first_bytes;
@@ -73,10 +79,15 @@ fn print(name: &[u8], number: usize) {
     io::write_all(STDOUT_FILENO, b"\n");
 }
 
-// The four lines.
+// The eight lines.
 fn main() {
     print(b"words ", WORDS);
     print(b"differences ", compare_all());
     print(b"spoilt ", comparing::PARTS);
     print(b"found ", compare_spoilt());
+    let short = compare_short();
+    print(b"products ", short.products + WORDS);
+    print(b"differences ", short.differences + compare_drawn());
+    print(b"spoilt ", 3);
+    print(b"found ", products_spoilt());
 }

@@ -1,4 +1,4 @@
-// The words that the programs brute, brute_moves and brute_products compare with the kernel, and their pairs and tableaux by plain insertion. Nothing here is
+// The words that the programs brute and brute_moves compare with the kernel, and their pairs and tableaux by plain insertion. Nothing here is
 // of the kernel, and no contract says what a word or a pair is: that is compared by running. Contracts give what callers must know to be safe.
 pub mod comparing;
 pub mod drawn;

@@ -1,5 +1,5 @@
 // Words cut in two: the product of the tableaux of both parts beside the tableau of the whole word, all three by plain insertion.
-use crate::kernel::compare;
+use crate::multiplying::compare;
 use plain_words::Word;
 use plain_words::tableau::Tableau;
 use plain_words::tableau::plain_tableau;

@@ -1,8 +1,8 @@
--- `brute_products::cutting::compare_cuts` meets its contract. The invariant: at most three differences at each place that is passed. Assumes nothing.
+-- `brute::cutting::compare_cuts` meets its contract. The invariant: at most three differences at each place that is passed. Assumes nothing.
 use Prim.Native.Nat.{_*_, _+_, _-_, _≤_}
 use borrow.Author.Needs.{needs}
-use Rattle.brute_products.proofs.cutting.compare_cuts.Statement.{statement}
-use Rattle.brute_products.proofs.cutting.compare_cuts.Tie as tie
+use Rattle.brute.proofs.cutting.compare_cuts.Statement.{statement}
+use Rattle.brute.proofs.cutting.compare_cuts.Tie as tie
 
 abbrev Inv-loop : tie.InvT-loop
 Inv-loop word found₀ cut₀ found cut = (cut ≤ word .length + 1) × (found ≤ 3 * cut)

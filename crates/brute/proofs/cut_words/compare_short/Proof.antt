@@ -1,8 +1,8 @@
--- `brute_products::compare_short` meets its contract. The invariant: at most 7 products and 21 differences for each word that is passed. Assumes nothing.
+-- `brute::cut_words::compare_short` meets its contract. The invariant: at most 7 products and 21 differences for each word that is passed. Assumes nothing.
 use Prim.Native.Nat.{_*_, _-_, _≤_}
 use borrow.Author.Needs.{needs}
-use Rattle.brute_products.proofs.compare_short.Statement.{statement}
-use Rattle.brute_products.proofs.compare_short.Tie as tie
+use Rattle.brute.proofs.cut_words.compare_short.Statement.{statement}
+use Rattle.brute.proofs.cut_words.compare_short.Tie as tie
 
 abbrev Inv-loop : tie.InvT-loop
 Inv-loop products₀ differences₀ number₀ products differences number = (number ≤ 1093) × (products ≤ 7 * number) × (differences ≤ 21 * number)

@@ -1,17 +1,11 @@
-// The product of two tableaux, held to plain insertion: words are cut in two, the kernel multiplies the tableaux of both parts, and the product is compared
-// with the tableau of the whole word. Each word of at most 6 letters over 1 to 3 is cut at every place: so every two tableaux over 1 to 3 with at most 6 cells
-// together are multiplied, once for their column readings and once for any other two words of their classes. Each word of plain_words is cut at one place. It
-// prints how many words there were, products and differences; and then how many answers were spoilt on purpose, and how many of these the same comparison
-// found.
-mod cutting;
-mod kernel;
-
+// Products held to plain insertion: words are cut in two, the kernel multiplies the tableaux of both parts, and the product is compared with the tableau of the
+// whole word. Each word of at most 6 letters over 1 to 3 is cut at every place: so every two tableaux over 1 to 3 with at most 6 cells together are
+// multiplied, once for their column readings and once for any other two words of their classes. Each word of plain_words is cut at one place.
 use crate::cutting::SHORT;
 use crate::cutting::compare_cut;
 use crate::cutting::compare_cuts;
 use crate::cutting::compare_with;
 use crate::cutting::short_word;
-use libc::STDOUT_FILENO;
 use plain_words::WORDS;
 use plain_words::comparing::turned;
 use plain_words::drawn::below;
@@ -22,13 +16,13 @@ use plain_words::word_of;
 ghost use Prim.Native.Nat.{_*_, _≤_};
 
 // How many products were compared, and how many differences there were.
-struct Compared {
-    products: usize,
-    differences: usize,
+pub(crate) struct Compared {
+    pub products: usize,
+    pub differences: usize,
 }
 
 // Short words, each cut at every place.
-fn compare_short() -> Compared
+pub(crate) fn compare_short() -> Compared
     ensures { λ r. ⌜ (r .products ≤ 7 * 1093) × (r .differences ≤ 21 * 1093) ⌝ }
 {
     let mut products = 0;
@@ -47,7 +41,7 @@ fn compare_short() -> Compared
 }
 
 // The words of document 01 and drawn ones, each cut at one place.
-fn compare_drawn() -> usize
+pub(crate) fn compare_drawn() -> usize
     ensures { λ r. ⌜ r ≤ 3 * 2770 ⌝ }
 {
     let mut state: u64 = 20201;
@@ -63,7 +57,7 @@ fn compare_drawn() -> usize
 }
 
 // How many of three answers that are spoilt for 31 times 2 the comparison finds: the count of cells, the letters and the marks.
-fn compare_spoilt() -> usize {
+pub(crate) fn products_spoilt() -> usize {
     let word = short_word(24);
     if word.length != 3 {
         return 0;
@@ -84,21 +78,4 @@ fn compare_spoilt() -> usize {
     let letter = compare_with(word, 2, 3, lettered);
     let mark = compare_with(word, 2, 3, stepped);
     one_if(count == 1) + one_if(letter == 1) + one_if(mark == 1)
-}
-
-// One line: a name and a number.
-fn print(name: &[u8], number: usize) {
-    io::write_all(STDOUT_FILENO, name);
-    io::print_decimal(STDOUT_FILENO, number as u64);
-    io::write_all(STDOUT_FILENO, b"\n");
-}
-
-// The five lines.
-fn main() {
-    let short = compare_short();
-    print(b"words ", SHORT + WORDS);
-    print(b"products ", short.products + WORDS);
-    print(b"differences ", short.differences + compare_drawn());
-    print(b"spoilt ", 3);
-    print(b"found ", compare_spoilt());
 }

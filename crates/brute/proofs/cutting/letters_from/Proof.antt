@@ -1,8 +1,8 @@
--- `brute_products::cutting::letters_from` is safe and ends. The invariant: the place is not before the cut. Assumes nothing.
+-- `brute::cutting::letters_from` is safe and ends. The invariant: the place is not before the cut. Assumes nothing.
 use Prim.Native.Nat.{_-_, _≤_}
 use borrow.Author.Needs.{needs}
-use Rattle.brute_products.proofs.cutting.letters_from.Statement.{statement}
-use Rattle.brute_products.proofs.cutting.letters_from.Tie as tie
+use Rattle.brute.proofs.cutting.letters_from.Statement.{statement}
+use Rattle.brute.proofs.cutting.letters_from.Tie as tie
 
 abbrev Inv-loop : tie.InvT-loop
 Inv-loop cut word letters₀ i₀ letters i = cut ≤ i

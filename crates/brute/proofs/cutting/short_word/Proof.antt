@@ -1,8 +1,8 @@
--- `brute_products::cutting::short_word` meets its contract. The invariant: there are at most 6 letters. Assumes nothing.
+-- `brute::cutting::short_word` meets its contract. The invariant: there are at most 6 letters. Assumes nothing.
 use Prim.Native.Nat.{_-_, _≤_}
 use borrow.Author.Needs.{needs}
-use Rattle.brute_products.proofs.cutting.short_word.Statement.{statement}
-use Rattle.brute_products.proofs.cutting.short_word.Tie as tie
+use Rattle.brute.proofs.cutting.short_word.Statement.{statement}
+use Rattle.brute.proofs.cutting.short_word.Tie as tie
 
 abbrev Inv-loop : tie.InvT-loop
 Inv-loop number letters₀ rest₀ length₀ letters rest length = length ≤ 6
