@@ -1,7 +1,6 @@
 // The kernel's moves and repeat counts, classes and weights, each held to an answer of the second implementation: how many answers differ.
 use crate::scanning::Moved;
-use comparisons::classes::same_class;
-use comparisons::weights::compare_weights;
+use classes::two_words::same_class;
 use operators::changes::Side;
 use operators::moves::move_word;
 use operators::moves::repeat_word;
@@ -15,6 +14,7 @@ use refusals::answers::Weights;
 use refusals::refusal::number_and_place;
 use tableaux::moves::move_tableau;
 use tableaux::moves::repeat_tableau;
+use weights::two_words::compare_weights;
 ghost use Prim.Native.Nat.{_≤_};
 
 // 0 for a move that was made, else the refusal's number.

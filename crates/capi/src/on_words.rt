@@ -1,8 +1,7 @@
 // The C interface to words: checks, tableau, recording ribbon, junction set, moves, classes and weights. Each function is one of the kernel's, its answer as a
 // struct of numbers.
 use acceptance::word::check_word;
-use comparisons::classes::same_class;
-use comparisons::weights::compare_weights;
+use classes::two_words::same_class;
 use operators::moves::lower_count_word;
 use operators::moves::lower_word;
 use operators::moves::raise_count_word;
@@ -21,6 +20,7 @@ use structs::replies::CountReply;
 use structs::replies::DoneReply;
 use structs::replies::JunctionReply;
 use structs::replies::OrderReply;
+use weights::two_words::compare_weights;
 use words::junctions::junctions;
 ghost use mathlib.Core.Path.{_≡_};
 ghost use Rattle.hypoplactic.specs.Judgements.{wordJudgements};

@@ -30,7 +30,7 @@ use Rattle.products.specs.Products.{productWord}
 use Rattle.products.proofs.Theory.ProductSteps.{product-junction, product-no-junction}
 use Rattle.words.specs.Bits.{number-none, number-more, under-power, or-bit}
 use Rattle.words.specs.Junctions.{next-step}
-use Rattle.words.specs.Tables.{Table}
+use Rattle.words.specs.Tables.{Table, Counts}
 
 -- ---- one bit
 
@@ -58,9 +58,9 @@ module _ {from within across : Bool} (first-next second-next first-down second-c
 pub record Tables (n : ℕ) (xs ms ys ns cs ds es gs : List ℕ) : Type 0 where
   pub first : TableauAt n xs ms
   pub second : TableauAt n ys ns
-  pub first-counts : Table (λ a. count a xs) cs
+  pub first-counts : Counts xs cs
   pub first-downs : Table (λ a. tick (downOut a xs ms) 0) ds
-  pub second-counts : Table (λ a. count a ys) es
+  pub second-counts : Counts ys es
   pub second-downs : Table (λ a. tick (downOut a ys ns) 0) gs
 
 -- The set is that of the product of any factors with these tables.

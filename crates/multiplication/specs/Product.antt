@@ -18,7 +18,7 @@ use Rattle.hypoplactic.specs.Junctions.{downOut}
 use Rattle.hypoplactic.specs.Judgements.{roomJudged, tableauRooms}
 use Rattle.hypoplactic.specs.Replies.{Said, gives, first, orElse, passed, written}
 use Rattle.hypoplactic.specs.Ribbons.{LetterStep, TableauAt}
-use Rattle.hypoplactic.specs.Words.{Within, count, tick}
+use Rattle.hypoplactic.specs.Words.{Within, tick}
 use Rattle.hypoplactic.proofs.Theory.Judgements.{room-judged}
 use Rattle.hypoplactic.proofs.Theory.Limits.{accepted-within}
 use Rattle.hypoplactic.proofs.Theory.Occurrences.{count-length}
@@ -34,7 +34,7 @@ use Rattle.refusals.specs.declared.refusal.Refusal.{Refusal}
 use Rattle.refusals.specs.declared.answers.Verdict.{Verdict}
 use Rattle.refusals.specs.declared.answers.Verdict.the-variants.{Passed, Refused}
 use Rattle.words.specs.Given.{accepted-counts, countGiven}
-use Rattle.words.specs.Tables.{Table}
+use Rattle.words.specs.Tables.{Table, Counts}
 use Rattle.fillings.specs.Filled.{filled}
 use Rattle.fillings.specs.Tableau.{filled-word}
 use Rattle.multiplication.specs.Merging.{Merged, Tables}
@@ -72,10 +72,10 @@ record Factors (n : ℕ) (xs ms ys ns : List ℕ) : Type 0 where
 
 module _ {n : ℕ} {xs ms ys ns cs es : List ℕ} (h : Factors n xs ms ys ns) (c : Table (countGiven n xs) cs) (e : Table (countGiven n ys) es) where
   -- The counts of both,
-  first-counts : Table (λ a. count a xs) cs
+  first-counts : Counts xs cs
   first-counts = accepted-counts (h .first .word) c
 
-  second-counts : Table (λ a. count a ys) es
+  second-counts : Counts ys es
   second-counts = accepted-counts (h .second .word) e
 
   -- added, fit 16 bits,
@@ -85,7 +85,7 @@ module _ {n : ℕ} {xs ms ys ns cs es : List ℕ} (h : Factors n xs ms ys ns) (c
   }
 
   -- and are the counts of the product.
-  added : {sums : List ℕ} → Sums cs es sums → Table (λ a. count a (productWord xs ms ys ns)) sums
+  added : {sums : List ℕ} → Sums cs es sums → Counts (productWord xs ms ys ns) sums
   added s = record {
     size = s .size;
     entry = λ j l.

@@ -1,6 +1,5 @@
 // The calls, by the place of an operation in the list of names. Each takes the numbers of a line and its lists, and prints what came of it.
-use comparisons::classes::same_class;
-use comparisons::weights::compare_weights;
+use classes::two_words::same_class;
 use lines::tableau::tableau_line_of_word;
 use notation::answers::print_gives;
 use notation::answers::print_gives_two;
@@ -21,6 +20,7 @@ use refusals::answers::Class;
 use refusals::answers::Junctions;
 use refusals::answers::Weights;
 use refusals::answers::WordLine;
+use weights::two_words::compare_weights;
 use words::junctions::junctions;
 use writers::line::write_junction_line;
 use writers::line::write_word_line;

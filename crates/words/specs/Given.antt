@@ -22,7 +22,7 @@ use Rattle.refusals.specs.declared.answers.Verdict.{Verdict}
 use Rattle.refusals.specs.declared.answers.Verdict.the-variants.{Passed, Refused}
 use Rattle.refusals.specs.Said.{saidVerdict}
 use Rattle.acceptance.specs.Passed.{accepted-word}
-use Rattle.words.specs.Tables.{Table}
+use Rattle.words.specs.Tables.{Table, Counts}
 
 -- A number of an accepted word, 0 of a refused one.
 abbrev given : ℕ → List ℕ → ℕ → ℕ
@@ -50,7 +50,7 @@ module _ {v : Verdict} (n : ℕ) (w : List ℕ) (e : saidVerdict v ≡ first (wo
   unfolding countGiven
   refused-counts r q = record { size = refl; entry = λ j l. getD-replicate {A = ℕ} 64 j 0 0 l ∙ said (Refused r) q _ }
 
-  pub passed-counts : (xs : List ℕ) → v ≡ Passed → Table (λ a. count a w) xs → Table (countGiven n w) xs
+  pub passed-counts : (xs : List ℕ) → v ≡ Passed → Counts w xs → Table (countGiven n w) xs
   unfolding countGiven
   passed-counts xs q t = record { size = t .size; entry = λ j l. t .entry j l ∙ said Passed q _ }
 
@@ -67,7 +67,7 @@ module _ {n : ℕ} {w : List ℕ} (h : Accepted n w) where
   told : (k : ℕ) → given n w k ≡ k
   told k = ap (λ (s : Said). after s k 0) (word-judged n w .1 h)
 
-  pub accepted-counts : {xs : List ℕ} → Table (countGiven n w) xs → Table (λ a. count a w) xs
+  pub accepted-counts : {xs : List ℕ} → Table (countGiven n w) xs → Counts w xs
   unfolding countGiven
   accepted-counts t = record { size = t .size; entry = λ j l. t .entry j l ∙ told _ }
 

@@ -1,0 +1,140 @@
+-- The same-class test: counts compared on tables, and that this compares the counts of the words.
+--     sameFrom n j cs ds     n numbers of two tables, from place j on, are equal
+--     Matching               the loop over the letters: what is left decides
+--     same-tables            equal tables of counts are equal counts of all letters, whatever rank the words are within
+--     other-rank, other-counts, other-set, one-class     the answer from what the tests find
+--     opens-class            the reply from the verdict on both words and the test
+--     matching               the ruleset of the same-class test
+-- Assumes nothing.
+use Prim.Native.Nat.{ℕ, zero, suc, _+_, _-_, _≤_, _<_}
+use native.Mathlib.Omega.{arith}
+use native.Mathlib.Nat.{sub-zero}
+use native.Mathlib.Numerals.{add-one}
+use mathlib.Core.Path.{_≡_, refl, sym, ap, ap₂, _∙_}
+use mathlib.Core.List.{List, [], _∷_}
+use mathlib.Core.Bool.{Bool, true, false, _&&_, and-false}
+use lib.Dec.{eqb}
+use lib.ListN.{getD}
+use borrow.Author.Tests.{eq-eqb, ne-eqb, not-false, not-true}
+use Rattle.hypoplactic.specs.Words.{Accepted, Within, count, tick}
+use Rattle.hypoplactic.specs.Junctions.{sameClass, sameCounts}
+use Rattle.hypoplactic.specs.Replies.{Said, gives, passed, orElse, first}
+use Rattle.hypoplactic.specs.WordOperations.{sameClassSays, wordsJudgements}
+use Rattle.hypoplactic.proofs.Theory.SameClass.{class-rank}
+use Rattle.hypoplactic.proofs.Theory.Limits.{count-outside}
+use Rattle.hypoplactic.proofs.Theory.Passing.{first-else}
+use Rattle.second_inputs.specs.Passed.{judging}
+use Rattle.words.specs.Given.{accepted-counts, accepted-set, countGiven, junctionGiven}
+use Rattle.words.specs.Tables.{Table, Counts}
+
+-- ---- on tables
+
+-- Whether n numbers of two tables, from place j on, are equal.
+abbrev pub sameFrom : ℕ → ℕ → List ℕ → List ℕ → Bool
+sameFrom zero j cs ds = true
+sameFrom (suc n) j cs ds = eqb (getD cs j 0) (getD ds j 0) && sameFrom n (suc j) cs ds
+
+-- ---- the loop
+
+-- At place i the numbers left decide.
+pub record Matching (cs ds : List ℕ) (top i : ℕ) : Type 0 where
+  pub within : i ≤ top
+  pub left : sameFrom top 0 cs ds ≡ sameFrom (top - i) i cs ds
+
+pub start : (cs ds : List ℕ) (top : ℕ) → Matching cs ds top 0
+start cs ds top = record { within = omega arith; left = rw sub-zero }
+
+-- What is left, from its first number.
+next : (cs ds : List ℕ) (top i : ℕ) → Matching cs ds top i → i < top
+    → sameFrom top 0 cs ds ≡ (eqb (getD cs i 0) (getD ds i 0) && sameFrom (top - suc i) (suc i) cs ds)
+next cs ds top i h l =
+    let more : top - i ≡ suc (top - suc i) = omega arith in
+    rw more at (h .left)
+
+-- An equal number leaves the next ones to decide,
+pub turn : (cs ds : List ℕ) (top i : ℕ) → Matching cs ds top i → i < top → getD cs i 0 ≡ getD ds i 0 → Matching cs ds top (i + 1)
+turn cs ds top i h l e = rw (add-one i) (record { within = omega arith; left = next cs ds top i h l ∙ rw (eq-eqb _ _ e) })
+
+-- one that differs decides,
+pub differ : (cs ds : List ℕ) (top i : ℕ) → Matching cs ds top i → i < top → (getD cs i 0 ≡ getD ds i 0 → ⊥) → false ≡ sameFrom top 0 cs ds
+differ cs ds top i h l e = sym (next cs ds top i h l ∙ rw (ne-eqb _ _ e))
+
+-- and past the last all are equal.
+pub end : (cs ds : List ℕ) (top i : ℕ) → Matching cs ds top i → top ≤ i → true ≡ sameFrom top 0 cs ds
+end cs ds top i h l =
+    let none : top - i ≡ 0 = omega arith in
+    sym (rw none at (h .left))
+
+-- ---- tables of counts
+
+-- Tables of counts agree where the words' counts do.
+table-same : (u v : List ℕ) {cs ds : List ℕ} → Counts u cs → Counts v ds → (n j : ℕ) → j + n ≤ 64 → sameFrom n j cs ds ≡ sameCounts n (suc j) u v
+table-same u v f g zero j h = refl
+table-same u v f g (suc n) j h = ap₂ _&&_ (ap₂ eqb (f .entry j (omega arith)) (g .entry j (omega arith))) (table-same u v f g n (suc j) (omega arith))
+
+-- Words that have the letters from j + n on equally often agree on k letters from j on where they agree on n, n at most k.
+same-beyond : (n k j : ℕ) (u v : List ℕ) → n ≤ k → ((a : ℕ) → j + n ≤ a → count a u ≡ count a v) → sameCounts k j u v ≡ sameCounts n j u v
+same-beyond zero zero j u v h e = refl
+same-beyond zero (suc k) j u v h e = ap₂ _&&_ (eq-eqb _ _ (e j (omega arith))) (same-beyond zero k (suc j) u v (omega arith) (λ a l. e a (omega arith)))
+same-beyond (suc n) zero j u v h e = let z : ⊥ = omega arith in absurd z
+same-beyond (suc n) (suc k) j u v h e =
+    ap (λ (b : Bool). eqb (count j u) (count j v) && b) (same-beyond n k (suc j) u v (omega arith) (λ a l. e a (omega arith)))
+
+-- Tables of counts that agree on the letters of the rank are equal counts of all letters.
+pub same-tables : {n : ℕ} (u v : List ℕ) {cs ds : List ℕ} → Within n u → Within n v → n ≤ 64 → Counts u cs → Counts v ds
+    → sameFrom n 0 cs ds ≡ sameCounts 64 1 u v
+same-tables {n} u v h g l f e =
+    table-same u v f e n 0 (omega arith)
+    ∙ sym (same-beyond n 64 1 u v l (λ a m. count-outside a u h (λ o. omega arith) ∙ sym (count-outside a v g (λ o. omega arith))))
+
+-- ---- two accepted words of one rank
+
+module _ {n m : ℕ} (u v : List ℕ) (h : Accepted n u) (g : Accepted m v) (r : n ≡ m) where
+  -- By the tables.
+  counted : {cs ds : List ℕ} → Table (countGiven n u) cs → Table (countGiven m v) ds → sameFrom n 0 cs ds ≡ sameCounts 64 1 u v
+  counted f e = same-tables u v (h .letters) (rw r (g .letters)) (h .rank-high) (accepted-counts h f) (accepted-counts g e)
+
+  -- Words whose counts differ are not of one class,
+  pub other-counts : {b : Bool} {cs ds : List ℕ} → Table (countGiven n u) cs → Table (countGiven m v) ds → b ≡ sameFrom n 0 cs ds → b ≡ false
+      → gives (0 ∷ []) ≡ gives (tick (sameClass n u m v) 0 ∷ [])
+  unfolding sameClass
+  other-counts f e p q = rw (← counted f e, ← p, q, and-false)
+
+  -- words of equal counts and equal junction sets are.
+  pub one-class : {b : Bool} {cs ds : List ℕ} {j k : ℕ} → Table (countGiven n u) cs → Table (countGiven m v) ds → b ≡ sameFrom n 0 cs ds → b ≡ true
+      → j ≡ junctionGiven n u → k ≡ junctionGiven m v → j ≡ k → gives (1 ∷ []) ≡ gives (tick (sameClass n u m v) 0 ∷ [])
+  unfolding sameClass
+  one-class {j = j} {k = k} f e p q s t d = rw (← counted f e, ← p, q, ← accepted-set h s, ← accepted-set g t, eq-eqb n m r, eq-eqb j k d)
+
+-- Words whose junction sets differ are not of one class.
+pub other-set : {n m j k : ℕ} (u v : List ℕ) → Accepted n u → Accepted m v → j ≡ junctionGiven n u → k ≡ junctionGiven m v → (j ≡ k → ⊥)
+    → gives (0 ∷ []) ≡ gives (tick (sameClass n u m v) 0 ∷ [])
+unfolding sameClass
+other-set {j = j} {k = k} u v h g e f d = rw (← accepted-set h e, ← accepted-set g f, ne-eqb j k d, and-false)
+
+-- ---- two words
+
+-- Words of different rank never are.
+pub other-rank : {n m : ℕ} (u v : List ℕ) → (n ≡ m → ⊥) → gives (0 ∷ []) ≡ gives (tick (sameClass n u m v) 0 ∷ [])
+other-rank {n} {m} u v d = rw (class-rank n m u v d)
+
+-- The reply from the verdict on both words and the test.
+pub opens-class : {r : Said} (n : ℕ) (u : List ℕ) (m : ℕ) (v : List ℕ)
+    → r ≡ orElse (first (wordsJudgements n u m v) passed) (gives (tick (sameClass n u m v) 0 ∷ [])) → r ≡ sameClassSays n u m v
+unfolding sameClassSays
+opens-class n u m v e = e ∙ first-else (wordsJudgements n u m v) _
+
+pub ruleset matching = (
+  start,
+  turn,
+  differ,
+  end,
+  other-counts,
+  other-set,
+  one-class,
+  other-rank,
+  opens-class,
+  not-true,
+  not-false,
+  judging,
+)

@@ -1,0 +1,19 @@
+-- `weights::tables::compare_counts` meets its contract: both sums and both answers follow the tables, letter by letter. Assumes nothing.
+use Prim.Native.Nat.{_-_}
+use Rattle.weights.specs.Tables.{summing, Summing}
+use Rattle.weights.proofs.tables.compare_counts.Statement.{statement}
+use Rattle.weights.proofs.tables.compare_counts.Tie as tie
+
+abbrev Inv-loop : tie.InvT-loop
+Inv-loop top first second sums₀ at-most₀ at-least₀ i₀ sums at-most at-least i = Summing first second top i (sums .first) (sums .second) at-most at-least
+
+abbrev μ-loop : tie.MeasureT-loop
+μ-loop top first second sums₀ at-most₀ at-least₀ i₀ sums at-most at-least i = top - i
+
+pub compare-counts-spec : {M : Type 1} → statement M
+compare-counts-spec =
+    tie.close
+    (tie.spec Inv-loop μ-loop (λ c. search summing) (λ c. search summing) (λ c. search summing)
+    (λ c. search summing) (λ c. search summing) (λ c κs. search summing) (λ c κs. search summing)
+    (λ c κs. search summing) (λ c. search summing) (λ c. search summing) (λ c. search summing)
+    (λ c κs. search summing) (λ c. search summing))

@@ -1,0 +1,20 @@
+// The step of the comparison (document 02, N2): it sees four numbers, the sums of the first k counts of two words and the count that comes next in each.
+ghost use Prim.Native.Nat.{_≤_};
+ghost use Rattle.weights.specs.Sums.{Stepped};
+
+// The sums of the first k counts, of the first word and of the second.
+pub(crate) struct Sums {
+    pub first: usize,
+    pub second: usize,
+}
+
+// From the next count of each word: the sums of the first k + 1 counts.
+pub(crate) fn next_sums(sums: Sums, first: u16, second: u16) -> Sums
+    requires { ⌜ (sums .first ≤ 1024) × (sums .second ≤ 1024) ⌝ }
+    ensures { λ r. ⌜ Stepped (sums .first) (sums .second) first second (r .first) (r .second) ⌝ }
+{
+    Sums {
+        first: sums.first + first as usize,
+        second: sums.second + second as usize,
+    }
+}
