@@ -107,6 +107,9 @@ compare_weights 6 6 4,3,2,1,4,3,2,1,2,1,1,1 5,4,2,1,6,4,3,2,5,2,2,4
 compare_weights 4 4 3,2,4,3 4,3,2,3
 compare_weights 3 3 2,2 1,3
 compare_weights 3 3 1,3,3 2,2,2
+compare_weights 3 3 1 3
+compare_weights 3 3 3 1
+compare_weights 3 4 2 2,4
 compare_weights 4 4 - 4
 compare_weights 4 4 4 -
 compare_weights 1 64 - -

@@ -118,6 +118,9 @@ MOVES = [
     ("lower and higher exchanged", "meaning", "(True, False): 1, (False, True): 2", "(True, False): 2, (False, True): 1"),
     ("weights without the letter 64", "meaning", "range(1, 65)]", "range(1, 64)]"),
     ("weights to the first word's rank", "meaning", "range(1, 65)]", "range(1, first_rank + 1)]"),
+    ("weights: sums begun anew at each letter", "meaning", "if letter <= k)", "if letter == k)"),
+    ("weights: compared before the next counts are added", "meaning", "range(1, 65)]", "range(max(first_rank, second_rank))]"),
+    ("weights: the second sum fed the first word's counts", "meaning", "for word in (first, second)]\n    at_most", "for word in (first, first)]\n    at_most"),
 ]
 
 # The product as it stands, and by letters and marks alone, as a kernel finds it: counts of both factors, the letters that a step down leaves in each, and
