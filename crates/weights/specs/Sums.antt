@@ -1,17 +1,26 @@
 -- The step of the comparison of weights (document 02, N2).
 --     Stepped a b x y c d     from the sums a and b and the numbers x and y that come next, the sums c and d
+--     accepted-sum            what it asks: a sum of letter counts of an accepted word is at most 1,024
 --     stepped-sums            of two tables: from both sums of the first k numbers and the two next ones, both sums of the first k + 1
 -- That it gives the sums of two words is proofs/Theory/Steps.antt. Assumes nothing.
-use Prim.Native.Nat.{ℕ, suc, _+_}
+use Prim.Native.Nat.{ℕ, suc, _+_, _≤_}
+use native.Mathlib.Omega.{arith}
 use mathlib.Core.Path.{_≡_, refl, ap₂, _∙_}
 use mathlib.Core.List.{List}
 use lib.ListN.{getD}
+use Rattle.hypoplactic.specs.Words.{Accepted}
+use Rattle.hypoplactic.specs.Weights.{sumTo}
+use Rattle.hypoplactic.proofs.Theory.Contents.{sum-le}
 use Rattle.words.specs.Tables.{sumOf}
 
 -- The step: each sum with its own next number.
 pub record Stepped (a b x y c d : ℕ) : Type 0 where
   pub first : c ≡ a + x
   pub second : d ≡ b + y
+
+-- What it asks holds of every sum of letter counts of an accepted word.
+pub accepted-sum : {n : ℕ} (w : List ℕ) → Accepted n w → (k : ℕ) → sumTo k w ≤ 1024
+accepted-sum w h k = omega (arith, sum-le k w, h .short)
 
 -- Of two tables: from the sums of the first k numbers and the next numbers, the sums of the first k + 1.
 pub stepped-sums : (cs ds : List ℕ) {a b c d : ℕ} (k : ℕ) → a ≡ sumOf k cs → b ≡ sumOf k ds → Stepped a b (getD cs k 0) (getD ds k 0) c d

@@ -1,10 +1,11 @@
 -- The comparison of weights on tables of counts, by sums that are carried along.
 --     sumsAtMost k cs ds       each sum of the first 1 to k numbers of cs is at most that of ds
 --     compareTables k cs ds    the comparison from the sums of the first 1 to k numbers
---     Bounded k cs ds          k letters have room in a table, and no sum is above the limit of a word's length
+--     Bounded k cs ds          k letters have room in a table, and their numbers add up to 1,024 at most in each
 --     Summing                  the loop over the letters: both sums and both answers so far
---     start, turn, end         the loop
 --     sum-short, other-sum-short     what the step asks
+--     turn, end                one letter more; past the last
+--     answered, next-decides   what tests decide
 --     summing                  the ruleset of the comparison of tables
 -- Assumes nothing.
 use Prim.Native.Nat.{ℕ, zero, suc, _+_, _≤_, _<_}
@@ -12,7 +13,7 @@ use native.Mathlib.Omega.{arith}
 use native.Mathlib.Numerals.{add-one}
 use mathlib.Core.Path.{_≡_, refl, ap₂, _∙_}
 use mathlib.Core.List.{List, [], _∷_}
-use mathlib.Core.Bool.{Bool, true, false, _&&_}
+use mathlib.Core.Bool.{Bool, true, _&&_}
 use lib.Dec.{leb}
 use lib.ListN.{getD}
 use borrow.Author.Needs.{needs}
@@ -33,7 +34,7 @@ compareTables k cs ds = comparison (sumsAtMost k cs ds) (sumsAtMost k ds cs)
 
 -- ---- the loop
 
--- k letters have room in a table, and their counts, in each table, add up to a word's length at most.
+-- k letters have room in a table, and their numbers, in each table, add up to 1,024 at most: the limit of a word's length.
 pub record Bounded (k : ℕ) (cs ds : List ℕ) : Type 0 where
   pub room : k ≤ 64
   pub short : sumOf k cs ≤ 1024
@@ -47,10 +48,6 @@ pub record Summing (cs ds : List ℕ) (top i a b : ℕ) (low high : Bool) : Type
   pub other-sum : b ≡ sumOf i ds
   pub at-most : low ≡ sumsAtMost i cs ds
   pub at-least : high ≡ sumsAtMost i ds cs
-
--- Before the first letter.
-pub start : (cs ds : List ℕ) (top : ℕ) → Bounded top cs ds → Summing cs ds top 0 0 0 true true
-start cs ds top h = record { bounded = h; within = omega arith; sum = refl; other-sum = refl; at-most = refl; at-least = refl }
 
 -- What the step asks: sums of counts of a word's letters.
 pub sum-short : (cs ds : List ℕ) (top i a b : ℕ) (low high : Bool) → Summing cs ds top i a b low high → a ≤ 1024
@@ -94,11 +91,7 @@ pub answered : {low high p q : Bool} {k : ℕ} → low ≡ p → high ≡ q → 
 answered e f g = rw (e, f, g)
 
 -- A test that passed leaves the next to decide.
-pub on : (a b : Bool) → a ≡ true → b ≡ (a && b)
-on a b e = rw e
+pub next-decides : (a b : Bool) → a ≡ true → b ≡ (a && b)
+next-decides a b e = rw e
 
--- One that failed decides.
-pub off : (a b : Bool) → a ≡ false → false ≡ (a && b)
-off a b e = rw e
-
-pub ruleset summing = (start, sum-short, other-sum-short, turn, end, answered, on, off, refl, needs)
+pub ruleset summing = (sum-short, other-sum-short, turn, end, answered, next-decides, needs)

@@ -18,12 +18,12 @@ use Rattle.hypoplactic.specs.Words.{Accepted, Within, count}
 use Rattle.hypoplactic.specs.Weights.{sumTo, atMost, Comparison, comparison, compareWeights}
 use Rattle.hypoplactic.specs.Replies.{Said, gives, passed, orElse, first}
 use Rattle.hypoplactic.specs.WordOperations.{comparisonNumber, wordsJudgements, weightsSays}
-use Rattle.hypoplactic.proofs.Theory.Contents.{sum-le}
 use Rattle.hypoplactic.proofs.Theory.Limits.{count-outside}
 use Rattle.hypoplactic.proofs.Theory.Passing.{first-else}
 use Rattle.words.specs.Given.{accepted-counts, countGiven}
 use Rattle.words.specs.Tables.{Table, Counts, sumOf, table-sum}
 use Rattle.second_inputs.specs.Passed.{judging}
+use Rattle.weights.specs.Sums.{accepted-sum}
 use Rattle.weights.specs.Tables.{sumsAtMost, compareTables, Bounded}
 
 -- ---- tables of counts
@@ -78,7 +78,7 @@ module _ {n m r : ℕ} (u v : List ℕ) {cs ds : List ℕ} (h : Accepted n u) (g
 
   -- The counts of an accepted word add up to its length at most.
   short : {n : ℕ} (w : List ℕ) {cs : List ℕ} → Accepted n w → Counts w cs → sumOf r cs ≤ 1024
-  short w h t = omega (arith, table-sum w t r room, sum-le r w, h .short)
+  short w h t = omega (arith, table-sum w t r room, accepted-sum w h r)
 
   pub tables-bounded : Bounded r cs ds
   tables-bounded = record { room = room; short = short u h (accepted-counts h f); other-short = short v g (accepted-counts g e) }

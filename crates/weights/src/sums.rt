@@ -8,13 +8,14 @@ pub(crate) struct Sums {
     pub second: usize,
 }
 
-// From the next count of each word: the sums of the first k + 1 counts.
-pub(crate) fn next_sums(sums: Sums, first: u16, second: u16) -> Sums
+// From both sums and the next count of each word: the sums of the first k + 1 counts. What is asked holds of the sums of all accepted words, since these have
+// at most 1,024 letters.
+pub(crate) fn next_sums(sums: Sums, first_count: u16, second_count: u16) -> Sums
     requires { ⌜ (sums .first ≤ 1024) × (sums .second ≤ 1024) ⌝ }
-    ensures { λ r. ⌜ Stepped (sums .first) (sums .second) first second (r .first) (r .second) ⌝ }
+    ensures { λ r. ⌜ Stepped (sums .first) (sums .second) «first_count» «second_count» (r .first) (r .second) ⌝ }
 {
     Sums {
-        first: sums.first + first as usize,
-        second: sums.second + second as usize,
+        first: sums.first + first_count as usize,
+        second: sums.second + second_count as usize,
     }
 }

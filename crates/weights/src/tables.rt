@@ -12,7 +12,7 @@ ghost use Rattle.hypoplactic.specs.WordOperations.{comparisonNumber};
 ghost use Rattle.refusals.specs.Said.{saidWeights};
 ghost use Rattle.weights.specs.Tables.{Bounded, compareTables};
 
-// Whether each sum was at most the other's so far, and is.
+// Whether every sum so far was at most the other word's, and this one is.
 fn still(before: bool, sum: usize, other: usize) -> bool
     ensures { λ r. ⌜ r ≡ (before && leb sum other) ⌝ }
 {
