@@ -1,6 +1,6 @@
 // Words drawn by a repeatable generator, over all ranks from 1 to 64, all lengths up to 1,024 and in five ways.
 use crate::Word;
-ghost use Prim.Native.Nat.{_<_, _≤_};
+ghost use Prim.Native.Nat.{_-_, _<_, _≤_};
 
 // How many words are drawn.
 pub(crate) const DRAWN: usize = 2752;
@@ -13,11 +13,13 @@ fn next(state: u64) -> u64
     state * 48271 % 2147483647
 }
 
-// A number below a bound.
+// A number below a bound; 0 where there is none.
 pub fn below(bound: usize, state: u64) -> usize
-    requires { ⌜ 0 < bound ⌝ }
-    ensures { λ r. ⌜ r < bound ⌝ }
+    ensures { λ r. ⌜ r ≤ bound - 1 ⌝ }
 {
+    if bound == 0 {
+        return 0;
+    }
     state as usize % bound
 }
 

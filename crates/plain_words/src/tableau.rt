@@ -1,5 +1,7 @@
 // The tableau of a word by plain insertion, as the kernel gives and takes it.
 use crate::insertion::plain_pair;
+ghost use mathlib.Core.Path.{_≡_};
+ghost use lib.ListN.{length};
 
 // Letters and marks in the first cells of two arrays.
 pub struct Tableau {
@@ -8,7 +10,9 @@ pub struct Tableau {
 }
 
 // Numbers as bytes.
-fn narrowed(list: [u16; 1024]) -> [u8; 1024] {
+fn narrowed(list: [u16; 1024]) -> [u8; 1024]
+    ensures { λ r. ⌜ length r ≡ 1024 ⌝ }
+{
     let mut out = [0u8; 1024];
     let mut i = 0;
     while i < 1024 {
@@ -19,8 +23,10 @@ fn narrowed(list: [u16; 1024]) -> [u8; 1024] {
 }
 
 // The tableau of a word.
-pub fn plain_tableau(length: usize, word: [u8; 1024]) -> Tableau {
-    let pair = plain_pair(length, word);
+pub fn plain_tableau(count: usize, word: [u8; 1024]) -> Tableau
+    ensures { λ r. ⌜ (length (r .letters) ≡ 1024) × (length (r .marks) ≡ 1024) ⌝ }
+{
+    let pair = plain_pair(count, word);
     let letters = pair.letters;
     let marks = pair.marks;
     Tableau {
