@@ -2,8 +2,9 @@
 --     sumsAtMost k cs ds       each sum of the first 1 to k numbers of cs is at most that of ds
 --     compareTables k cs ds    the comparison from the sums of the first 1 to k numbers
 --     Bounded k cs ds          k letters have room in a table, and their numbers add up to 1,024 at most in each
---     Summing                  the loop over the letters: both sums and both answers so far
---     sum-short, other-sum-short     what the step asks
+--     Sum cs top i a           the loop over the letters: a is the sum of the first i numbers of cs
+--     Summing                  both sums and both answers so far
+--     sum-short                what the step asks
 --     turn, end                one letter more; past the last
 --     answered, next-decides   what tests decide
 --     summing                  the ruleset of the comparison of tables
@@ -40,21 +41,22 @@ pub record Bounded (k : ℕ) (cs ds : List ℕ) : Type 0 where
   pub short : sumOf k cs ≤ 1024
   pub other-short : sumOf k ds ≤ 1024
 
--- After i letters: both sums, and whether each sum so far is at most the other's.
-pub record Summing (cs ds : List ℕ) (top i a b : ℕ) (low high : Bool) : Type 0 where
-  pub bounded : Bounded top cs ds
+-- After i letters: the sum of a table.
+pub record Sum (cs : List ℕ) (top i a : ℕ) : Type 0 where
   pub within : i ≤ top
-  pub sum : a ≡ sumOf i cs
-  pub other-sum : b ≡ sumOf i ds
+  pub short : sumOf top cs ≤ 1024
+  pub is : a ≡ sumOf i cs
+
+-- Both sums, and whether each sum so far is at most the other's.
+pub record Summing (cs ds : List ℕ) (top i a b : ℕ) (low high : Bool) : Type 0 where
+  pub first : Sum cs top i a
+  pub second : Sum ds top i b
   pub at-most : low ≡ sumsAtMost i cs ds
   pub at-least : high ≡ sumsAtMost i ds cs
 
--- What the step asks: sums of counts of a word's letters.
-pub sum-short : (cs ds : List ℕ) (top i a b : ℕ) (low high : Bool) → Summing cs ds top i a b low high → a ≤ 1024
-sum-short cs ds top i a b low high h = omega (arith, h .sum, h .bounded .short, sum-fewer i top cs (h .within))
-
-pub other-sum-short : (cs ds : List ℕ) (top i a b : ℕ) (low high : Bool) → Summing cs ds top i a b low high → b ≤ 1024
-other-sum-short cs ds top i a b low high h = omega (arith, h .other-sum, h .bounded .other-short, sum-fewer i top ds (h .within))
+-- What the step asks of a sum.
+pub sum-short : (cs : List ℕ) (top i a : ℕ) → Sum cs top i a → a ≤ 1024
+sum-short cs top i a h = omega (arith, h .is, h .short, sum-fewer i top cs (h .within))
 
 -- One side's answer after one sum more.
 more : {p low l : Bool} {s s′ t t′ : ℕ} → p ≡ (low && leb s t) → low ≡ l → s ≡ s′ → t ≡ t′ → p ≡ (l && leb s′ t′)
@@ -64,13 +66,11 @@ more e f g h = e ∙ ap₂ _&&_ f (ap₂ leb g h)
 pub turn : (cs ds : List ℕ) (top i a b c d : ℕ) (low high p q : Bool) → Summing cs ds top i a b low high → i < top
     → Stepped a b (getD cs i 0) (getD ds i 0) c d → p ≡ (low && leb c d) → q ≡ (high && leb d c) → Summing cs ds top (i + 1) c d p q
 turn cs ds top i a b c d low high p q h l s e f =
-    let both : (c ≡ sumOf (suc i) cs) × (d ≡ sumOf (suc i) ds) = stepped-sums cs ds i (h .sum) (h .other-sum) s in
+    let both : (c ≡ sumOf (suc i) cs) × (d ≡ sumOf (suc i) ds) = stepped-sums cs ds i (h .first .is) (h .second .is) s in
     rw (add-one i)
     (record {
-      bounded = h .bounded;
-      within = l;
-      sum = both .0;
-      other-sum = both .1;
+      first = record { within = l; short = h .first .short; is = both .0 };
+      second = record { within = l; short = h .second .short; is = both .1 };
       at-most = more e (h .at-most) (both .0) (both .1);
       at-least = more f (h .at-least) (both .1) (both .0);
     })
@@ -80,7 +80,7 @@ pub end : {r : Said} (cs ds : List ℕ) (top i a b : ℕ) (low high : Bool) → 
     → r ≡ gives (comparisonNumber (comparison low high) ∷ []) → r ≡ gives (comparisonNumber (compareTables top cs ds) ∷ [])
 unfolding compareTables
 end cs ds top i a b low high h l e =
-    let all : i ≡ top = omega (arith, h .within) in
+    let all : i ≡ top = omega (arith, h .first .within) in
     rw (← all) (e ∙ ap₂ (λ (p q : Bool). gives (comparisonNumber (comparison p q) ∷ [])) (h .at-most) (h .at-least))
 
 -- ---- tests
@@ -94,4 +94,4 @@ answered e f g = rw (e, f, g)
 pub next-decides : (a b : Bool) → a ≡ true → b ≡ (a && b)
 next-decides a b e = rw e
 
-pub ruleset summing = (sum-short, other-sum-short, turn, end, answered, next-decides, needs)
+pub ruleset summing = (sum-short, turn, end, answered, next-decides, needs)

@@ -78,7 +78,7 @@ module _ {n m r : ℕ} (u v : List ℕ) {cs ds : List ℕ} (h : Accepted n u) (g
 
   -- The counts of an accepted word add up to its length at most.
   short : {n : ℕ} (w : List ℕ) {cs : List ℕ} → Accepted n w → Counts w cs → sumOf r cs ≤ 1024
-  short w h t = omega (arith, table-sum w t r room, accepted-sum w h r)
+  short w i t = omega (arith, table-sum w t r room, accepted-sum w i r)
 
   pub tables-bounded : Bounded r cs ds
   tables-bounded = record { room = room; short = short u h (accepted-counts h f); other-short = short v g (accepted-counts g e) }

@@ -52,17 +52,15 @@ accepted-ones : (a x : ℕ) → a + x ≤ 1024 → Accepted 2 (onesTwos a x)
 accepted-ones a x h = record { rank-low = omega arith; rank-high = omega arith; short = omega (arith, length-ones a x); letters = within-ones a x }
 
 -- A function of both sums and both next counts that gives both next sums, for all accepted words of one rank, is the step on all numbers that such words have.
-pub step-only : (f g : ℕ → ℕ → ℕ → ℕ → ℕ)
+pub step-only : (f : ℕ → ℕ → ℕ → ℕ → ℕ × ℕ)
     → ((n : ℕ) (u v : List ℕ) (k : ℕ) → Accepted n u → Accepted n v
-    → (f (sumTo k u) (sumTo k v) (count (suc k) u) (count (suc k) v) ≡ sumTo (suc k) u)
-    × (g (sumTo k u) (sumTo k v) (count (suc k) u) (count (suc k) v) ≡ sumTo (suc k) v))
-    → (a b x y : ℕ) → a + x ≤ 1024 → b + y ≤ 1024 → Stepped a b x y (f a b x y) (g a b x y)
-step-only f g p a b x y h i =
-    let both = p 2 (onesTwos a x) (onesTwos b y) 1 (accepted-ones a x h) (accepted-ones b y i) in
-    record {
-      first = rw (count-ones a x, count-ones b y, count-twos a x, count-twos b y, zero-add a, zero-add b) at (both .0);
-      second = rw (count-ones a x, count-ones b y, count-twos a x, count-twos b y, zero-add a, zero-add b) at (both .1);
-    }
+    → f (sumTo k u) (sumTo k v) (count (suc k) u) (count (suc k) v) ≡ (sumTo (suc k) u, sumTo (suc k) v))
+    → (a b x y : ℕ) → a + x ≤ 1024 → b + y ≤ 1024 → Stepped a b x y (f a b x y .0) (f a b x y .1)
+step-only f p a b x y h i =
+    let both : f a b x y ≡ (a + x, b + y) =
+    rw (count-ones a x, count-ones b y, count-twos a x, count-twos b y, zero-add a, zero-add b)
+    at (p 2 (onesTwos a x) (onesTwos b y) 1 (accepted-ones a x h) (accepted-ones b y i)) in
+    record { first = ap (λ (r : ℕ × ℕ). r .0) both; second = ap (λ (r : ℕ × ℕ). r .1) both }
 
 -- ---- step after step
 
