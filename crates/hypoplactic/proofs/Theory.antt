@@ -58,6 +58,8 @@ pub mod Outputs
 pub mod JoinedReplies
 pub mod Closure
 pub mod RepeatReplies
+pub mod ChangedPlaces
+pub mod ChangedCells
 pub mod Together
 -- ---- cases
 pub mod Examples

@@ -2,6 +2,7 @@
 -- it holds at every rank of any two words accepted at it.
 --     Faithful line move u v    lines and moves tell of u and v what the rewriting rules tell
 --     FaithfulLines             the demand: Faithful of tableau lines and of moves on words. Theorem `classes`, proofs/Theory/Classes.antt
+--     MovedTogether a u v r s   a move's replies to u and v: made in both, each at its own place, or refused in both with one number
 --     FaithfullyWritten n u v   the same of what the operations reply and leave in lent memory
 --     FaithfulWriting           the demand over what is written. Theorem `written-classes`, proofs/Theory/WrittenClasses.antt
 -- FaithfulLines is the one to read first: it has neither buffers nor replies. FaithfulWriting speaks of the very definitions that the contracts of the
@@ -11,10 +12,10 @@ use mathlib.Core.List.{List, [], _∷_}
 use mathlib.Core.Logic.{_↔_}
 use mathlib.Core.Option.{Option, some}
 use Prim.Native.Nat.{ℕ, _≤_}
-use lib.ListN.{length, take}
+use lib.ListN.{length, take, set}
 use Rattle.hypoplactic.specs.Insertion.{recordingOf}
 use Rattle.hypoplactic.specs.Words.{Accepted}
-use Rattle.hypoplactic.specs.Moves.{Move, Defined, moveWord}
+use Rattle.hypoplactic.specs.Moves.{Move, Defined, given, moveWord}
 use Rattle.hypoplactic.specs.Rewriting.{Joined}
 use Rattle.hypoplactic.specs.Replies.{Said, gives, refused}
 use Rattle.hypoplactic.specs.WordOperations.{moveWordRun}
@@ -49,12 +50,18 @@ lineBytes n w out = elements ((tableauLineRun n w out) .0) ((tableauLineRun n w 
 abbrev pub moveLeft : ℕ → Move → List ℕ → List ℕ
 moveLeft n m w = (moveWordRun n m w) .1
 
+-- What a move that gives the letter a replies to two words, and leaves of them: made in both, each at its own place, where a then stands; or refused in
+-- both with one number, both left as they were.
+pub data MovedTogether (a : ℕ) (u v : List ℕ) : Said × List ℕ → Said × List ℕ → Type 0 where
+  in-both : (p q : ℕ) → MovedTogether a u v (gives (p ∷ []), set u p a) (gives (q ∷ []), set v q a)
+  in-neither : (k : ℕ) → MovedTogether a u v (refused k 0, u) (refused k 0, v)
+
 pub record FaithfullyWritten (n : ℕ) (u v : List ℕ) : Type 0 where
   -- 1. With buffers long enough, the bytes written are equal exactly when a chain joins the words.
   pub shared : (out out′ : List ℕ) → length (tableauLine n u) ≤ length out → length (tableauLine n v) ≤ length out′
       → (lineBytes n u out ≡ lineBytes n v out′) ↔ Joined u v
-  -- 2. If a chain joins them, each move has one reply to both,
-  pub together : Joined u v → (m : Move) → (moveWordRun n m u) .0 ≡ (moveWordRun n m v) .0
+  -- 2. If a chain joins them, each move is made in both, each at its own place, or refused in both with one number,
+  pub together : Joined u v → (m : Move) → MovedTogether (given (m .side) (m .index)) u v (moveWordRun n m u) (moveWordRun n m v)
   -- and the bytes written for the words that it leaves are equal.
   pub results : Joined u v → (m : Move) (out out′ : List ℕ) → length (tableauLine n (moveLeft n m u)) ≤ length out
       → length (tableauLine n (moveLeft n m v)) ≤ length out′ → lineBytes n (moveLeft n m u) out ≡ lineBytes n (moveLeft n m v) out′

@@ -5,6 +5,7 @@
 --     changedPlace       the place of the letter that a move changes, if the move is defined
 --     moved              the new letters, with no bound on the index
 --     moveWord, moveTableau   the same at rank n, where an index outside 1 to n - 1 leaves the move undefined
+--     placeInWord, placeInTableau   the place that a move changes at rank n: of a letter in the word, of a cell in the tableau
 --     remaining          how many letters a move could change
 --     repeatWord, repeatTableau   document 01's repeat count, which is that number
 --     timesWord, timesTableau     a move made a number of times, one after the other
@@ -99,7 +100,7 @@ abbrev pub indexOf : ℕ → ℕ → Bool
 indexOf n i = ltb 0 i && ltb i n
 
 -- Undefined at an index that the rank does not have.
-abbrev pub guarded : ℕ → Move → Option (List ℕ) → Option (List ℕ)
+abbrev pub guarded : {A : Type 0} → ℕ → Move → Option A → Option A
 guarded n m r = cond (indexOf n (m .index)) r none
 
 -- The moves at rank n. A move on a tableau changes letters and no mark.
@@ -108,6 +109,13 @@ moveWord n m w = guarded n m (movedWord m w)
 
 unfoldable pub moveTableau : ℕ → Move → List ℕ → List ℕ → Option (List ℕ)
 moveTableau n m xs ms = guarded n m (movedTableau m xs ms)
+
+-- The place that a move at rank n changes, if the move is defined.
+abbrev pub placeInWord : ℕ → Move → List ℕ → Option ℕ
+placeInWord n m w = guarded n m (changedPlace (inverted (m .index) w) m w)
+
+abbrev pub placeInTableau : ℕ → Move → List ℕ → List ℕ → Option ℕ
+placeInTableau n m xs ms = guarded n m (changedPlace (below (m .index) xs ms) m xs)
 
 -- How many letters a move could change, the second argument telling whether there is an inversion: then none.
 abbrev pub remaining : Move → Bool → List ℕ → ℕ

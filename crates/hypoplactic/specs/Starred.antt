@@ -99,12 +99,12 @@ starredCases =
     ∷ case (outcome (readingRun 4 (3 ∷ 3 ∷ 4 ∷ []) (0 ∷ 0 ∷ 1 ∷ []) (lent 4))) (0 ∷ 3 ∷ 3 ∷ 4 ∷ 3 ∷ 99 ∷ [])
     -- 243245565 at rank 6
     ∷ case (outcome (recordingRun 6 (2 ∷ 4 ∷ 3 ∷ 2 ∷ 4 ∷ 5 ∷ 5 ∷ 6 ∷ 5 ∷ []) (lent 10))) (0 ∷ 9 ∷ 1 ∷ 4 ∷ 3 ∷ 2 ∷ 5 ∷ 6 ∷ 7 ∷ 9 ∷ 8 ∷ 99 ∷ [])
-    -- moves at rank 3
-    ∷ case (outcome (moveWordRun 3 (lower 1) (3 ∷ 1 ∷ 1 ∷ 3 ∷ []))) (0 ∷ 3 ∷ 1 ∷ 2 ∷ 3 ∷ [])
+    -- moves at rank 3: a move that is made replies 0 and the changed place
+    ∷ case (outcome (moveWordRun 3 (lower 1) (3 ∷ 1 ∷ 1 ∷ 3 ∷ []))) (0 ∷ 2 ∷ 3 ∷ 1 ∷ 2 ∷ 3 ∷ [])
     ∷ case (outcome (moveWordRun 3 (raise 2) (3 ∷ 1 ∷ 2 ∷ 3 ∷ []))) (10 ∷ 0 ∷ 3 ∷ 1 ∷ 2 ∷ 3 ∷ [])
     ∷ case (outcome (moveWordRun 3 (lower 2) (3 ∷ 1 ∷ 3 ∷ 1 ∷ []))) (11 ∷ 0 ∷ 3 ∷ 1 ∷ 3 ∷ 1 ∷ [])
-    ∷ case (outcome (moveWordRun 3 (raise 2) (3 ∷ 1 ∷ 3 ∷ 1 ∷ []))) (0 ∷ 2 ∷ 1 ∷ 3 ∷ 1 ∷ [])
-    ∷ case (outcome (moveWordRun 3 (raise 2) (3 ∷ 1 ∷ []))) (0 ∷ 2 ∷ 1 ∷ [])
+    ∷ case (outcome (moveWordRun 3 (raise 2) (3 ∷ 1 ∷ 3 ∷ 1 ∷ []))) (0 ∷ 0 ∷ 2 ∷ 1 ∷ 3 ∷ 1 ∷ [])
+    ∷ case (outcome (moveWordRun 3 (raise 2) (3 ∷ 1 ∷ []))) (0 ∷ 0 ∷ 2 ∷ 1 ∷ [])
     -- classes at rank 4: 1 is yes, 0 is no
     ∷ case (numbers (sameClassSays 4 (3 ∷ 2 ∷ 4 ∷ 3 ∷ []) 4 w4323)) (0 ∷ 1 ∷ [])
     ∷ case (numbers (sameClassSays 4 (2 ∷ 3 ∷ 3 ∷ 4 ∷ []) 4 w4323)) (0 ∷ 0 ∷ [])
@@ -171,7 +171,7 @@ refusalCases =
     ∷ case (outcome (moveWordRun 4 (raise 3) [])) (11 ∷ 0 ∷ [])
     -- 10, 11 on a tableau: 3 directly below 2, and 3 right of 2
     ∷ case (outcome (moveTableauRun 4 (raise 2) (2 ∷ 3 ∷ []) (0 ∷ 1 ∷ []))) (10 ∷ 0 ∷ 2 ∷ 3 ∷ [])
-    ∷ case (outcome (moveTableauRun 4 (raise 2) (2 ∷ 3 ∷ 3 ∷ []) (0 ∷ 0 ∷ 0 ∷ []))) (0 ∷ 2 ∷ 2 ∷ 3 ∷ [])
+    ∷ case (outcome (moveTableauRun 4 (raise 2) (2 ∷ 3 ∷ 3 ∷ []) (0 ∷ 0 ∷ 0 ∷ []))) (0 ∷ 1 ∷ 2 ∷ 2 ∷ 3 ∷ [])
     ∷ case (outcome (moveTableauRun 4 (lower 1) (2 ∷ 3 ∷ []) (0 ∷ 1 ∷ []))) (11 ∷ 0 ∷ 2 ∷ 3 ∷ [])
     -- 12, 13: full; the first output that is too short
     ∷ case (numbers (fullJudged 1024)) (12 ∷ 1024 ∷ [])

@@ -3,23 +3,23 @@
 --     insertRun                     1 2 3 4 5 6 7 8 12 13    gives the new used count
 --     wordRun                       1 to 8, 13               gives the letters written
 --     readingRun                    1 to 6, 13               gives the letters written
---     moveTableauRun                1 to 6, 9 10 11          gives no value; letters change in place, marks do not
+--     moveTableauRun                1 to 6, 9 10 11          gives the place of the changed cell; letters change in place, marks do not
 --     repeatTableauSays             1 to 6, 9                gives the repeat count
 --     viewerSays, lookSays          1 to 6                   gives no value; gives letter, row and column, or no value for "no such cell"
 --     throughSays                   those of the making      the same look, from what the making said
 -- A lent list keeps its elements beyond those needed. Assumes nothing.
 use Prim.Native.Nat.{ℕ, suc}
 use mathlib.Core.List.{List, [], _∷_, _++_}
-use mathlib.Core.Bool.{cond}
+use mathlib.Core.Bool.{Bool, cond}
 use lib.Dec.{ltb}
 use lib.ListN.{length, take, getD}
 use Rattle.hypoplactic.specs.Ribbons.{rowAt, columnAt}
 use Rattle.hypoplactic.specs.Insertion.{Pair, insert, lettersOf, marksOf, recordingOf, wordOf}
 use Rattle.hypoplactic.specs.Reading.{columnReading}
-use Rattle.hypoplactic.specs.Moves.{Move, below, movedTableau, repeatTableau}
+use Rattle.hypoplactic.specs.Moves.{Move, below, changedPlace, movedTableau, repeatTableau}
 use Rattle.hypoplactic.specs.Replies.{Said, gives, passed, orElse, first, ranTo, written}
 use Rattle.hypoplactic.specs.Judgements.{rankJudged, lengthJudged, usedJudged, lettersJudged, risingJudged, marksJudged, entriesJudged, recordingJudged, indexJudged, fullJudged, roomJudged, tableauRooms, wordJudgements, tableauJudgements, pairJudgements}
-use Rattle.hypoplactic.specs.WordOperations.{moveJudgements, orSame}
+use Rattle.hypoplactic.specs.WordOperations.{moveJudgements, orSame, placeTold}
 
 -- Tableau of a word, into lent letters and marks.
 unfoldable pub tableauSays : ℕ → List ℕ → ℕ → ℕ → Said
@@ -82,7 +82,9 @@ readingRun n xs ms out = ranTo (readingSays n xs ms (length out)) (written (colu
 
 -- A move on a tableau.
 unfoldable pub moveTableauSays : ℕ → Move → List ℕ → List ℕ → Said
-moveTableauSays n m xs ms = first (tableauJudgements n xs ms ++ moveJudgements n m (below (m .index) xs ms) xs) (gives [])
+moveTableauSays n m xs ms =
+    let inversion : Bool = below (m .index) xs ms in
+    first (tableauJudgements n xs ms ++ moveJudgements n m inversion xs) (gives (placeTold (changedPlace inversion m xs)))
 
 unfoldable pub moveTableauRun : ℕ → Move → List ℕ → List ℕ → Said × List ℕ
 moveTableauRun n m xs ms = ranTo (moveTableauSays n m xs ms) (orSame (movedTableau m xs ms) xs) xs

@@ -1,6 +1,7 @@
 -- What the operations on words reply to every input, and what lent memory then holds (document 01; the checks that each makes, in order).
 --     junctionSays      1 2 4                gives the junction set and the rows
---     moveWordSays      1 2 4 9 10 11        gives no value; moveWordRun changes the word in place
+--     moveWordSays      1 2 4 9 10 11        gives the place of the changed letter; moveWordRun changes the word in place
+--     placeTold         the place that is given
 --     undefinedBy, moveReply                 a move's reply past the checks of its word or tableau, from the move's definition, as theorems say it
 --     repeatWordSays    1 2 4 9              gives the repeat count
 --     sameClassSays, weightsSays   1 2 4 of two words      give 1 or 0; 0 equal, 1 lower, 2 higher, 3 neither
@@ -11,7 +12,7 @@ use mathlib.Core.Bool.{Bool, cond}
 use mathlib.Core.Option.{Option, none, some}
 use lib.ListN.{length}
 use Rattle.hypoplactic.specs.Words.{tick}
-use Rattle.hypoplactic.specs.Moves.{Move, indexOf, inverted, taken, movedWord, repeatWord}
+use Rattle.hypoplactic.specs.Moves.{Move, changedPlace, indexOf, inverted, taken, movedWord, repeatWord}
 use Rattle.hypoplactic.specs.Junctions.{junctionSet, rowsOf, sameClass}
 use Rattle.hypoplactic.specs.Weights.{Comparison, equal, lower, higher, neither, compareWeights}
 use Rattle.hypoplactic.specs.Replies.{Said, gives, refused, first, ranTo, countOn}
@@ -33,13 +34,20 @@ orSame (some v) w = v
 abbrev pub undefinedBy : ℕ → Move → Bool → ℕ
 undefinedBy n m inversion = cond (indexOf n (m .index)) (cond inversion 10 11) 9
 
--- The reply to a move whose letters, if it is defined, are these, and whose refusal, if it is not, has this number.
-abbrev pub moveReply : ℕ → Option (List ℕ) → Said
+-- What a move that is made tells: the place that it changed. Past the checks there is always one.
+abbrev pub placeTold : Option ℕ → List ℕ
+placeTold none = []
+placeTold (some p) = p ∷ []
+
+-- The reply to a move that changes this place, if it is defined, and whose refusal, if it is not, has this number.
+abbrev pub moveReply : ℕ → Option ℕ → Said
 moveReply k none = refused k 0
-moveReply k (some v) = gives []
+moveReply k (some p) = gives (p ∷ [])
 
 unfoldable pub moveWordSays : ℕ → Move → List ℕ → Said
-moveWordSays n m w = first (wordJudgements n w ++ moveJudgements n m (inverted (m .index) w) w) (gives [])
+moveWordSays n m w =
+    let inversion : Bool = inverted (m .index) w in
+    first (wordJudgements n w ++ moveJudgements n m inversion w) (gives (placeTold (changedPlace inversion m w)))
 
 unfoldable pub moveWordRun : ℕ → Move → List ℕ → Said × List ℕ
 moveWordRun n m w = ranTo (moveWordSays n m w) (orSame (movedWord m w) w) w

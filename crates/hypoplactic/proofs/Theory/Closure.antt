@@ -107,8 +107,9 @@ pub move-accepted : {n : ℕ} {w v : List ℕ} (m : Move) → Accepted n w → m
 unfolding moveWord
 move-accepted {n} {w} m a e = moved-accepted m (inverted (m .index) w) w a e
 
-unguarded : {v : List ℕ} (n : ℕ) (m : Move) (o : Option (List ℕ)) → guarded n m o ≡ some v → o ≡ some v
-unguarded {v} n m o e = go (indexOf n (m .index)) e
+-- What is there at a rank is there without it.
+pub unguarded : {A : Type 0} {v : A} (n : ℕ) (m : Move) (o : Option A) → guarded n m o ≡ some v → o ≡ some v
+unguarded {v = v} n m o e = go (indexOf n (m .index)) e
   where
     go : (t : Bool) → cond t o none ≡ some v → o ≡ some v
     go true e = e

@@ -1,6 +1,6 @@
--- Joined words get the same refusal number from every move, whether the words are accepted or not (beside theorem a). Only the place of 4 can differ.
---     joined-refusal     the replies of a move to two joined words
---     joined-reply       the same for accepted words, where the replies are equal
+-- What a move replies to joined words and to their tableaux (beside theorem a).
+--     joined-refusal     joined words, accepted or not: made in both, or refused in both with one number; only the place of 4 can differ
+--     joined-cell        their tableaux: one reply, and so one cell, and one tableau left
 -- Assumes nothing.
 use Prim.Native.Nat.{ℕ, suc}
 use mathlib.Core.Path.{_≡_, refl, sym, ap, ap₂, _∙_, subst}
@@ -10,10 +10,12 @@ use mathlib.Core.List.{List, [], _∷_, _++_}
 use lib.ListN.{length}
 use Rattle.hypoplactic.specs.Words.{Accepted}
 use Rattle.hypoplactic.specs.Rewriting.{Joined}
+use Rattle.hypoplactic.specs.Insertion.{lettersOf, marksOf}
 use Rattle.hypoplactic.specs.Moves.{Move, inverted, taken}
 use Rattle.hypoplactic.specs.Replies.{Said, gives, refused, Passes, first, refuseIf, OneNumber}
 use Rattle.hypoplactic.specs.Judgements.{outside, rankJudged, lengthJudged, lettersFrom, lettersJudged, letterJudged, inversionJudged, indexJudged, wordJudgements}
 use Rattle.hypoplactic.specs.WordOperations.{moveJudgements, moveWordSays}
+use Rattle.hypoplactic.specs.TableauOperations.{moveTableauRun}
 use Rattle.hypoplactic.proofs.Theory.Passing.{first-past}
 use Rattle.hypoplactic.proofs.Theory.Contents.{within-counts}
 use Rattle.hypoplactic.proofs.Theory.Invariants.{joined-count, joined-inversion, joined-tableau}
@@ -39,12 +41,12 @@ OneByOne [] (k ∷ ks) = ⊥
 OneByOne (j ∷ js) [] = ⊥
 OneByOne (j ∷ js) (k ∷ ks) = OneNumber j k × OneByOne js ks
 
-first-one : (js ks : List Said) (a : Said) → OneByOne js ks → OneNumber (first js a) (first ks a)
-first-one [] [] a h = one-same a
-first-one (gives vs ∷ js) (gives us ∷ ks) a h = first-one js ks a (h .1)
-first-one (gives vs ∷ js) (refused k p ∷ ks) a h = absurd (h .0)
-first-one (refused k p ∷ js) (gives vs ∷ ks) a h = absurd (h .0)
-first-one (refused k p ∷ js) (refused i q ∷ ks) a h = h .0
+first-one : (js ks : List Said) (a b : Said) → OneByOne js ks → OneNumber a b → OneNumber (first js a) (first ks b)
+first-one [] [] a b h e = e
+first-one (gives vs ∷ js) (gives us ∷ ks) a b h e = first-one js ks a b (h .1) e
+first-one (gives vs ∷ js) (refused k p ∷ ks) a b h e = absurd (h .0)
+first-one (refused k p ∷ js) (gives vs ∷ ks) a b h e = absurd (h .0)
+first-one (refused k p ∷ js) (refused i q ∷ ks) a b h e = h .0
 
 -- ---- the letters of joined words
 
@@ -88,7 +90,7 @@ module _ {u v : List ℕ} (j : Joined u v) where
   unfolding moveWordSays
   joined-refusal n m =
       first-one (wordJudgements n u ++ moveJudgements n m (inverted (m .index) u) u) (wordJudgements n v ++ moveJudgements n m (inverted (m .index) v) v)
-      (gives []) (
+      _ _ (
         one-same (rankJudged n),
         (
           one-equal (ap lengthJudged joined-length),
@@ -103,12 +105,8 @@ module _ {u v : List ℕ} (j : Joined u v) where
             ),
           ),
         ),
-      )
+      ) tt
 
-  -- To accepted words that are joined it replies the same.
-  pub joined-reply : (n : ℕ) (m : Move) → Accepted n u → moveWordSays n m u ≡ moveWordSays n m v
-  unfolding moveWordSays
-  joined-reply n m a =
-      first-past (wordJudgements n u) (moveJudgements n m (inverted (m .index) u) u) (gives []) (word-passing n u .1 a)
-      ∙ ap₂ (λ (b : Bool) (k : Said). first (indexJudged n (m .index) ∷ inversionJudged b ∷ k ∷ []) (gives [])) (joined-inversion j (m .index)) (letter-same (taken (m .side) (m .index)))
-      ∙ sym (first-past (wordJudgements n v) (moveJudgements n m (inverted (m .index) v) v) (gives []) (word-passing n v .1 (chain-accepted a j)))
+  -- On their tableaux, which are one, it has one reply and changes one cell.
+  pub joined-cell : (n : ℕ) (m : Move) → moveTableauRun n m (lettersOf u) (marksOf u) ≡ moveTableauRun n m (lettersOf v) (marksOf v)
+  joined-cell n m = ap₂ (λ (xs ms : List ℕ). moveTableauRun n m xs ms) (joined-tableau j .0) (joined-tableau j .1)

@@ -2,7 +2,7 @@
 --     Passing js           no judgement of the list refuses
 --     first-passed         the chain replies passed exactly when none refuses
 --     first-answer         where none refuses, the reply is the answer
---     passing-first        where values are the reply, none refuses
+--     passing-first        where values are the reply, none refuses; passing-before: none of the first, with others after them
 --     first-append         a chain may be cut anywhere
 --     first-else           what a chain says before an answer, from what it says alone
 --     first-past           what a chain says past judgements that refuse nothing; first-both past all of two lists
@@ -35,6 +35,12 @@ pub passing-first : (js : List Said) (vs : List ℕ) → Passes (first js (gives
 passing-first [] vs p = tt
 passing-first (gives us ∷ js) vs p = (tt, passing-first js vs p)
 passing-first (refused k i ∷ js) vs p = absurd p
+
+-- nor does one of the first, with others after them.
+pub passing-before : (js ks : List Said) (vs : List ℕ) → Passes (first (js ++ ks) (gives vs)) → Passing js
+passing-before [] ks vs p = tt
+passing-before (gives us ∷ js) ks vs p = (tt, passing-before js ks vs p)
+passing-before (refused k i ∷ js) ks vs p = absurd p
 
 -- The chain replies passed exactly when no judgement refuses.
 pub first-passed : (js : List Said) → (first js passed ≡ passed) ↔ Passing js

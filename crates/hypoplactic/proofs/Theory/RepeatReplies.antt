@@ -6,14 +6,15 @@
 --     repeat-tableau-replies    for tableaux
 -- The same of moves with no rank and no checks is in Repeats. Assumes nothing.
 use Prim.Native.Nat.{ℕ, zero, suc, _≤_}
-use mathlib.Core.Path.{_≡_, refl, subst, _∙_}
+use mathlib.Core.Path.{_≡_, refl, ap, subst, _∙_}
 use mathlib.Core.List.{List, [], _∷_, _++_}
 use mathlib.Core.Bool.{Bool, true, false, cond, not}
 use mathlib.Core.Option.{Option, none, some}
 use native.Mathlib.Omega.{arith}
+use lib.ListN.{set}
 use Rattle.hypoplactic.specs.Words.{Accepted}
 use Rattle.hypoplactic.specs.Ribbons.{TableauAt}
-use Rattle.hypoplactic.specs.Moves.{Move, below, indexOf, inverted, moveTableau, moveWord, moved, movedTableau, movedWord, remaining, repeatTableau, repeatWord}
+use Rattle.hypoplactic.specs.Moves.{Move, below, changedPlace, given, guarded, indexOf, inverted, moveTableau, moveWord, moved, remaining, repeatTableau, repeatWord, replaced}
 use Rattle.hypoplactic.specs.Replies.{Said, Passes, first, gives, orElse, passed, refused, refuseIf}
 use Rattle.hypoplactic.specs.Judgements.{indexJudged, tableauJudgements, wordJudgements}
 use Rattle.hypoplactic.specs.WordOperations.{moveWordRun, repeatWordSays}
@@ -45,26 +46,32 @@ once-more (p, e) r = record { last = r .last; made = (p, rw e (r .made)); stops 
 module _ (m : Move) (Good : List ℕ → Type 0) (test : List ℕ → Bool) (run : List ℕ → Said × List ℕ)
     (upright : (w : List ℕ) → Good w → test w ≡ false → inverted (m .index) w ≡ false)
     (kept : (w v : List ℕ) → Good w → moved (test w) m w ≡ some v → Good v × (test v ≡ false))
-    (goes : (w v : List ℕ) → Good w → moved (test w) m w ≡ some v → Passes ((run w) .0) × ((run w) .1 ≡ v))
-    (stays : (w : List ℕ) → Good w → moved (test w) m w ≡ none → run w ≡ (refused (cond (test w) 10 11) 0, w)) where
+    (goes : (w : List ℕ) (p : ℕ) → Good w → changedPlace (test w) m w ≡ some p → run w ≡ (gives (p ∷ []), set w p (given (m .side) (m .index))))
+    (stays : (w : List ℕ) → Good w → changedPlace (test w) m w ≡ none → run w ≡ (refused (cond (test w) 10 11) 0, w)) where
+  -- What the answer by a place says of the letters that the move could change.
+  abbrev Left : List ℕ → Option ℕ → Type 0
+  Left w o = Counted m (test w) w (replaced (given (m .side) (m .index)) w o)
+
   -- It is made as often as there are letters that the move could change.
   repeats : (k : ℕ) (w : List ℕ) → Good w → remaining m (test w) w ≡ k → Repeated run k (cond (test w) 10 11) w
-  repeats zero w g e = go (moved (test w) m w) refl (moved-counted m (test w) w (upright w g))
+  repeats zero w g e = go (changedPlace (test w) m w) refl (moved-counted m (test w) w (upright w g))
     where
-      go : (o : Option (List ℕ)) → moved (test w) m w ≡ o → Counted m (test w) w o → Repeated run zero (cond (test w) 10 11) w
+      go : (o : Option ℕ) → changedPlace (test w) m w ≡ o → Left w o → Repeated run zero (cond (test w) 10 11) w
       go none f c = record { last = w; made = refl; stops = stays w g f }
-      go (some v) f c = let z : ⊥ = omega arith in absurd z
-  repeats (suc k) w g e = go (moved (test w) m w) refl (moved-counted m (test w) w (upright w g)) (repeats k)
+      go (some p) f c = let z : ⊥ = omega arith in absurd z
+  repeats (suc k) w g e = go (changedPlace (test w) m w) refl (moved-counted m (test w) w (upright w g)) (repeats k)
     where
-      go : (o : Option (List ℕ)) → moved (test w) m w ≡ o → Counted m (test w) w o
+      go : (o : Option ℕ) → changedPlace (test w) m w ≡ o → Left w o
           → ((v : List ℕ) → Good v → remaining m (test v) v ≡ k → Repeated run k (cond (test v) 10 11) v) → Repeated run (suc k) (cond (test w) 10 11) w
       go none f c rest = let z : ⊥ = omega arith in absurd z
-      go (some v) f c rest =
-          let q : Good v × (test v ≡ false) = kept w v g f in
+      go (some p) f c rest =
+          let v : List ℕ = set w p (given (m .side) (m .index)) in
+          let made : moved (test w) m w ≡ some v = ap (replaced (given (m .side) (m .index)) w) f in
+          let q : Good v × (test v ≡ false) = kept w v g made in
           let left : remaining m false v ≡ k = omega arith in
           let r : Repeated run k 11 v = rw (q .1) at (rest v (q .0) (rw (q .1) left)) in
-          let free : test w ≡ false = moved-turned m (test w) w v (upright w g) .0 f .0 in
-          rw free (once-more (goes w v g f) r)
+          let free : test w ≡ false = moved-turned m (test w) w v (upright w g) .0 made .0 in
+          rw free (once-more (rw (goes w p g f) (tt, refl)) r)
 
 -- ---- the replies
 
@@ -80,35 +87,30 @@ count-replied (gives vs ∷ js) n i r k e = let (p, q, s) = count-replied js n i
 count-replied (refused a p ∷ js) n i r k e = let z : _≡_ {A = ℕ} 0 1 = cc in let no : ⊥ = omega arith in absurd no
 
 -- At an index of the rank a move at the rank is the move.
-word-at : (n : ℕ) (m : Move) (w : List ℕ) → indexOf n (m .index) ≡ true → moveWord n m w ≡ movedWord m w
-unfolding moveWord
-word-at n m w i = rw i
-
-tableau-at : (n : ℕ) (m : Move) (xs ms : List ℕ) → indexOf n (m .index) ≡ true → moveTableau n m xs ms ≡ movedTableau m xs ms
-unfolding moveTableau
-tableau-at n m xs ms i = rw i
+at-index : {A : Type 0} (n : ℕ) (m : Move) (o : Option A) → indexOf n (m .index) ≡ true → guarded n m o ≡ o
+at-index n m o i = rw i
 
 -- On a word.
 pub repeat-word-replies : (n : ℕ) (m : Move) (w : List ℕ) (k : ℕ) → repeatWordSays n m w ≡ gives (k ∷ [])
     → Repeated (moveWordRun n m) k (cond (inverted (m .index) w) 10 11) w
-unfolding repeatWordSays repeatWord
+unfolding repeatWordSays repeatWord moveWord
 repeat-word-replies n m w k e =
     let (p, i, same) = count-replied (wordJudgements n w) n (m .index) (repeatWord m w) k e in
     repeats m (Accepted n) (inverted (m .index)) (moveWordRun n m) (λ w a f. f)
-    (λ w v a f. (move-accepted m a (word-at n m w i ∙ f), turned-upright (m .side) (m .index) w v (word-turned m w v .0 f) .1))
-    (λ w v a f. rw (move-word-made n m w a v (word-at n m w i ∙ f)) (tt, refl))
-    (λ w a f. rw i at (move-word-refused n m w a (word-at n m w i ∙ f)))
+    (λ w v a f. (move-accepted m a (at-index n m _ i ∙ f), turned-upright (m .side) (m .index) w v (word-turned m w v .0 f) .1))
+    (λ w p a f. move-word-made n m w a p (at-index n m _ i ∙ f))
+    (λ w a f. rw i at (move-word-refused n m w a (at-index n m _ i ∙ f)))
     k w (word-passing n w .0 p) same
 
 -- On a tableau.
 pub repeat-tableau-replies : (n : ℕ) (m : Move) (xs ms : List ℕ) (k : ℕ) → repeatTableauSays n m xs ms ≡ gives (k ∷ [])
     → Repeated (λ ys. moveTableauRun n m ys ms) k (cond (below (m .index) xs ms) 10 11) xs
-unfolding repeatTableauSays repeatTableau
+unfolding repeatTableauSays repeatTableau moveTableau
 repeat-tableau-replies n m xs ms k e =
     let (p, i, same) = count-replied (tableauJudgements n xs ms) n (m .index) (repeatTableau m xs ms) k e in
     repeats m (λ ys. TableauAt n ys ms) (λ ys. below (m .index) ys ms) (λ ys. moveTableauRun n m ys ms)
     (λ ys h f. tableau-upright (m .index) ys ms (h .tableau))
-    (λ ys zs h f. (move-tableau-at m h (tableau-at n m ys ms i ∙ f), moved-valid m ys zs ms (h .tableau) f .1))
-    (λ ys zs h f. rw (move-tableau-made n m ys ms h zs (tableau-at n m ys ms i ∙ f)) (tt, refl))
-    (λ ys h f. rw i at (move-tableau-refused n m ys ms h (tableau-at n m ys ms i ∙ f)))
+    (λ ys zs h f. (move-tableau-at m h (at-index n m _ i ∙ f), moved-valid m ys zs ms (h .tableau) f .1))
+    (λ ys p h f. move-tableau-made n m ys ms h p (at-index n m _ i ∙ f))
+    (λ ys h f. rw i at (move-tableau-refused n m ys ms h (at-index n m _ i ∙ f)))
     k xs (tableau-passing n xs ms .0 p) same

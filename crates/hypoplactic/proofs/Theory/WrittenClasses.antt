@@ -12,20 +12,20 @@ use lib.ListN.{length}
 use Rattle.hypoplactic.specs.Words.{Accepted}
 use Rattle.hypoplactic.specs.Rewriting.{Joined}
 use Rattle.hypoplactic.specs.Insertion.{recordingOf}
-use Rattle.hypoplactic.specs.Moves.{Defined, Move, moveWord}
+use Rattle.hypoplactic.specs.Moves.{Defined, Move, given, inverted, moveWord, placeInWord, replaced}
 use Rattle.hypoplactic.specs.Replies.{Said, gives, ranTo, written}
 use Rattle.hypoplactic.specs.Judgements.{roomJudged, wordJudgements}
-use Rattle.hypoplactic.specs.WordOperations.{moveWordRun, orSame}
+use Rattle.hypoplactic.specs.WordOperations.{moveWordRun, orSame, undefinedBy}
 use Rattle.hypoplactic.specs.TableauOperations.{recordingRun, recordingSays}
 use Rattle.hypoplactic.specs.LineOperations.{tableauLine}
-use Rattle.hypoplactic.specs.Classes.{Faithful, FaithfullyWritten, FaithfulWriting, lineBytes, moveLeft}
+use Rattle.hypoplactic.specs.Classes.{Faithful, FaithfullyWritten, FaithfulWriting, MovedTogether, in-both, in-neither, lineBytes, moveLeft}
 use Rattle.hypoplactic.proofs.Theory.Classes.{classes}
 use Rattle.hypoplactic.proofs.Theory.Closure.{move-accepted}
-use Rattle.hypoplactic.proofs.Theory.JoinedReplies.{joined-reply}
+use Rattle.hypoplactic.proofs.Theory.Invariants.{joined-inversion}
 use Rattle.hypoplactic.proofs.Theory.Judged.{word-passing}
 use Rattle.hypoplactic.proofs.Theory.LineResults.{tableau-line-result}
 use Rattle.hypoplactic.proofs.Theory.Memory.{written-needed}
-use Rattle.hypoplactic.proofs.Theory.MoveResults.{move-word-result}
+use Rattle.hypoplactic.proofs.Theory.MoveResults.{move-replaced, move-word-made, move-word-refused, move-word-result}
 use Rattle.hypoplactic.proofs.Theory.Pairs.{length-recording}
 use Rattle.hypoplactic.proofs.Theory.Passing.{first-past}
 
@@ -70,6 +70,26 @@ module _ (n : ℕ) (u v : List ℕ) (a : Accepted n u) (b : Accepted n v) where
       go (some u′) none e f h = absurd (h .0 tt)
       go (some u′) (some v′) e f h = faith .results j m u′ v′ e f
 
+  -- Where a move has a place in one of the words, it has one in the other.
+  moved-together : Joined u v → (m : Move) → MovedTogether (given (m .side) (m .index)) u v (moveWordRun n m u) (moveWordRun n m v)
+  unfolding moveWord
+  moved-together j m =
+      go (placeInWord n m u) (placeInWord n m v) refl refl
+      (rw (move-replaced n m (inverted (m .index) u) u, move-replaced n m (inverted (m .index) v) v) at (faith .together j m))
+    where
+      given-letter : ℕ
+      given-letter = given (m .side) (m .index)
+
+      number : undefinedBy n m (inverted (m .index) v) ≡ undefinedBy n m (inverted (m .index) u)
+      number = ap (undefinedBy n m) (sym (joined-inversion j (m .index)))
+
+      go : (o p : Option ℕ) → placeInWord n m u ≡ o → placeInWord n m v ≡ p → Defined (replaced given-letter u o) ↔ Defined (replaced given-letter v p)
+          → MovedTogether given-letter u v (moveWordRun n m u) (moveWordRun n m v)
+      go none none e f h = rw (move-word-refused n m u a e, move-word-refused n m v b f, number) (in-neither (undefinedBy n m (inverted (m .index) u)))
+      go none (some q) e f h = absurd (h .1 tt)
+      go (some p) none e f h = absurd (h .0 tt)
+      go (some p) (some q) e f h = rw (move-word-made n m u a p e, move-word-made n m v b q f) (in-both p q)
+
   left-recording : (m : Move) → recordingOf (moveLeft n m u) ≡ recordingOf u
   left-recording m = rw (left-word n m u a) (go (moveWord n m u) refl)
     where
@@ -82,7 +102,7 @@ module _ (n : ℕ) (u v : List ℕ) (a : Accepted n u) (b : Accepted n v) where
   faithfully-written =
       record {
         shared = λ out out′ l k. rw (line-bytes n u out a l, line-bytes n v out′ b k) (faith .shared);
-        together = λ j m. joined-reply j n m a;
+        together = moved-together;
         results = λ j m out out′ l k.
             line-bytes n (moveLeft n m u) out (move-left n m u a) l ∙ left-lines j m ∙ sym (line-bytes n (moveLeft n m v) out′ (move-left n m v b) k);
         recordings = λ m entries. recording-same n (moveLeft n m u) u entries (move-left n m u a) a (left-recording m);

@@ -1,0 +1,114 @@
+-- The place that a move replies (document 02, N3): inside, where the letter taken stood, the leftmost such place for raising and the rightmost for lowering.
+--     Held s a w o         what a place o of the letter a in w is: the foremost one from the side s; where there is none, a stands nowhere
+--     leftmost-first       the leftmost a has no a left of it
+--     rightmost-last       the rightmost a has no a right of it
+--     changed-held         the place that a move changes, whatever tells of an inversion
+--     word-changing        every move on a word that gives values is Changing, whatever the rank and the word
+--     tableau-changing     every move on a tableau that gives values is
+-- Assumes nothing.
+use Prim.Native.Nat.{ℕ, zero, suc, _<_}
+use native.Mathlib.Omega.{arith}
+use mathlib.Core.Path.{_≡_, refl, subst}
+use mathlib.Core.Logic.{_≢_}
+use mathlib.Core.Bool.{Bool, true, false, cond}
+use mathlib.Core.Option.{Option, none, some, Option·none-ne-some}
+use mathlib.Core.List.{List, [], _∷_}
+use lib.Dec.{eqb}
+use lib.ListN.{length, getD}
+use borrow.Author.Tests.{eqb-true, eqb-false}
+use Rattle.hypoplactic.specs.Words.{Accepted}
+use Rattle.hypoplactic.specs.Ribbons.{TableauAt}
+use Rattle.hypoplactic.specs.Moves.{Side, raising, lowering, Move, taken, onward, leftmost, orHere, rightmost, target, changedPlace, inverted, below, guarded, placeInWord, placeInTableau}
+use Rattle.hypoplactic.specs.Replies.{Said, Passes}
+use Rattle.hypoplactic.specs.Judgements.{tableauJudgements, wordJudgements}
+use Rattle.hypoplactic.specs.WordOperations.{moveJudgements, moveWordRun, moveWordSays}
+use Rattle.hypoplactic.specs.TableauOperations.{moveTableauRun, moveTableauSays}
+use Rattle.hypoplactic.specs.ChangedPlaces.{Past, Changing}
+use Rattle.hypoplactic.proofs.Theory.Closure.{unguarded}
+use Rattle.hypoplactic.proofs.Theory.Judged.{tableau-passing, word-passing}
+use Rattle.hypoplactic.proofs.Theory.MoveResults.{move-tableau-made, move-tableau-refused, move-word-made, move-word-refused}
+use Rattle.hypoplactic.proofs.Theory.Passing.{passing-before}
+
+-- ---- the leftmost and the rightmost
+
+-- Nowhere, or foremost from this side.
+abbrev pub Held : Side → ℕ → List ℕ → Option ℕ → Type 0
+Held s a w none = (q : ℕ) → q < length w → getD w q 0 ≢ a
+Held s a w (some p) = (p < length w) × (getD w p 0 ≡ a) × ((q : ℕ) → q < length w → Past s p q → getD w q 0 ≢ a)
+
+module _ (a x : ℕ) (xs : List ℕ) where
+  -- No a at the places that R tells, the first place apart.
+  one-more : (R : ℕ → Type 0) → (R 0 → x ≢ a) → ((q : ℕ) → q < length xs → R (suc q) → getD xs q 0 ≢ a)
+      → (q : ℕ) → q < length (x ∷ xs) → R q → getD (x ∷ xs) q 0 ≢ a
+  one-more R here rest zero l r = here r
+  one-more R here rest (suc q) l r = rest q (omega arith) r
+
+  -- No a in the rest, nor here.
+  none-more : x ≢ a → Held raising a xs none → (s : Side) → Held s a (x ∷ xs) none
+  none-more ne h s q l = one-more (λ q. Unit {0}) (λ r. ne) (λ q l r. h q l) q l tt
+
+pub leftmost-first : (a : ℕ) (w : List ℕ) → Held raising a w (leftmost a w)
+leftmost-first a [] = λ q l. let z : ⊥ = omega arith in absurd z
+leftmost-first a (x ∷ xs) = go (eqb x a) refl (leftmost a xs) (leftmost-first a xs)
+  where
+    go : (t : Bool) → eqb x a ≡ t → (o : Option ℕ) → Held raising a xs o → Held raising a (x ∷ xs) (cond t (some 0) (onward o))
+    go true e o h = (omega arith, eqb-true x a e, λ q l r. let z : ⊥ = omega arith in absurd z)
+    go false e none h = none-more a x xs (eqb-false x a e) h raising
+    go false e (some p) h =
+        (omega (arith, h .0), h .1, one-more a x xs (λ q. q < suc p) (λ r. eqb-false x a e) (λ q l r. h .2 q l (omega arith)))
+
+pub rightmost-last : (a : ℕ) (w : List ℕ) → Held lowering a w (rightmost a w)
+rightmost-last a [] = λ q l. let z : ⊥ = omega arith in absurd z
+rightmost-last a (x ∷ xs) = go (eqb x a) refl (rightmost a xs) (rightmost-last a xs)
+  where
+    go : (t : Bool) → eqb x a ≡ t → (o : Option ℕ) → Held lowering a xs o → Held lowering a (x ∷ xs) (orHere t o)
+    go t e (some p) h =
+        (omega (arith, h .0), h .1, one-more a x xs (λ q. suc p < q) (λ r. let z : ⊥ = omega arith in absurd z) (λ q l r. h .2 q l (omega arith)))
+    go true e none h =
+        (omega arith, eqb-true x a e, one-more a x xs (λ q. 0 < q) (λ r. let z : ⊥ = omega arith in absurd z) (λ q l r. h q l))
+    go false e none h = none-more a x xs (eqb-false x a e) h lowering
+
+-- ---- the place that a move changes
+
+pub changed-held : (b : Bool) (m : Move) (w : List ℕ) (p : ℕ) → changedPlace b m w ≡ some p → Held (m .side) (taken (m .side) (m .index)) w (some p)
+changed-held true m w p e = absurd (Option·none-ne-some p e)
+changed-held false m w p e = subst (Held (m .side) (taken (m .side) (m .index)) w) e (named (m .side) (m .index))
+  where
+    named : (s : Side) (i : ℕ) → Held s (taken s i) w (target s i w)
+    named raising i = leftmost-first (suc i) w
+    named lowering i = rightmost-last i w
+
+-- The same at a rank.
+guarded-held : (n : ℕ) (b : Bool) (m : Move) (w : List ℕ) (p : ℕ) → guarded n m (changedPlace b m w) ≡ some p
+    → Held (m .side) (taken (m .side) (m .index)) w (some p)
+guarded-held n b m w p e = changed-held b m w p (unguarded n m (changedPlace b m w) e)
+
+-- ---- the replies
+
+-- A move on a word that is not refused.
+pub word-changing : (n : ℕ) (m : Move) (w : List ℕ) → Passes ((moveWordRun n m w) .0) → Changing m w (moveWordRun n m w)
+unfolding moveWordRun moveWordSays
+word-changing n m w h = go (placeInWord n m w) refl
+  where
+    a : Accepted n w
+    a = word-passing n w .0 (passing-before (wordJudgements n w) (moveJudgements n m (inverted (m .index) w) w) _ h)
+
+    go : (o : Option ℕ) → placeInWord n m w ≡ o → Changing m w (moveWordRun n m w)
+    go none e = absurd (subst (λ (r : Said × List ℕ). Passes (r .0)) (move-word-refused n m w a e) h)
+    go (some p) e =
+        let (inside, held, foremost) = guarded-held n (inverted (m .index) w) m w p e in
+        record { place = p; inside = inside; held = held; foremost = foremost; told = move-word-made n m w a p e }
+
+-- A move on a tableau that is not refused.
+pub tableau-changing : (n : ℕ) (m : Move) (xs ms : List ℕ) → Passes ((moveTableauRun n m xs ms) .0) → Changing m xs (moveTableauRun n m xs ms)
+unfolding moveTableauRun moveTableauSays
+tableau-changing n m xs ms h = go (placeInTableau n m xs ms) refl
+  where
+    a : TableauAt n xs ms
+    a = tableau-passing n xs ms .0 (passing-before (tableauJudgements n xs ms) (moveJudgements n m (below (m .index) xs ms) xs) _ h)
+
+    go : (o : Option ℕ) → placeInTableau n m xs ms ≡ o → Changing m xs (moveTableauRun n m xs ms)
+    go none e = absurd (subst (λ (r : Said × List ℕ). Passes (r .0)) (move-tableau-refused n m xs ms a e) h)
+    go (some p) e =
+        let (inside, held, foremost) = guarded-held n (below (m .index) xs ms) m xs p e in
+        record { place = p; inside = inside; held = held; foremost = foremost; told = move-tableau-made n m xs ms a p e }
