@@ -4,9 +4,11 @@ use crate::kernel::compare_on_tableau;
 use crate::kernel::compare_on_two;
 use crate::kernel::compare_on_word;
 use crate::partners::partner;
+use crate::scanning::first_difference;
 use crate::scanning::plain_move;
 use crate::scanning::plain_times;
 use crate::scanning::tableau_after;
+use crate::scanning::told;
 use crate::two_words::plain_class;
 use crate::two_words::plain_weights;
 use operators::changes::Side;
@@ -27,7 +29,7 @@ pub(crate) fn counted(answer: usize, found: usize, counts: [usize; 16]) -> [usiz
     all
 }
 
-// A move on a word and on its tableau.
+// A move on a word and on its tableau. The changed cell is where the tableau of the moved word differs.
 fn count_move(
     raising: bool,
     side: Side,
@@ -47,7 +49,9 @@ fn count_move(
     let on_word = compare_on_word(side, rank, index, length, letters, moved, times);
     let before = tableau.letters;
     let marks = tableau.marks;
+    let later = after.letters;
     let reply = moved.reply;
+    let cell = first_difference(length, before, later);
     let on_tableau = compare_on_tableau(
         side,
         rank,
@@ -55,7 +59,7 @@ fn count_move(
         length,
         before,
         marks,
-        reply,
+        told(reply, cell),
         after,
         times,
     );

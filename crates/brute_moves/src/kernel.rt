@@ -1,5 +1,6 @@
 // The kernel's moves and repeat counts, classes and weights, each held to an answer of the second implementation: how many answers differ.
 use crate::scanning::Moved;
+use crate::scanning::told;
 use classes::two_words::same_class;
 use operators::changes::Side;
 use operators::moves::move_word;
@@ -17,13 +18,13 @@ use tableaux::moves::repeat_tableau;
 use weights::two_words::compare_weights;
 ghost use Prim.Native.Nat.{_≤_};
 
-// 0 for a move that was made, else the refusal's number.
+// The changed place, or 2,048 more than the refusal's number.
 fn move_number(answer: Move) -> usize {
     match answer {
-        Move::Made => 0,
+        Move::Made(place) => place,
         Move::Refused(refusal) => {
             let returned = number_and_place(refusal);
-            returned.number
+            std::num::wrapping_add_usize(2048, returned.number)
         }
     }
 }
@@ -76,7 +77,7 @@ pub(crate) fn compare_on_word(
     let count = repeat_word(side, rank, index, &word[0..length]);
     let made = move_word(side, rank, index, &mut letters[0..length]);
     let own = moved.letters;
-    one_if(move_number(made) != moved.reply)
+    one_if(move_number(made) != told(moved.reply, moved.place))
         + unlike(letters, own)
         + one_if(times_number(count) != times)
 }

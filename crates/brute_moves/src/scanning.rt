@@ -3,10 +3,19 @@ use plain_words::tableau::Tableau;
 use plain_words::tableau::plain_tableau;
 ghost use Prim.Native.Nat.{_<_, _≤_};
 
-// A word after a move: 0 or the number that the move is refused with, and its letters.
+// A word after a move: 0 or the number that the move is refused with, the place that it changed, and its letters.
 pub struct Moved {
     pub reply: usize,
+    pub place: usize,
     pub letters: [u8; 1024],
+}
+
+// The whole reply to a move as one number: the changed place, or 2,048 more than the number of a refusal.
+pub(crate) fn told(reply: usize, place: usize) -> usize {
+    if 0 < reply {
+        return std::num::wrapping_add_usize(2048, reply);
+    }
+    place
 }
 
 // Where a letter stands first from a place on; the length where it does not stand.
@@ -63,12 +72,17 @@ fn with_letter(letter: u8, place: usize, length: usize, word: [u8; 1024]) -> Mov
     if length <= place {
         return Moved {
             reply: 11,
+            place: 0,
             letters: word,
         };
     }
     let mut letters = word;
     letters[place] = letter;
-    Moved { reply: 0, letters }
+    Moved {
+        reply: 0,
+        place,
+        letters,
+    }
 }
 
 // The word after a move: raising turns the leftmost i+1 into i, lowering the rightmost i into i+1.
@@ -84,6 +98,7 @@ pub(crate) fn plain_move(
     if index < 1 || rank <= index {
         return Moved {
             reply: 9,
+            place: 0,
             letters: word,
         };
     }
@@ -91,6 +106,7 @@ pub(crate) fn plain_move(
     if inverted(low, length, word) {
         return Moved {
             reply: 10,
+            place: 0,
             letters: word,
         };
     }
@@ -125,6 +141,20 @@ pub(crate) fn plain_times(
         times += 1;
     }
     times
+}
+
+// Where two lists of letters differ first; the length where they do not.
+pub(crate) fn first_difference(length: usize, one: [u8; 1024], other: [u8; 1024]) -> usize
+    requires { ⌜ length ≤ 1024 ⌝ }
+{
+    let mut place = 0;
+    while place < length {
+        if one[place] != other[place] {
+            return place;
+        }
+        place += 1;
+    }
+    length
 }
 
 // The tableau after a move on its word: that of the moved word. It stays where the move is refused.

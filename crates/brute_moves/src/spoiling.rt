@@ -13,31 +13,46 @@ use plain_words::word_of;
 ghost use Prim.Native.Nat.{_≤_};
 
 // How many answers are spoilt.
-pub(crate) const SPOILT: usize = 9;
+pub(crate) const SPOILT: usize = 11;
 
-// Lowering 1 in 3113 at rank 3, which gives 3123 and can be made twice: reply, letters and count.
+// Lowering 1 in 3113 at rank 3, which gives 3123 by its place 2 and can be made twice: refusal, place, letters and count.
 pub(crate) fn spoilt_on_word() -> usize
-    ensures { λ r. ⌜ r ≤ 3 ⌝ }
+    ensures { λ r. ⌜ r ≤ 4 ⌝ }
 {
     let word = word_of(6, 0);
     let after = word_of(7, 0);
     let before = word.letters;
     let letters = after.letters;
-    let right = Moved { reply: 0, letters };
+    let right = Moved {
+        reply: 0,
+        place: 2,
+        letters,
+    };
+    let earlier = Moved {
+        reply: 0,
+        place: 1,
+        letters,
+    };
     let wrong = Moved {
         reply: 0,
+        place: 2,
         letters: turned(letters),
     };
-    let refused = Moved { reply: 10, letters };
+    let refused = Moved {
+        reply: 10,
+        place: 2,
+        letters,
+    };
     let reply = compare_on_word(Side::Lowering, 3, 1, 4, before, refused, 2);
+    let place = compare_on_word(Side::Lowering, 3, 1, 4, before, earlier, 2);
     let letter = compare_on_word(Side::Lowering, 3, 1, 4, before, wrong, 2);
     let times = compare_on_word(Side::Lowering, 3, 1, 4, before, right, 1);
-    one_if(reply == 1) + one_if(letter == 1) + one_if(times == 1)
+    one_if(reply == 1) + one_if(place == 1) + one_if(letter == 1) + one_if(times == 1)
 }
 
-// The same on its tableau: reply, letters, marks and count.
+// The same on its tableau, by its cell 1: refusal, cell, letters, marks and count.
 pub(crate) fn spoilt_on_tableau() -> usize
-    ensures { λ r. ⌜ r ≤ 4 ⌝ }
+    ensures { λ r. ⌜ r ≤ 5 ⌝ }
 {
     let word = word_of(6, 0);
     let moved = word_of(7, 0);
@@ -57,11 +72,16 @@ pub(crate) fn spoilt_on_tableau() -> usize
         letters,
         marks: turned(marks),
     };
-    let reply = compare_on_tableau(Side::Lowering, 3, 1, 4, from, steps, 10, right, 2);
-    let letter = compare_on_tableau(Side::Lowering, 3, 1, 4, from, steps, 0, wrong, 2);
-    let mark = compare_on_tableau(Side::Lowering, 3, 1, 4, from, steps, 0, stepped, 2);
-    let times = compare_on_tableau(Side::Lowering, 3, 1, 4, from, steps, 0, right, 3);
-    one_if(reply == 1) + one_if(letter == 1) + one_if(mark == 1) + one_if(times == 1)
+    let reply = compare_on_tableau(Side::Lowering, 3, 1, 4, from, steps, 2058, right, 2);
+    let cell = compare_on_tableau(Side::Lowering, 3, 1, 4, from, steps, 2, right, 2);
+    let letter = compare_on_tableau(Side::Lowering, 3, 1, 4, from, steps, 1, wrong, 2);
+    let mark = compare_on_tableau(Side::Lowering, 3, 1, 4, from, steps, 1, stepped, 2);
+    let times = compare_on_tableau(Side::Lowering, 3, 1, 4, from, steps, 1, right, 3);
+    one_if(reply == 1)
+        + one_if(cell == 1)
+        + one_if(letter == 1)
+        + one_if(mark == 1)
+        + one_if(times == 1)
 }
 
 // 3243 beside 4323 at rank 4, which are of one class: class and weights.

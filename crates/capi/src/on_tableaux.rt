@@ -4,13 +4,14 @@ use columns::reading::column_reading;
 use coordinates::cells::cell_at;
 use multiplication::product::product;
 use structs::converters::cell_reply;
+use structs::converters::move_reply;
 use structs::counts::count_repeat;
 use structs::counts::count_written;
-use structs::counts::done_move;
 use structs::counts::done_verdict;
 use structs::replies::CellReply;
 use structs::replies::CountReply;
 use structs::replies::DoneReply;
+use structs::replies::MoveReply;
 use tableaux::moves::lower_count_tableau;
 use tableaux::moves::lower_tableau;
 use tableaux::moves::raise_count_tableau;
@@ -23,7 +24,7 @@ ghost use Rattle.hypoplactic.specs.Moves.{lowering, raising};
 ghost use Rattle.hypoplactic.specs.Replies.{first, gives, passed};
 ghost use Rattle.hypoplactic.specs.TableauOperations.{cellAt, lookSays, moveTableauRun, readingRun, repeatTableauSays};
 ghost use Rattle.products.specs.Products.{productRun};
-ghost use Rattle.structs.specs.Replies.{cellOf, countOf, doneOf, replied};
+ghost use Rattle.structs.specs.Replies.{cellOf, countOf, doneOf, moveOf, replied};
 
 // 1 to 6 of a tableau: the making of a ribbon viewer.
 #[no_mangle]
@@ -53,13 +54,13 @@ pub extern "C" fn luchtrav_raise_tableau(
     index: usize,
     letters: &mut [u8],
     marks: &[u8],
-) -> DoneReply
+) -> MoveReply
     ensures { λ r. ⌜
         (r, now (letters .exit))
-        ≡ replied doneOf (moveTableauRun rank (record { side = raising; index = index }) (now (letters .entry)) (now (marks .entry)))
+        ≡ replied moveOf (moveTableauRun rank (record { side = raising; index = index }) (now (letters .entry)) (now (marks .entry)))
         ⌝ }
 {
-    done_move(raise_tableau(rank, index, letters, marks))
+    move_reply(raise_tableau(rank, index, letters, marks))
 }
 
 // Lowering, in the lent letters.
@@ -69,13 +70,13 @@ pub extern "C" fn luchtrav_lower_tableau(
     index: usize,
     letters: &mut [u8],
     marks: &[u8],
-) -> DoneReply
+) -> MoveReply
     ensures { λ r. ⌜
         (r, now (letters .exit))
-        ≡ replied doneOf (moveTableauRun rank (record { side = lowering; index = index }) (now (letters .entry)) (now (marks .entry)))
+        ≡ replied moveOf (moveTableauRun rank (record { side = lowering; index = index }) (now (letters .entry)) (now (marks .entry)))
         ⌝ }
 {
-    done_move(lower_tableau(rank, index, letters, marks))
+    move_reply(lower_tableau(rank, index, letters, marks))
 }
 
 // How often raising can be repeated.

@@ -10,15 +10,16 @@ use ribbons::recording::recording_of_word;
 use ribbons::tableau::tableau_of_word;
 use structs::converters::class_reply;
 use structs::converters::junction_reply;
+use structs::converters::move_reply;
 use structs::converters::order_reply;
 use structs::counts::count_repeat;
 use structs::counts::count_written;
-use structs::counts::done_move;
 use structs::counts::done_verdict;
 use structs::replies::ClassReply;
 use structs::replies::CountReply;
 use structs::replies::DoneReply;
 use structs::replies::JunctionReply;
+use structs::replies::MoveReply;
 use structs::replies::OrderReply;
 use weights::two_words::compare_weights;
 use words::junctions::junctions;
@@ -28,7 +29,7 @@ ghost use Rattle.hypoplactic.specs.Moves.{lowering, raising};
 ghost use Rattle.hypoplactic.specs.Replies.{first, passed};
 ghost use Rattle.hypoplactic.specs.TableauOperations.{recordingRun, tableauRun};
 ghost use Rattle.hypoplactic.specs.WordOperations.{junctionSays, moveWordRun, repeatWordSays, sameClassSays, weightsSays};
-ghost use Rattle.structs.specs.Replies.{classOf, countOf, doneOf, junctionOf, orderOf, replied};
+ghost use Rattle.structs.specs.Replies.{classOf, countOf, doneOf, junctionOf, moveOf, orderOf, replied};
 
 // 1, 2 and 4 of a word.
 #[no_mangle]
@@ -76,18 +77,18 @@ pub extern "C" fn luchtrav_junctions(rank: usize, word: &[u8]) -> JunctionReply
 
 // Raising, in the lent word.
 #[no_mangle]
-pub extern "C" fn luchtrav_raise_word(rank: usize, index: usize, word: &mut [u8]) -> DoneReply
-    ensures { λ r. ⌜ (r, now (word .exit)) ≡ replied doneOf (moveWordRun rank (record { side = raising; index = index }) (now (word .entry))) ⌝ }
+pub extern "C" fn luchtrav_raise_word(rank: usize, index: usize, word: &mut [u8]) -> MoveReply
+    ensures { λ r. ⌜ (r, now (word .exit)) ≡ replied moveOf (moveWordRun rank (record { side = raising; index = index }) (now (word .entry))) ⌝ }
 {
-    done_move(raise_word(rank, index, word))
+    move_reply(raise_word(rank, index, word))
 }
 
 // Lowering, in the lent word.
 #[no_mangle]
-pub extern "C" fn luchtrav_lower_word(rank: usize, index: usize, word: &mut [u8]) -> DoneReply
-    ensures { λ r. ⌜ (r, now (word .exit)) ≡ replied doneOf (moveWordRun rank (record { side = lowering; index = index }) (now (word .entry))) ⌝ }
+pub extern "C" fn luchtrav_lower_word(rank: usize, index: usize, word: &mut [u8]) -> MoveReply
+    ensures { λ r. ⌜ (r, now (word .exit)) ≡ replied moveOf (moveWordRun rank (record { side = lowering; index = index }) (now (word .entry))) ⌝ }
 {
-    done_move(lower_word(rank, index, word))
+    move_reply(lower_word(rank, index, word))
 }
 
 // How often raising can be repeated.

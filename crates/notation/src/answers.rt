@@ -27,10 +27,10 @@ pub fn print_refusal(refusal: Refusal) {
     print_number(b' ', returned.place);
 }
 
-// A move gives no value.
+// The changed place.
 pub fn print_move(answer: Move) {
     match answer {
-        Move::Made => print(b"gives"),
+        Move::Made(place) => print_gives(place),
         Move::Refused(refusal) => print_refusal(refusal),
     }
 }

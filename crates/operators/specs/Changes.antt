@@ -18,10 +18,10 @@ use mir.Val.{Fits}
 use lib.ListN.{length, set}
 use borrow.Author.Needs.{needs}
 use Rattle.hypoplactic.specs.Words.{count}
-use Rattle.hypoplactic.specs.Moves.{Move, taken, given, moved, remaining, replaced, target}
+use Rattle.hypoplactic.specs.Moves.{Move, taken, given, changedPlace, moved, remaining, replaced, target}
 use Rattle.hypoplactic.specs.Replies.{Said, gives, refused, passed, Passes, orElse, first, refuseIf, ranTo}
 use Rattle.hypoplactic.specs.Judgements.{rankJudged, lengthJudged, indexJudged, inversionJudged, letterJudged}
-use Rattle.hypoplactic.specs.WordOperations.{moveJudgements, orSame}
+use Rattle.hypoplactic.specs.WordOperations.{moveJudgements, orSame, placeTold}
 use Rattle.hypoplactic.proofs.Theory.Judgements.{rank-judged, length-judged, index-judged}
 use Rattle.hypoplactic.proofs.Theory.Passing.{Passing, first-append, first-past}
 use Rattle.refusals.specs.Running.{all-passing, run-stopped}
@@ -36,7 +36,7 @@ use Rattle.operators.specs.declared.changes.Target.the-variants.{At, Inv
 
 -- A move in letters: what is replied, and the letters afterwards.
 unfoldable pub moveLettersRun : ℕ → Move → Bool → List ℕ → Said × List ℕ
-moveLettersRun n m b w = ranTo (first (rankJudged n ∷ moveJudgements n m b w) (gives [])) (orSame (moved b m w) w) w
+moveLettersRun n m b w = ranTo (first (rankJudged n ∷ moveJudgements n m b w) (gives (placeTold (changedPlace b m w)))) (orSame (moved b m w) w) w
 
 -- How often it can be made.
 unfoldable pub repeatLettersSays : ℕ → Move → Bool → List ℕ → Said
@@ -56,7 +56,7 @@ targetJudgements m b w = inversionJudged b ∷ letterJudged (taken (m .side) (m 
 
 -- What a move replies past 1 and 9, and the letters afterwards; a is the letter that the move gives.
 unfoldable pub moveRan : Target → ℕ → List ℕ → Said × List ℕ
-moveRan (At k) a w = (gives [], set w k a)
+moveRan (At k) a w = (gives (k ∷ []), set w k a)
 moveRan Inverted a w = (refused 10 0, w)
 moveRan Missing a w = (refused 11 0, w)
 
@@ -73,12 +73,13 @@ small-byte h = record { fits = omega arith }
 -- ---- past checks that begin with 1 and 2
 
 module _ (n : ℕ) (m : Move) (b : Bool) (w : List ℕ) (ks : List Said) (p : Passing (limitsJudgements n w ++ ks)) where
-  pub move-on : moveLettersRun n m b w ≡ ranTo (first ((limitsJudgements n w ++ ks) ++ moveJudgements n m b w) (gives [])) (orSame (moved b m w) w) w
+  pub move-on : moveLettersRun n m b w
+      ≡ ranTo (first ((limitsJudgements n w ++ ks) ++ moveJudgements n m b w) (gives (placeTold (changedPlace b m w)))) (orSame (moved b m w) w) w
   unfolding moveLettersRun
   move-on =
       rw (
-        first-past (rankJudged n ∷ []) (moveJudgements n m b w) (gives []) (p .0, tt),
-        first-past (limitsJudgements n w ++ ks) (moveJudgements n m b w) (gives []) p,
+        first-past (rankJudged n ∷ []) (moveJudgements n m b w) (gives (placeTold (changedPlace b m w))) (p .0, tt),
+        first-past (limitsJudgements n w ++ ks) (moveJudgements n m b w) (gives (placeTold (changedPlace b m w))) p,
       )
 
   pub repeat-on : repeatLettersSays n m b w ≡ first ((limitsJudgements n w ++ ks) ++ (indexJudged n (m .index) ∷ [])) (gives (remaining m b w ∷ []))
@@ -93,7 +94,7 @@ module _ (n : ℕ) (m : Move) (b : Bool) (w : List ℕ) (ks : List Said) (p : Pa
 
 -- 10 and 11, and the letters afterwards.
 ran-moved : (m : Move) (b : Bool) (w : List ℕ)
-    → ranTo (first (targetJudgements m b w) (gives [])) (orSame (moved b m w) w) w
+    → ranTo (first (targetJudgements m b w) (gives (placeTold (changedPlace b m w)))) (orSame (moved b m w) w) w
     ≡ moveRan (targetOf b (m .side) (m .index) w) (given (m .side) (m .index)) w
 unfolding inversionJudged letterJudged moveRan targetOf
 ran-moved m b w = rw (target-lacking (m .side) (m .index) w) (go b (target (m .side) (m .index) w))
@@ -102,7 +103,8 @@ ran-moved m b w = rw (target-lacking (m .side) (m .index) w) (go b (target (m .s
     a = given (m .side) (m .index)
 
     go : (b : Bool) (o : Option ℕ)
-        → ranTo (orElse (refuseIf b 10 0 passed) (orElse (refuseIf (noPlace o) 11 0 passed) (gives []))) (orSame (replaced a w (cond b none o)) w) w
+        → ranTo (orElse (refuseIf b 10 0 passed) (orElse (refuseIf (noPlace o) 11 0 passed) (gives (placeTold (cond b none o)))))
+        (orSame (replaced a w (cond b none o)) w) w
         ≡ moveRan (targetBy b o) a w
     go true o = refl
     go false none = refl
@@ -113,7 +115,7 @@ pub stored-within : {t : Target} (n k : ℕ) → TargetWithin n t → t ≡ At k
 stored-within n k h e = rw e at h
 
 -- The move at each target.
-pub stored : {t : Target} {a c : ℕ} (k : ℕ) (w : List ℕ) → t ≡ At k → a ≡ c → (gives [], set w k a) ≡ moveRan t c w
+pub stored : {t : Target} {a c : ℕ} (k : ℕ) (w : List ℕ) → t ≡ At k → a ≡ c → (gives (k ∷ []), set w k a) ≡ moveRan t c w
 unfolding moveRan
 stored k w e h = rw (e, h)
 
@@ -136,14 +138,15 @@ module _ {v : Verdict} (n i : ℕ) (e : saidVerdict v ≡ first (changeJudgement
   -- which refuses, and nothing changes,
   pub change-refused : (s : Chosen) (b : Bool) (w : List ℕ) (r : Refusal) → v ≡ Refused r → (saidRefusal r, w) ≡ moveLettersRun n (moveOf s i) b w
   unfolding moveLettersRun
-  change-refused s b w r q = run-stopped (changeJudgements n i) (targetJudgements (moveOf s i) b w) [] (orSame (moved b (moveOf s i) w) w) w r e q
+  change-refused s b w r q = run-stopped (changeJudgements n i) (targetJudgements (moveOf s i) b w) _ (orSame (moved b (moveOf s i) w) w) w r e q
 
   -- or passes, and the move is as its target tells.
   pub change-passed : {t : Target} {r : Said × List ℕ} (s : Chosen) (b : Bool) (w : List ℕ) → v ≡ Passed → t ≡ targetOf b (sideOf s) i w
       → r ≡ moveRan t (given (sideOf s) i) w → r ≡ moveLettersRun n (moveOf s i) b w
   unfolding moveLettersRun
   change-passed s b w q f h =
-      let past = first-past (changeJudgements n i) (targetJudgements (moveOf s i) b w) (gives []) (all-passing (changeJudgements n i) e q) in
+      let told : Said = gives (placeTold (changedPlace b (moveOf s i) w)) in
+      let past = first-past (changeJudgements n i) (targetJudgements (moveOf s i) b w) told (all-passing (changeJudgements n i) e q) in
       h ∙ rw (f, past) (sym (ran-moved (moveOf s i) b w))
 
 pub ruleset changing = (target-within, stored-within, stored, stopped, lacking, passed-index, small-byte, change-refused, change-passed, needs)

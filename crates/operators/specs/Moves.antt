@@ -46,7 +46,7 @@ module _ {v : Verdict} (n i : ℕ) (w : List ℕ) (e : saidVerdict v ≡ checksT
   pub move-refused : (s : Chosen) (r : Refusal) → v ≡ Refused r → (saidRefusal r, w) ≡ moveWordRun n (moveOf s i) w
   unfolding moveWordRun moveWordSays checksThen
   move-refused s r q =
-      run-stopped (wordJudgements n w ++ (indexJudged n i ∷ [])) (targetJudgements (moveOf s i) (inverted i w) w) []
+      run-stopped (wordJudgements n w ++ (indexJudged n i ∷ [])) (targetJudgements (moveOf s i) (inverted i w) w) _
       (orSame (movedWord (moveOf s i) w) w) w r e q
 
   pub repeat-refused : (s : Chosen) (r : Refusal) → v ≡ Refused r → saidRefusal r ≡ repeatWordSays n (moveOf s i) w

@@ -81,7 +81,7 @@ fn letter_given(side: Side, index: u8) -> u8
     }
 }
 
-// The move at a target, in the lent letters: 10, 11, or one letter stored.
+// The move at a target, in the lent letters: 10, 11, or one letter stored, and its place told.
 fn store_move(side: Side, index: u8, target: Target, letters: &mut [u8]) -> Move
     requires { ⌜ (index < 64) × TargetWithin (length (now letters)) target ⌝ }
     ensures { λ r. ⌜ (saidMove r, now (letters .exit)) ≡ moveRan target (given (sideOf side) index) (now (letters .entry)) ⌝ }
@@ -89,7 +89,7 @@ fn store_move(side: Side, index: u8, target: Target, letters: &mut [u8]) -> Move
     match target {
         Target::At(k) => {
             letters[k] = letter_given(side, index);
-            Move::Made
+            Move::Made(k)
         }
         Target::Inverted => Move::Refused(Refusal::Inversion),
         Target::Missing => Move::Refused(Refusal::NoLetter),
@@ -103,7 +103,7 @@ fn check_change(rank: usize, index: usize) -> Verdict
     or_else(check_rank(rank), check_index(rank, index))
 }
 
-// The move of either side, in the lent letters: 1, 9, 10 as told, 11, or one letter stored.
+// The move of either side, in the lent letters: 1, 9, 10 as told, 11, or one letter stored, and its place told.
 pub fn move_letters(
     side: Side,
     rank: usize,

@@ -81,9 +81,9 @@ abbrev pub saidFault : ℕ → Fault → Said
 saidFault k (fault.At p) = refused k p
 saidFault k fault.Nowhere = gives []
 
--- A move gives no value.
+-- The changed place.
 abbrev pub saidMove : Move → Said
-saidMove move.Made = gives []
+saidMove (move.Made p) = gives (p ∷ [])
 saidMove (move.Refused r) = saidRefusal r
 
 abbrev pub saidRepeat : Repeat → Said

@@ -14,9 +14,9 @@ pub enum Fault {
     Nowhere,
 }
 
-// What a move answers: it was made in the lent letters.
+// What a move answers: the place of the lent letters that it changed.
 pub enum Move {
-    Made,
+    Made(usize),
     Refused(Refusal),
 }
 

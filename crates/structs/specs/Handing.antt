@@ -29,13 +29,14 @@ use Rattle.refusals.specs.declared.answers.TableauLine.{TableauLine}
 use Rattle.refusals.specs.declared.answers.TableauLine.the-variants as tableauLine
 use Rattle.refusals.specs.declared.answers.Cell.{Cell}
 use Rattle.structs.specs.declared.replies.DoneReply.{DoneReply}
+use Rattle.structs.specs.declared.replies.MoveReply.{MoveReply}
 use Rattle.structs.specs.declared.replies.CountReply.{CountReply}
 use Rattle.structs.specs.declared.replies.ClassReply.{ClassReply}
 use Rattle.structs.specs.declared.replies.OrderReply.{OrderReply}
 use Rattle.structs.specs.declared.replies.JunctionReply.{JunctionReply}
 use Rattle.structs.specs.declared.replies.LineReply.{LineReply}
 use Rattle.structs.specs.declared.replies.CellReply.{CellReply}
-use Rattle.structs.specs.Replies.{doneOf, countOf, classOf, orderOf, junctionOf, lineOf, cellOf, replied}
+use Rattle.structs.specs.Replies.{doneOf, moveOf, countOf, classOf, orderOf, junctionOf, lineOf, cellOf, replied}
 
 pub passed-on : {R A : Type 0} (f : Said → R) (r : R) (s : Said) (m : A) (run : Said × A) → r ≡ f s → (s, m) ≡ run → (r, m) ≡ replied f run
 unfolding replied
@@ -66,6 +67,9 @@ module _ {k p : ℕ} (r : Refusal) (e : k ≡ number r) (h : p ≡ place r) wher
   pub done-refused : doneOf (refused k p) ≡ doneOf (saidRefusal r)
   done-refused = rw (e, h)
 
+  pub move-refused : moveOf (refused k p) ≡ moveOf (saidRefusal r)
+  move-refused = rw (e, h)
+
   pub count-refused : countOf (refused k p) ≡ countOf (saidRefusal r)
   count-refused = rw (e, h)
 
@@ -88,7 +92,7 @@ module _ {k p : ℕ} (r : Refusal) (e : k ≡ number r) (h : p ≡ place r) wher
 pub verdict-case : {a b : Verdict} {r : DoneReply} → a ≡ b → r ≡ doneOf (saidVerdict b) → r ≡ doneOf (saidVerdict a)
 verdict-case e h = rw e h
 
-pub move-case : {a b : Move} {r : DoneReply} → a ≡ b → r ≡ doneOf (saidMove b) → r ≡ doneOf (saidMove a)
+pub move-case : {a b : Move} {r : MoveReply} → a ≡ b → r ≡ moveOf (saidMove b) → r ≡ moveOf (saidMove a)
 move-case e h = rw e h
 
 pub written-case : {a b : Written} {r : CountReply} → a ≡ b → r ≡ countOf (saidWritten b) → r ≡ countOf (saidWritten a)
@@ -157,6 +161,7 @@ pub ruleset replying = (
   junction-said,
   cell-said,
   done-refused,
+  move-refused,
   count-refused,
   class-refused,
   order-refused,

@@ -2,11 +2,11 @@
 --     numberOf s, placeOf s      number and place: 0 and 0 where values are given
 --     value i s                  the value at i that is given; 0 where there is none, and after a refusal
 --     anyValue s                 1 where some value is given, else 0
---     doneOf, countOf, classOf, orderOf, junctionOf, lineOf, cellOf
+--     doneOf, moveOf, countOf, classOf, orderOf, junctionOf, lineOf, cellOf
 --                                the structs of src/replies.rt
 --     replied f run              an operation's reply as a struct, beside the same lent memory
 --     tells k p vs               what number, place and values say, read as the C header says
---     doneTells, countTells, classTells, orderTells, junctionTells, lineTells, cellTells
+--     doneTells, moveTells, countTells, classTells, orderTells, junctionTells, lineTells, cellTells
 --                                what the structs say
 -- That nothing of an answer is lost in its struct is proofs/Theory/Told. Assumes nothing.
 use Prim.Native.Nat.{ℕ, zero, suc}
@@ -14,6 +14,7 @@ use mathlib.Core.List.{List, [], _∷_}
 use lib.ListN.{getD}
 use Rattle.hypoplactic.specs.Replies.{Said, gives, refused}
 use Rattle.structs.specs.declared.replies.DoneReply.{DoneReply}
+use Rattle.structs.specs.declared.replies.MoveReply.{MoveReply}
 use Rattle.structs.specs.declared.replies.CountReply.{CountReply}
 use Rattle.structs.specs.declared.replies.ClassReply.{ClassReply}
 use Rattle.structs.specs.declared.replies.OrderReply.{OrderReply}
@@ -41,6 +42,9 @@ anyValue (refused k p) = 0
 
 abbrev pub doneOf : Said → DoneReply
 doneOf s = record { number = numberOf s; place = placeOf s }
+
+abbrev pub moveOf : Said → MoveReply
+moveOf s = record { number = numberOf s; place = placeOf s; changed = value 0 s }
 
 abbrev pub countOf : Said → CountReply
 countOf s = record { number = numberOf s; place = placeOf s; count = value 0 s }
@@ -73,6 +77,9 @@ tells (suc k) p vs = refused (suc k) p
 
 abbrev pub doneTells : DoneReply → Said
 doneTells r = tells (r .number) (r .place) []
+
+abbrev pub moveTells : MoveReply → Said
+moveTells r = tells (r .number) (r .place) (r .changed ∷ [])
 
 abbrev pub countTells : CountReply → Said
 countTells r = tells (r .number) (r .place) (r .count ∷ [])

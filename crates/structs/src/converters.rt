@@ -1,17 +1,45 @@
-// Answers of the junction question, of two words and of a look, as structs of the C interface.
+// Answers of a move, of the junction question, of two words and of a look, as structs of the C interface.
 use crate::replies::CellReply;
 use crate::replies::ClassReply;
 use crate::replies::JunctionReply;
+use crate::replies::MoveReply;
 use crate::replies::OrderReply;
 use refusals::answers::Cell;
 use refusals::answers::Class;
 use refusals::answers::Junctions;
+use refusals::answers::Move;
 use refusals::answers::Weights;
 use refusals::refusal::Refusal;
 use refusals::refusal::number_and_place;
 ghost use mathlib.Core.Path.{_≡_};
-ghost use Rattle.refusals.specs.Said.{saidCell, saidClass, saidJunctions, saidRefusal, saidWeights};
-ghost use Rattle.structs.specs.Replies.{cellOf, classOf, junctionOf, orderOf};
+ghost use Rattle.refusals.specs.Said.{saidCell, saidClass, saidJunctions, saidMove, saidRefusal, saidWeights};
+ghost use Rattle.structs.specs.Replies.{cellOf, classOf, junctionOf, moveOf, orderOf};
+
+// A refusal of a move: the values are 0.
+fn move_refused(refusal: Refusal) -> MoveReply
+    ensures { λ r. ⌜ r ≡ moveOf (saidRefusal refusal) ⌝ }
+{
+    let told = number_and_place(refusal);
+    MoveReply {
+        number: told.number,
+        place: told.place,
+        changed: 0,
+    }
+}
+
+// A move: the changed place.
+pub fn move_reply(answer: Move) -> MoveReply
+    ensures { λ r. ⌜ r ≡ moveOf (saidMove answer) ⌝ }
+{
+    match answer {
+        Move::Made(changed) => MoveReply {
+            number: 0,
+            place: 0,
+            changed,
+        },
+        Move::Refused(refusal) => move_refused(refusal),
+    }
+}
 
 // 1 or 0.
 fn classed(same: usize) -> ClassReply

@@ -1,18 +1,17 @@
-// Answers with no value, and with one count, as structs of the C interface: checks, moves, elements written, used counts, repeat counts.
+// Answers with no value, and with one count, as structs of the C interface: checks, elements written, used counts, repeat counts.
 use crate::replies::CountReply;
 use crate::replies::DoneReply;
 use refusals::answers::Inserted;
-use refusals::answers::Move;
 use refusals::answers::Repeat;
 use refusals::answers::Verdict;
 use refusals::answers::Written;
 use refusals::refusal::Refusal;
 use refusals::refusal::number_and_place;
 ghost use mathlib.Core.Path.{_≡_};
-ghost use Rattle.refusals.specs.Said.{saidInserted, saidMove, saidRefusal, saidRepeat, saidVerdict, saidWritten};
+ghost use Rattle.refusals.specs.Said.{saidInserted, saidRefusal, saidRepeat, saidVerdict, saidWritten};
 ghost use Rattle.structs.specs.Replies.{countOf, doneOf};
 
-// A refusal of a move or a check: the values are 0.
+// A refusal of a check.
 fn done_refused(refusal: Refusal) -> DoneReply
     ensures { λ r. ⌜ r ≡ doneOf (saidRefusal refusal) ⌝ }
 {
@@ -33,19 +32,6 @@ pub fn done_verdict(answer: Verdict) -> DoneReply
             place: 0,
         },
         Verdict::Refused(refusal) => done_refused(refusal),
-    }
-}
-
-// A move.
-pub fn done_move(answer: Move) -> DoneReply
-    ensures { λ r. ⌜ r ≡ doneOf (saidMove answer) ⌝ }
-{
-    match answer {
-        Move::Made => DoneReply {
-            number: 0,
-            place: 0,
-        },
-        Move::Refused(refusal) => done_refused(refusal),
     }
 }
 

@@ -1,11 +1,19 @@
 // What the C interface replies: structs of numbers, since no enum crosses its boundary. Each begins with number and place; number 0 is success. What each field
 // holds, for what an answer says, is fixed in specs/Replies.antt.
 
-// A move that was made, a check that passed.
+// A check that passed.
 #[repr(C)]
 pub struct DoneReply {
     pub number: usize,
     pub place: usize,
+}
+
+// A move that was made: the place that it changed. Place is that of a refusal, and so 0.
+#[repr(C)]
+pub struct MoveReply {
+    pub number: usize,
+    pub place: usize,
+    pub changed: usize,
 }
 
 // Elements written, letters used, times a move can be repeated.

@@ -115,7 +115,7 @@ module _ {v : Verdict} (n i : ℕ) (xs ms : List ℕ) (e : saidVerdict v ≡ fir
   pub move-refused : (s : Chosen) (r : Refusal) → v ≡ Refused r → (saidRefusal r, xs) ≡ moveTableauRun n (moveOf s i) xs ms
   unfolding moveTableauRun moveTableauSays
   move-refused s r q =
-      run-stopped (tableauJudgements n xs ms) (moveJudgements n (moveOf s i) (below i xs ms) xs) [] (orSame (movedTableau (moveOf s i) xs ms) xs) xs r e q
+      run-stopped (tableauJudgements n xs ms) (moveJudgements n (moveOf s i) (below i xs ms) xs) _ (orSame (movedTableau (moveOf s i) xs ms) xs) xs r e q
 
   pub repeat-refused : (s : Chosen) (r : Refusal) → v ≡ Refused r → saidRefusal r ≡ repeatTableauSays n (moveOf s i) xs ms
   unfolding repeatTableauSays

@@ -103,13 +103,13 @@ verdict-again (verdict.Refused r) = ap verdict.Refused (row-of r)
 pub verdict-apart : (a b : Verdict) → saidVerdict a ≡ saidVerdict b → a ≡ b
 verdict-apart = apart saidVerdict (answer (λ vs. verdict.Passed) verdict.Refused) verdict-again
 
-move-again : (a : Move) → answer (λ vs. move.Made) move.Refused (saidMove a) ≡ a
+move-again : (a : Move) → answer (λ vs. move.Made (getD vs 0 0)) move.Refused (saidMove a) ≡ a
 unfolding answer
-move-again move.Made = refl
+move-again (move.Made p) = refl
 move-again (move.Refused r) = ap move.Refused (row-of r)
 
 pub move-apart : (a b : Move) → saidMove a ≡ saidMove b → a ≡ b
-move-apart = apart saidMove (answer (λ vs. move.Made) move.Refused) move-again
+move-apart = apart saidMove (answer (λ vs. move.Made (getD vs 0 0)) move.Refused) move-again
 
 repeat-again : (a : Repeat) → answer (λ vs. repeat.Times (getD vs 0 0)) repeat.Refused (saidRepeat a) ≡ a
 unfolding answer

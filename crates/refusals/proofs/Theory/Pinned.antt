@@ -42,12 +42,12 @@ refusal-table p = refl
 pub fault-values : (k p : ℕ) → saidFault k fault.Nowhere ∷ saidFault k (fault.At p) ∷ [] ≡ gives [] ∷ refused k p ∷ []
 fault-values k p = refl
 
--- Verdicts and moves give nothing; counts give themselves; set and rows, rank and length, letter, row and column in this order.
+-- Verdicts give nothing; places and counts give themselves; set and rows, rank and length, letter, row and column in this order.
 pub answer-values : (a b c : ℕ)
-    → saidVerdict verdict.Passed ∷ saidMove move.Made ∷ saidRepeat (repeat.Times a) ∷ saidJunctions (junctions.Found a b)
+    → saidVerdict verdict.Passed ∷ saidMove (move.Made a) ∷ saidRepeat (repeat.Times a) ∷ saidJunctions (junctions.Found a b)
     ∷ saidWritten (written.Elements a) ∷ saidInserted (inserted.Used a) ∷ saidCell (cell.Found a b c) ∷ saidCell cell.NoSuchCell
     ∷ saidWordLine (wordLine.Word a b) ∷ saidTableauLine (tableauLine.Tableau a b) ∷ saidRecordingLine (recordingLine.Recording a) ∷ []
-    ≡ gives [] ∷ gives [] ∷ gives (a ∷ []) ∷ gives (a ∷ b ∷ []) ∷ gives (a ∷ []) ∷ gives (a ∷ []) ∷ gives (a ∷ b ∷ c ∷ []) ∷ gives []
+    ≡ gives [] ∷ gives (a ∷ []) ∷ gives (a ∷ []) ∷ gives (a ∷ b ∷ []) ∷ gives (a ∷ []) ∷ gives (a ∷ []) ∷ gives (a ∷ b ∷ c ∷ []) ∷ gives []
     ∷ gives (a ∷ b ∷ []) ∷ gives (a ∷ b ∷ []) ∷ gives (a ∷ []) ∷ []
 answer-values a b c = refl
 

@@ -1,16 +1,21 @@
 -- What each struct of the C interface holds, field by field: after values are given, and after a refusal, where every other field is 0.
---     done-fields, count-fields, class-fields, order-fields, junction-fields, line-fields, cell-fields
+--     done-fields, move-fields, count-fields, class-fields, order-fields, junction-fields, line-fields, cell-fields
 -- Assumes nothing.
 use Prim.Native.Nat.{ℕ}
 use mathlib.Core.Path.{_≡_, refl}
 use mathlib.Core.List.{[], _∷_}
 use Rattle.hypoplactic.specs.Replies.{gives, refused}
-use Rattle.structs.specs.Replies.{doneOf, countOf, classOf, orderOf, junctionOf, lineOf, cellOf}
+use Rattle.structs.specs.Replies.{doneOf, moveOf, countOf, classOf, orderOf, junctionOf, lineOf, cellOf}
 
 module _ (a b c k p : ℕ) where
   -- Nothing but number and place.
   pub done-fields : (doneOf (gives []) ≡ record { number = 0; place = 0 }) × (doneOf (refused k p) ≡ record { number = k; place = p })
   done-fields = (refl, refl)
+
+  -- The changed place stands in a field of its own; place is a refusal's.
+  pub move-fields :
+      (moveOf (gives (a ∷ [])) ≡ record { number = 0; place = 0; changed = a }) × (moveOf (refused k p) ≡ record { number = k; place = p; changed = 0 })
+  move-fields = (refl, refl)
 
   pub count-fields :
       (countOf (gives (a ∷ [])) ≡ record { number = 0; place = 0; count = a }) × (countOf (refused k p) ≡ record { number = k; place = p; count = 0 })

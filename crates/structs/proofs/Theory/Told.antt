@@ -35,7 +35,7 @@ use Rattle.refusals.specs.declared.answers.TableauLine.{TableauLine}
 use Rattle.refusals.specs.declared.answers.TableauLine.the-variants as tableauLine
 use Rattle.refusals.specs.declared.answers.Cell.{Cell}
 use Rattle.refusals.specs.declared.answers.Cell.the-variants as cell
-use Rattle.structs.specs.Replies.{doneOf, countOf, classOf, orderOf, junctionOf, lineOf, cellOf, tells, doneTells, countTells, classTells, orderTells, junctionTells, lineTells, cellTells}
+use Rattle.structs.specs.Replies.{doneOf, moveOf, countOf, classOf, orderOf, junctionOf, lineOf, cellOf, tells, doneTells, moveTells, countTells, classTells, orderTells, junctionTells, lineTells, cellTells}
 
 -- ---- refusals
 
@@ -77,8 +77,8 @@ pub verdict-told : (a : Verdict) → doneTells (doneOf (saidVerdict a)) ≡ said
 verdict-told verdict.Passed = refl
 verdict-told (verdict.Refused r) = refused-told r _
 
-pub move-told : (a : Move) → doneTells (doneOf (saidMove a)) ≡ saidMove a
-move-told move.Made = refl
+pub move-told : (a : Move) → moveTells (moveOf (saidMove a)) ≡ saidMove a
+move-told (move.Made p) = refl
 move-told (move.Refused r) = refused-told r _
 
 pub written-told : (a : Written) → countTells (countOf (saidWritten a)) ≡ saidWritten a
