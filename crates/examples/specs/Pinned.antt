@@ -138,7 +138,7 @@ valueCases =
     ∷ case (numbers (repeatTableauSays 3 (lower 1) (1 ∷ 2 ∷ 2 ∷ []) (0 ∷ 0 ∷ 0 ∷ []))) (0 ∷ 1 ∷ [])
     ∷ case (numbers (repeatTableauSays 3 (raise 1) (1 ∷ 2 ∷ 2 ∷ []) (0 ∷ 1 ∷ 0 ∷ []))) (0 ∷ 0 ∷ [])
     -- a move takes i itself, no smaller letter
-    ∷ case (outcome (moveWordRun 3 (lower 2) (2 ∷ 1 ∷ []))) (0 ∷ 3 ∷ 1 ∷ [])
+    ∷ case (outcome (moveWordRun 3 (lower 2) (2 ∷ 1 ∷ []))) (0 ∷ 0 ∷ 3 ∷ 1 ∷ [])
     -- i+1 directly below i, in any two lists: no other letters, no step without a mark, none in an empty tableau
     ∷ case (tick (below 1 (1 ∷ 3 ∷ []) (0 ∷ 1 ∷ [])) 0 ∷ tick (below 2 (1 ∷ 3 ∷ []) (0 ∷ 1 ∷ [])) 0 ∷ tick (below 2 (2 ∷ 1 ∷ []) (0 ∷ 1 ∷ [])) 0 ∷ [])
     (0 ∷ 0 ∷ 0 ∷ [])

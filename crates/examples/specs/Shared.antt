@@ -65,13 +65,13 @@ sharedCases =
     ∷ case (filling 3 1 (9 ∷ 9 ∷ 9 ∷ []) (8 ∷ 8 ∷ [])) (9 ∷ 9 ∷ 9 ∷ 8 ∷ 8 ∷ [])
     ∷ case (filling 1 1 (9 ∷ []) (8 ∷ [])) (1 ∷ 0 ∷ [])
     ∷ case (filling 65 1 (9 ∷ 9 ∷ 9 ∷ []) (8 ∷ 8 ∷ 8 ∷ [])) (9 ∷ 9 ∷ 9 ∷ 8 ∷ 8 ∷ 8 ∷ [])
-    -- a move once its inversion is known: 1, 9, 10, 11, or made
+    -- a move once its inversion is known: 1, 9, 10, 11, or made at a place
     ∷ case (outcome (moveLettersRun 65 (raise 0) true [])) (1 ∷ 0 ∷ [])
     ∷ case (outcome (moveLettersRun 4 (raise 0) true [])) (9 ∷ 0 ∷ [])
     ∷ case (outcome (moveLettersRun 4 (raise 1) true [])) (10 ∷ 0 ∷ [])
     ∷ case (outcome (moveLettersRun 4 (raise 1) false (3 ∷ []))) (11 ∷ 0 ∷ 3 ∷ [])
-    ∷ case (outcome (moveLettersRun 4 (raise 1) false (3 ∷ 2 ∷ 2 ∷ []))) (0 ∷ 3 ∷ 1 ∷ 2 ∷ [])
-    ∷ case (outcome (moveLettersRun 4 (lower 2) false (3 ∷ 2 ∷ 2 ∷ []))) (0 ∷ 3 ∷ 2 ∷ 3 ∷ [])
+    ∷ case (outcome (moveLettersRun 4 (raise 1) false (3 ∷ 2 ∷ 2 ∷ []))) (0 ∷ 1 ∷ 3 ∷ 1 ∷ 2 ∷ [])
+    ∷ case (outcome (moveLettersRun 4 (lower 2) false (3 ∷ 2 ∷ 2 ∷ []))) (0 ∷ 2 ∷ 3 ∷ 2 ∷ 3 ∷ [])
     -- its repeat count: 1, 2, 9, or the count, none under an inversion
     ∷ case (numbers (repeatLettersSays 65 (raise 0) false (replicate 1025 1))) (1 ∷ 0 ∷ [])
     ∷ case (numbers (repeatLettersSays 4 (raise 0) false (replicate 1025 1))) (2 ∷ 0 ∷ [])
