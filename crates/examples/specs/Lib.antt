@@ -1,3 +1,2 @@
 pub mod Pinned
-pub mod ChangedPlaces
 pub mod Shared

@@ -58,8 +58,6 @@ pub mod Outputs
 pub mod JoinedReplies
 pub mod Closure
 pub mod RepeatReplies
-pub mod ChangedPlaces
-pub mod ChangedCells
 pub mod Together
 -- ---- cases
 pub mod Examples

@@ -13,7 +13,6 @@ pub mod FirstPlaces
 pub mod WordOperations
 pub mod TableauOperations
 pub mod Repeats
-pub mod ChangedPlaces
 pub mod LineOperations
 pub mod LineReadings
 pub mod Classes

@@ -8,7 +8,6 @@ use mathlib.Core.Logic.{_↔_}
 use mathlib.Core.Bool.{Bool, true, false}
 use mathlib.Core.List.{List, [], _∷_, _++_}
 use lib.ListN.{length}
-use Rattle.hypoplactic.specs.Words.{Accepted}
 use Rattle.hypoplactic.specs.Rewriting.{Joined}
 use Rattle.hypoplactic.specs.Insertion.{lettersOf, marksOf}
 use Rattle.hypoplactic.specs.Moves.{Move, inverted, taken}
@@ -16,14 +15,11 @@ use Rattle.hypoplactic.specs.Replies.{Said, gives, refused, Passes, firs
 use Rattle.hypoplactic.specs.Judgements.{outside, rankJudged, lengthJudged, lettersFrom, lettersJudged, letterJudged, inversionJudged, indexJudged, wordJudgements}
 use Rattle.hypoplactic.specs.WordOperations.{moveJudgements, moveWordSays}
 use Rattle.hypoplactic.specs.TableauOperations.{moveTableauRun}
-use Rattle.hypoplactic.proofs.Theory.Passing.{first-past}
 use Rattle.hypoplactic.proofs.Theory.Contents.{within-counts}
 use Rattle.hypoplactic.proofs.Theory.Invariants.{joined-count, joined-inversion, joined-tableau}
 use Rattle.hypoplactic.proofs.Theory.Pairs.{length-letters}
 use Rattle.hypoplactic.proofs.Theory.Joining.{joined-sym}
 use Rattle.hypoplactic.proofs.Theory.Judgements.{letters-judged}
-use Rattle.hypoplactic.proofs.Theory.Judged.{word-passing}
-use Rattle.hypoplactic.proofs.Theory.Closure.{chain-accepted}
 
 -- ---- replies of one number
 

@@ -3,34 +3,23 @@
 --     pair-and-back         the ribbons of the word of a pair within the limits are that pair
 --     reading-and-back      the tableau of the column reading of a tableau within the limits is that tableau
 --     letter-by-letter      insertion into the pair of a word makes the pair of the word with the letter at its end
---     move-together         a move on a word and on its tableau: refused alike, or made in both, the changed cell's recording entry being the word's changed
---                           place plus 1; the tableau of the one is the other; marks and recording stay
 -- Assumes nothing.
 use Prim.Native.Nat.{ℕ, suc, _+_, _-_, _≤_, _<_}
 use native.Mathlib.Omega.{arith}
-use mathlib.Core.Path.{_≡_, refl, sym, ap, _∙_}
-use mathlib.Core.Bool.{Bool, true, false, cond}
+use mathlib.Core.Path.{_≡_, sym, ap, _∙_}
 use mathlib.Core.List.{List, [], _∷_, _++_}
-use mathlib.Core.Option.{Option, none, some, Option·map, Option·none-ne-some}
-use lib.ListN.{length, take, drop, set}
+use lib.ListN.{length, take, drop}
 use lib.Seq.{drop-append-add, drop-drop}
 use Rattle.hypoplactic.specs.Words.{Accepted}
 use Rattle.hypoplactic.specs.Ribbons.{PairAt, TableauAt}
 use Rattle.hypoplactic.specs.Insertion.{Pair, lettersOf, marksOf, pairOf, recordingOf, wordOf}
 use Rattle.hypoplactic.specs.Reading.{columnReading}
-use Rattle.hypoplactic.specs.Moves.{Move, below, given, indexOf, inverted, movedTableau, movedWord, placeInTableau, placeInWord, replaced}
 use Rattle.hypoplactic.specs.Replies.{gives, written}
-use Rattle.hypoplactic.specs.WordOperations.{moveWordRun}
-use Rattle.hypoplactic.specs.TableauOperations.{insertRun, moveTableauRun, recordingRun, tableauRun, usedCells, wordRun, writtenPair}
-use Rattle.hypoplactic.specs.ChangedPlaces.{Beside, alike, beside}
-use Rattle.hypoplactic.proofs.Theory.ChangedCells.{changed-cell}
-use Rattle.hypoplactic.proofs.Theory.Closure.{pair-word-accepted, reading-accepted, unguarded, word-pair-at, word-tableau-at}
+use Rattle.hypoplactic.specs.TableauOperations.{insertRun, recordingRun, tableauRun, usedCells, wordRun, writtenPair}
+use Rattle.hypoplactic.proofs.Theory.Closure.{pair-word-accepted, reading-accepted, word-pair-at}
 use Rattle.hypoplactic.proofs.Theory.Correspondence.{pair-of-word, word-of-pair}
 use Rattle.hypoplactic.proofs.Theory.Layers.{within-snoc}
 use Rattle.hypoplactic.proofs.Theory.Memory.{written-length, written-needed}
-use Rattle.hypoplactic.proofs.Theory.MoveRecording.{move-recording}
-use Rattle.hypoplactic.proofs.Theory.MoveResults.{move-replaced, move-tableau-made, move-tableau-refused, move-word-made, move-word-refused}
-use Rattle.hypoplactic.proofs.Theory.MoveTableau.{inversion-below, tableau-answer}
 use Rattle.hypoplactic.proofs.Theory.Pairs.{length-letters, length-marks, length-recording, length-snoc, pair-snoc}
 use Rattle.hypoplactic.proofs.Theory.ReadBack.{read-back}
 use Rattle.hypoplactic.proofs.Theory.Results.{insert-result, recording-result, tableau-result, word-result}
@@ -109,43 +98,3 @@ module _ (n a : ℕ) (w : List ℕ) (old : Pair) (h : Accepted n (w ++ (a ∷ []
         over (marksOf w) (marksOf v) (old .marks) (length-marks w) (length-marks v ∙ size),
         over (recordingOf w) (recordingOf v) (old .recording) (length-recording w) (length-recording v ∙ size),
       )
-
--- ---- moves
-
--- A move on an accepted word and the same move on its tableau: refused alike, or made at a place and in a cell that the recording ribbon leads to; the
--- tableau of the word afterwards has the letters afterwards; its marks, and the recording ribbon, stay.
-pub move-together : (n : ℕ) (m : Move) (w : List ℕ) → Accepted n w
-    → Beside (recordingOf w) ((moveWordRun n m w) .0) ((moveTableauRun n m (lettersOf w) (marksOf w)) .0)
-    × ((moveTableauRun n m (lettersOf w) (marksOf w)) .1 ≡ lettersOf ((moveWordRun n m w) .1))
-    × (marksOf ((moveWordRun n m w) .1) ≡ marksOf w) × (recordingOf ((moveWordRun n m w) .1) ≡ recordingOf w)
-move-together n m w a = go (placeInWord n m w) (placeInTableau n m (lettersOf w) (marksOf w)) refl refl answer
-  where
-    new : ℕ
-    new = given (m .side) (m .index)
-
-    h : TableauAt n (lettersOf w) (marksOf w)
-    h = word-tableau-at a
-
-    -- The answer on the tableau is the tableau of the answer on the word.
-    answer : replaced new (lettersOf w) (placeInTableau n m (lettersOf w) (marksOf w)) ≡ Option·map lettersOf (replaced new w (placeInWord n m w))
-    answer =
-        sym (move-replaced n m (below (m .index) (lettersOf w) (marksOf w)) (lettersOf w)) ∙ at-rank (indexOf n (m .index))
-        ∙ ap (Option·map lettersOf) (move-replaced n m (inverted (m .index) w) w)
-      where
-        at-rank : (t : Bool) → cond t (movedTableau m (lettersOf w) (marksOf w)) none ≡ Option·map lettersOf (cond t (movedWord m w) none)
-        at-rank true = tableau-answer m w
-        at-rank false = refl
-
-    go : (o r : Option ℕ) → placeInWord n m w ≡ o → placeInTableau n m (lettersOf w) (marksOf w) ≡ r
-        → replaced new (lettersOf w) r ≡ Option·map lettersOf (replaced new w o)
-        → Beside (recordingOf w) ((moveWordRun n m w) .0) ((moveTableauRun n m (lettersOf w) (marksOf w)) .0)
-        × ((moveTableauRun n m (lettersOf w) (marksOf w)) .1 ≡ lettersOf ((moveWordRun n m w) .1))
-        × (marksOf ((moveWordRun n m w) .1) ≡ marksOf w) × (recordingOf ((moveWordRun n m w) .1) ≡ recordingOf w)
-    go none none e f s =
-        rw (move-word-refused n m w a e, move-tableau-refused n m (lettersOf w) (marksOf w) h f, inversion-below (m .index) w) (alike, refl, refl, refl)
-    go none (some c) e f s = absurd (Option·none-ne-some (set (lettersOf w) c new) (sym s))
-    go (some p) none e f s = absurd (Option·none-ne-some (lettersOf (set w p new)) s)
-    go (some p) (some c) e f s =
-        let (recording, marks) = move-recording m w (set w p new) (ap (replaced new w) (unguarded n m _ e)) in
-        let letters : set (lettersOf w) c new ≡ lettersOf (set w p new) = cc in
-        rw (move-word-made n m w a p e, move-tableau-made n m (lettersOf w) (marksOf w) h c f) (beside (changed-cell n m w p c e f), letters, marks, recording)

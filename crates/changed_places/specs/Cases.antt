@@ -1,7 +1,7 @@
 -- Cases for the changed place of a move (document 02, N3), in the form of the starred ones.
 --     besideOf n m w     what a move replies to a word, then what it replies to the word's tableau, then the recording ribbon
 --     placeCases         the cases
--- That the two sides of every case are equal is proved in proofs/Theory/ChangedPlaces.antt. Assumes nothing.
+-- That the two sides of every case are equal is proved in proofs/Theory/PlaceCases.antt. Assumes nothing.
 use Prim.Native.Nat.{ℕ}
 use mathlib.Core.List.{List, [], _∷_, _++_}
 use Rattle.hypoplactic.specs.Insertion.{lettersOf, marksOf, recordingOf}

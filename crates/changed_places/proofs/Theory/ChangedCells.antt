@@ -11,23 +11,23 @@ use native.Mathlib.Nat.{add-zero, add-suc, suc-add}
 use mathlib.Core.Path.{_≡_, refl, ap, sym, _∙_}
 use mathlib.Core.Logic.{_≢_}
 use mathlib.Core.Bool.{Bool, true, false, cond}
-use mathlib.Core.Option.{Option, some}
+use mathlib.Core.Option.{some}
 use mathlib.Core.List.{List, [], _∷_}
 use lib.Dec.{eqb}
 use lib.ListN.{length, length-set, getD, set}
 use lib.Seq.{getD-set-same, getD-set-other}
 use borrow.Author.Tests.{eqb-true, eqb-false, eq-eqb}
 use Rattle.hypoplactic.specs.Words.{count, tick}
 use Rattle.hypoplactic.specs.Insertion.{letterWith, lettersOf, marksOf, recordingOf, wordFrom, wordOf}
 use Rattle.hypoplactic.specs.Moves.{Side, raising, lowering, Move, below, changedPlace, given, inverted, movedWord, placeInTableau, placeInWord, replaced, taken}
-use Rattle.hypoplactic.proofs.Theory.ChangedPlaces.{changed-held}
+use Rattle.changed_places.proofs.Theory.ChangedPlaces.{changed-held}
 use Rattle.hypoplactic.proofs.Theory.Closure.{unguarded}
 use Rattle.hypoplactic.proofs.Theory.Contents.{within-at}
 use Rattle.hypoplactic.proofs.Theory.Correspondence.{pair-valid, word-of-pair}
 use Rattle.hypoplactic.proofs.Theory.MoveRecording.{move-recording}
 use Rattle.hypoplactic.proofs.Theory.MoveTableau.{tableau-moved}
 use Rattle.hypoplactic.proofs.Theory.Once.{once-entries}
 use Rattle.hypoplactic.proofs.Theory.Pairs.{length-letters, length-recording}
 
 -- ---- the way back, place by place
 

@@ -1,4 +1,4 @@
--- The changed place of a move, pinned: the list of specs/ChangedPlaces.antt, computed by the checker, and why joined words do not have one reply.
+-- The changed place of a move, pinned: the list of specs/Cases.antt, computed by the checker, and why joined words do not have one reply.
 --     places-pinned     the list
 --     places-apart      131 and 311 are joined, and raised with 2 they change different places
 -- Assumes nothing.
@@ -12,7 +12,7 @@ use Rattle.hypoplactic.specs.WordOperations.{moveWordRun, moveWordSays}
 use Rattle.hypoplactic.specs.TableauOperations.{moveTableauRun, moveTableauSays}
 use Rattle.hypoplactic.specs.Starred.{Case, raise}
 use Rattle.hypoplactic.proofs.Theory.Classes.{same-tableau-joined}
-use Rattle.examples.specs.ChangedPlaces.{placeCases}
+use Rattle.changed_places.specs.Cases.{placeCases}
 
 pub places-pinned : map (λ (c : Case). c .meaning) placeCases ≡ map (λ (c : Case). c .document) placeCases
 unfolding placeCases pairOf insert rankJudged lengthJudged alikeJudged lettersJudged risingJudged marksJudged indexJudged inversionJudged letterJudged moveWordSays moveWordRun moveTableauSays moveTableauRun

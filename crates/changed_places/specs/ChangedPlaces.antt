@@ -3,15 +3,15 @@
 --     Changing m w r         the run r made the move m in the letters w: it replies one place, where the letter taken stood, and none stands past it;
 --                            there stands now the letter given, and all else is as it was
 --     Beside rs s t          the replies s and t of a move to a word and to its tableau, rs being the recording ribbon
--- That every move which is made is Changing, and that the two replies stand Beside each other, is proofs/Theory/ChangedPlaces and Theory/Together.
+-- That every move which is made is Changing, and that the two replies stand Beside each other, is proofs/Theory/ChangedPlaces and Theory/MoveTogether.
 -- Assumes nothing.
 use Prim.Native.Nat.{ℕ, suc, _<_}
 use mathlib.Core.Path.{_≡_}
 use mathlib.Core.Logic.{_≢_}
 use mathlib.Core.List.{List, [], _∷_}
 use lib.ListN.{length, getD, set}
 use Rattle.hypoplactic.specs.Moves.{Side, raising, lowering, Move, taken, given}
 use Rattle.hypoplactic.specs.Replies.{Said, gives, refused}
 
 abbrev pub Past : Side → ℕ → ℕ → Type 0
 Past raising p q = q < p

@@ -16,18 +16,18 @@ use mathlib.Core.List.{List, [], _∷_}
 use lib.Dec.{eqb}
 use lib.ListN.{length, getD}
 use borrow.Author.Tests.{eqb-true, eqb-false}
 use Rattle.hypoplactic.specs.Words.{Accepted}
 use Rattle.hypoplactic.specs.Ribbons.{TableauAt}
 use Rattle.hypoplactic.specs.Moves.{Side, raising, lowering, Move, taken, onward, leftmost, orHere, rightmost, target, changedPlace, inverted, below, guarded, placeInWord, placeInTableau}
 use Rattle.hypoplactic.specs.Replies.{Said, Passes}
 use Rattle.hypoplactic.specs.Judgements.{tableauJudgements, wordJudgements}
 use Rattle.hypoplactic.specs.WordOperations.{moveJudgements, moveWordRun, moveWordSays}
 use Rattle.hypoplactic.specs.TableauOperations.{moveTableauRun, moveTableauSays}
-use Rattle.hypoplactic.specs.ChangedPlaces.{Past, Changing}
+use Rattle.changed_places.specs.ChangedPlaces.{Past, Changing}
 use Rattle.hypoplactic.proofs.Theory.Closure.{unguarded}
 use Rattle.hypoplactic.proofs.Theory.Judged.{tableau-passing, word-passing}
 use Rattle.hypoplactic.proofs.Theory.MoveResults.{move-tableau-made, move-tableau-refused, move-word-made, move-word-refused}
 use Rattle.hypoplactic.proofs.Theory.Passing.{passing-before}
 
 -- ---- the leftmost and the rightmost
 

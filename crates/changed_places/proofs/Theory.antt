@@ -1,0 +1,6 @@
+-- The laws of the changed place, by topic. docs/PROMISES.md leads from each promise to its theorem.
+pub mod ChangedPlaces
+pub mod ChangedCells
+pub mod MoveTogether
+-- ---- cases
+pub mod PlaceCases

@@ -1,0 +1,2 @@
+pub mod ChangedPlaces
+pub mod Cases
