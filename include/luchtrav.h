@@ -102,8 +102,8 @@ extern "C" {
 
 /* The version; and the number at the end of the shared library's name, which goes one up whenever a program must be
  * compiled anew to run with the library. */
-#define LUCHTRAV_VERSION "0.3.0"
-#define LUCHTRAV_INTERFACE 0
+#define LUCHTRAV_VERSION "0.4.0"
+#define LUCHTRAV_INTERFACE 1
 
 /* The limits. */
 #define LUCHTRAV_RANKS 64
@@ -161,10 +161,17 @@ static inline const char *luchtrav_refusal_text(size_t number) {
 /* What luchtrav_compare_weights says of the first word against the second. */
 enum { LUCHTRAV_EQUAL = 0, LUCHTRAV_LOWER = 1, LUCHTRAV_HIGHER = 2, LUCHTRAV_NEITHER = 3 };
 
-/* A move that was made, a check that passed. */
+/* A check that passed. */
 typedef struct {
     size_t number, place;
 } luchtrav_done;
+
+/* A move that was made: changed is the place of the letter that it changed, in a word, or of the cell, in a tableau. A
+ * changed place 0 is a place like any other: that the move was made says number 0. */
+typedef struct {
+    size_t number, place;
+    size_t changed;
+} luchtrav_move;
 
 /* Elements written into each output, letters used, times a move can be repeated: each function says which. */
 typedef struct {
@@ -225,15 +232,15 @@ luchtrav_count luchtrav_recording_of_word(size_t rank, const uint8_t *word, size
  * Refuses 1 2 4. */
 luchtrav_junction luchtrav_junctions(size_t rank, const uint8_t *word, size_t word_count);
 
-/* Raising turns the leftmost index + 1 of the lent word into index. It is not defined where some index + 1 stands left
- * of some index (10), or where there is no index + 1 (11).
+/* Raising turns the leftmost index + 1 of the lent word into index; changed is that letter's place. It is not defined
+ * where some index + 1 stands left of some index (10), or where there is no index + 1 (11).
  * Changes one letter of the word. Refuses 1 2 4 9 10 11. */
-luchtrav_done luchtrav_raise_word(size_t rank, size_t index, uint8_t *word, size_t word_count);
+luchtrav_move luchtrav_raise_word(size_t rank, size_t index, uint8_t *word, size_t word_count);
 
-/* Lowering turns the rightmost index of the lent word into index + 1. It is not defined where some index + 1 stands
- * left of some index (10), or where there is no index (11).
+/* Lowering turns the rightmost index of the lent word into index + 1; changed is that letter's place. It is not defined
+ * where some index + 1 stands left of some index (10), or where there is no index (11).
  * Changes one letter of the word. Refuses 1 2 4 9 10 11. */
-luchtrav_done luchtrav_lower_word(size_t rank, size_t index, uint8_t *word, size_t word_count);
+luchtrav_move luchtrav_lower_word(size_t rank, size_t index, uint8_t *word, size_t word_count);
 
 /* count is how often raising can be done, one time after the other: 0 where it is not defined.
  * Refuses 1 2 4 9. */
@@ -267,16 +274,19 @@ luchtrav_count luchtrav_column_reading(size_t rank, const uint8_t *letters, size
                                        const uint8_t *marks, size_t marks_count,
                                        uint8_t *word, size_t word_count);
 
-/* Raising of a tableau turns the first index + 1 of the lent letters into index; the marks do not change. It is not
- * defined where index + 1 stands directly below index (10), or where there is no index + 1 (11).
+/* Raising of a tableau turns the first index + 1 of the lent letters into index; changed is that cell's place, and the
+ * marks stay. It is not defined where index + 1 stands directly below index (10), or where there is no index + 1 (11).
+ * A move is defined on both a word and its tableau or on neither, and the recording entry of the changed cell is the
+ * word's changed place plus 1.
  * Changes one of the letters. Refuses 1 2 3 4 5 6 9 10 11. */
-luchtrav_done luchtrav_raise_tableau(size_t rank, size_t index, uint8_t *letters, size_t letters_count,
+luchtrav_move luchtrav_raise_tableau(size_t rank, size_t index, uint8_t *letters, size_t letters_count,
                                      const uint8_t *marks, size_t marks_count);
 
-/* Lowering of a tableau turns the last index of the lent letters into index + 1; the marks do not change. It is not
- * defined where index + 1 stands directly below index (10), or where there is no index (11).
+/* Lowering of a tableau turns the last index of the lent letters into index + 1; changed is that cell's place, and the
+ * marks stay. It is not defined where index + 1 stands directly below index (10), or where there is no index (11). The
+ * changed places of word and tableau belong together as in raising.
  * Changes one of the letters. Refuses 1 2 3 4 5 6 9 10 11. */
-luchtrav_done luchtrav_lower_tableau(size_t rank, size_t index, uint8_t *letters, size_t letters_count,
+luchtrav_move luchtrav_lower_tableau(size_t rank, size_t index, uint8_t *letters, size_t letters_count,
                                      const uint8_t *marks, size_t marks_count);
 
 /* count is how often raising can be done, one time after the other: 0 where it is not defined.
