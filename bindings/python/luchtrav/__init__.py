@@ -4,8 +4,8 @@ Every function of the header stands here under its name without the prefix.
 
 Words, letters, marks and entries are sequences of integers (lists, tuples, bytes) or buffers of them (array.array, memoryview, numpy arrays); sets,
 dicts, iterators and strings are a TypeError. Words, readings and recording ribbons come back as lists, a Tableau and a Pair as tuples, which hash;
-one Tableau stands for letters and marks wherever these are taken, one Pair for letters, marks and entries. What the caller hands over is never
-changed. Lines are bytes, in and out.
+one Tableau stands for letters and marks wherever these are taken, one Pair for letters, marks and entries. A move gives two things, what it made and
+the place that it changed: `word, place = luchtrav.raise_word(..)`. What the caller hands over is never changed. Lines are bytes, in and out.
 
 A refusal of the kernel is the exception Refusal, a ValueError, with a number and a place. Places count from 0; the checks run in rising number,
 except that 14 comes first. MEANINGS has the numbers too:
@@ -43,7 +43,7 @@ from .refusal import MEANINGS, Refusal
 from .tableaux import (
     cell_at, check_tableau, column_reading, look, lower_count_tableau, lower_tableau, product, raise_count_tableau, raise_tableau,
 )
-from .values import Cell, Junctions, Pair, Tableau
+from .values import Cell, Junctions, MovedTableau, MovedWord, Pair, Tableau
 from .words import (
     check_word, compare_weights, junctions, lower_count_word, lower_word, raise_count_word, raise_word, recording_of_word, same_class,
     tableau_of_word,
@@ -52,9 +52,9 @@ from .words import (
 __version__ = _version_in(_HEADER)
 
 __all__ = [
-    "Cell", "Junctions", "MEANINGS", "Pair", "Refusal", "Tableau", "answer", "cell_at", "check_pair", "check_tableau", "check_word", "column_reading",
-    "compare_weights", "insert_letter", "junctions", "look", "lower_count_tableau", "lower_count_word", "lower_tableau", "lower_word", "product",
-    "raise_count_tableau", "raise_count_word", "raise_tableau", "raise_word", "read_recording_line", "read_tableau_line", "read_word_line",
-    "recording_of_word", "same_class", "tableau_line_of_word", "tableau_of_word", "word_of_pair", "write_junction_line", "write_recording_line",
-    "write_refusal_line", "write_tableau_line", "write_word_line",
+    "Cell", "Junctions", "MEANINGS", "MovedTableau", "MovedWord", "Pair", "Refusal", "Tableau", "answer", "cell_at", "check_pair", "check_tableau",
+    "check_word", "column_reading", "compare_weights", "insert_letter", "junctions", "look", "lower_count_tableau", "lower_count_word",
+    "lower_tableau", "lower_word", "product", "raise_count_tableau", "raise_count_word", "raise_tableau", "raise_word", "read_recording_line",
+    "read_tableau_line", "read_word_line", "recording_of_word", "same_class", "tableau_line_of_word", "tableau_of_word", "word_of_pair",
+    "write_junction_line", "write_recording_line", "write_refusal_line", "write_tableau_line", "write_word_line",
 ]

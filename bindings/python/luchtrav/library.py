@@ -8,7 +8,7 @@ from .buffers import Integers
 from .lending import elements
 from .places import LIBRARY
 from .refusal import Refusal
-from .replies import Cell, Class, Count, Done, Junction, Line, Order
+from .replies import Cell, Class, Count, Done, Junction, Line, Move, Order
 
 LETTERS = 1024
 LINE_BYTES = 8192
@@ -23,16 +23,16 @@ FUNCTIONS: Dict[str, Tuple[Any, List[Any]]] = {
     "tableau_of_word": (Count, N + B + B + B),
     "recording_of_word": (Count, N + B + B),
     "junctions": (Junction, N + B),
-    "raise_word": (Done, N + N + B),
-    "lower_word": (Done, N + N + B),
+    "raise_word": (Move, N + N + B),
+    "lower_word": (Move, N + N + B),
     "raise_count_word": (Count, N + N + B),
     "lower_count_word": (Count, N + N + B),
     "same_class": (Class, N + B + N + B),
     "compare_weights": (Order, N + B + N + B),
     "check_tableau": (Done, N + B + B),
     "column_reading": (Count, N + B + B + B),
-    "raise_tableau": (Done, N + N + B + B),
-    "lower_tableau": (Done, N + N + B + B),
+    "raise_tableau": (Move, N + N + B + B),
+    "lower_tableau": (Move, N + N + B + B),
     "raise_count_tableau": (Count, N + N + B + B),
     "lower_count_tableau": (Count, N + N + B + B),
     "look": (Cell, N + B + B + N),

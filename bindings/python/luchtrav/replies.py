@@ -8,6 +8,11 @@ class Done(Structure):
     _fields_ = [("number", c_uint64), ("place", c_uint64)]
 
 
+class Move(Done):
+    changed: int
+    _fields_ = [("changed", c_uint64)]
+
+
 class Count(Done):
     count: int
     _fields_ = [("count", c_uint64)]

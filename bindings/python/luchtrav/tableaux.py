@@ -7,7 +7,7 @@ from . import replies
 from .buffers import Integers
 from .lending import as_letters, as_marks, as_number, as_place, room
 from .library import ask
-from .values import Cell, Tableau, tableau_in
+from .values import Cell, MovedTableau, Tableau, tableau_in
 
 # Letters, or the Tableau that stands for letters and marks.
 Letters = Union[Integers, Tableau]
@@ -48,30 +48,40 @@ def column_reading(rank: int, letters: Letters, marks: Optional[Integers] = None
     return word.tolist()
 
 
-def moved(name: str, rank: int, index: int, letters: Letters, marks: Optional[Integers]) -> Tableau:
+def moved(name: str, rank: int, index: int, letters: Letters, marks: Optional[Integers]) -> MovedTableau:
     letters, marks = parts_of(letters, marks)
     lent, steps = as_letters(letters), as_marks(marks)
-    ask(name, as_number(rank), as_number(index), lent, steps, letters=(letters,), marks=(marks,))
-    return tableau_in(lent, steps)
+    said: replies.Move = ask(name, as_number(rank), as_number(index), lent, steps, letters=(letters,), marks=(marks,))
+    return MovedTableau(tableau_in(lent, steps), said.changed)
 
 
 @overload
-def raise_tableau(rank: int, index: int, tableau: Tableau, /) -> Tableau: ...
+def raise_tableau(rank: int, index: int, tableau: Tableau, /) -> MovedTableau: ...
 @overload
-def raise_tableau(rank: int, index: int, letters: Integers, marks: Integers) -> Tableau: ...
-def raise_tableau(rank: int, index: int, letters: Letters, marks: Optional[Integers] = None) -> Tableau:
-    """The tableau, given as letters and marks or as a Tableau, with the first index + 1 turned into index; its marks do not change, nor do the
-    caller's letters. Refuses 1 to 6, 9, 10 where index + 1 stands directly below index, 11 where there is no index + 1."""
+def raise_tableau(rank: int, index: int, letters: Integers, marks: Integers) -> MovedTableau: ...
+def raise_tableau(rank: int, index: int, letters: Letters, marks: Optional[Integers] = None) -> MovedTableau:
+    """The tableau, given as letters and marks or as a Tableau, with the first index + 1 turned into index, and the place of that cell; its marks do not
+    change, nor do the caller's letters. In a word with this tableau raise_word changes the letter whose place, plus 1, is the recording entry
+    of that cell. Refuses 1 to 6, 9, 10 where index + 1 stands directly below index, 11 where there is no index + 1.
+
+    >>> luchtrav.raise_tableau(3, 2, luchtrav.tableau_of_word(3, [1, 3, 1]))
+    MovedTableau(tableau=Tableau(letters=(1, 1, 2), marks=(0, 0, 1)), place=2)
+    """
     return moved("raise_tableau", rank, index, letters, marks)
 
 
 @overload
-def lower_tableau(rank: int, index: int, tableau: Tableau, /) -> Tableau: ...
+def lower_tableau(rank: int, index: int, tableau: Tableau, /) -> MovedTableau: ...
 @overload
-def lower_tableau(rank: int, index: int, letters: Integers, marks: Integers) -> Tableau: ...
-def lower_tableau(rank: int, index: int, letters: Letters, marks: Optional[Integers] = None) -> Tableau:
-    """The tableau, given as letters and marks or as a Tableau, with the last index turned into index + 1; its marks do not change, nor do the
-    caller's letters. Refuses 1 to 6, 9, 10 where index + 1 stands directly below index, 11 where there is no index."""
+def lower_tableau(rank: int, index: int, letters: Integers, marks: Integers) -> MovedTableau: ...
+def lower_tableau(rank: int, index: int, letters: Letters, marks: Optional[Integers] = None) -> MovedTableau:
+    """The tableau, given as letters and marks or as a Tableau, with the last index turned into index + 1, and the place of that cell; its marks do not
+    change, nor do the caller's letters. In a word with this tableau lower_word changes the letter whose place, plus 1, is the recording entry
+    of that cell. Refuses 1 to 6, 9, 10 where index + 1 stands directly below index, 11 where there is no index.
+
+    >>> luchtrav.lower_tableau(3, 1, luchtrav.tableau_of_word(3, [3, 1, 1, 3]))
+    MovedTableau(tableau=Tableau(letters=(1, 2, 3, 3), marks=(0, 0, 1, 0)), place=1)
+    """
     return moved("lower_tableau", rank, index, letters, marks)
 
 

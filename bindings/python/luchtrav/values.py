@@ -1,6 +1,7 @@
-"""What the functions give where it is more than a number or a list. All of them are tuples: they hash, and can be keys."""
+"""What the functions give where it is more than a number or a list. All of them are tuples. They hash, and can be keys; a MovedWord, whose word is a
+list, does not."""
 from array import array
-from typing import Any, Iterable, NamedTuple, Tuple
+from typing import Any, Iterable, List, NamedTuple, Tuple
 
 from .buffers import Integers
 from .lending import as_integers, elements
@@ -64,6 +65,20 @@ def tableau_in(letters: "array[int]", marks: "array[int]") -> Tableau:
 
 def pair_in(letters: "array[int]", marks: "array[int]", entries: "array[int]") -> Pair:
     return tuple.__new__(Pair, (tuple(letters.tolist()), tuple(marks.tolist()), tuple(entries.tolist())))
+
+
+class MovedWord(NamedTuple):
+    """A word after a move, and the place of the letter that the move changed."""
+
+    word: List[int]
+    place: int
+
+
+class MovedTableau(NamedTuple):
+    """A tableau after a move, and the place of the cell whose letter the move changed."""
+
+    tableau: Tableau
+    place: int
 
 
 class Junctions(NamedTuple):

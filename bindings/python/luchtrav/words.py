@@ -7,7 +7,7 @@ from . import replies
 from .buffers import Integers
 from .lending import as_letters, as_number, room
 from .library import ask
-from .values import Junctions, Tableau, tableau_in
+from .values import Junctions, MovedWord, Tableau, tableau_in
 
 Order = Literal["equal", "lower", "higher", "neither"]
 ORDERS: Tuple[Order, ...] = ("equal", "lower", "higher", "neither")
@@ -41,21 +41,29 @@ def junctions(rank: int, word: Integers) -> Junctions:
     return Junctions(said.set, said.rows)
 
 
-def moved(name: str, rank: int, index: int, word: Integers) -> List[int]:
+def moved(name: str, rank: int, index: int, word: Integers) -> MovedWord:
     taken = as_letters(word)
-    ask(name, as_number(rank), as_number(index), taken, letters=(word,))
-    return taken.tolist()
+    said: replies.Move = ask(name, as_number(rank), as_number(index), taken, letters=(word,))
+    return MovedWord(taken.tolist(), said.changed)
 
 
-def raise_word(rank: int, index: int, word: Integers) -> List[int]:
-    """The word with its leftmost index + 1 turned into index; the caller's word stays. Refuses 1 2 4 9, 10 where some index + 1 stands left of
-    some index, 11 where there is no index + 1."""
+def raise_word(rank: int, index: int, word: Integers) -> MovedWord:
+    """The word with its leftmost index + 1 turned into index, and the place of that letter; the caller's word stays. Refuses 1 2 4 9, 10 where some
+    index + 1 stands left of some index, 11 where there is no index + 1.
+
+    >>> luchtrav.raise_word(3, 2, [1, 3, 1])
+    MovedWord(word=[1, 2, 1], place=1)
+    """
     return moved("raise_word", rank, index, word)
 
 
-def lower_word(rank: int, index: int, word: Integers) -> List[int]:
-    """The word with its rightmost index turned into index + 1; the caller's word stays. Refuses 1 2 4 9, 10 where some index + 1 stands left of
-    some index, 11 where there is no index."""
+def lower_word(rank: int, index: int, word: Integers) -> MovedWord:
+    """The word with its rightmost index turned into index + 1, and the place of that letter; the caller's word stays. Refuses 1 2 4 9, 10 where some
+    index + 1 stands left of some index, 11 where there is no index.
+
+    >>> luchtrav.lower_word(3, 1, [3, 1, 1, 3])
+    MovedWord(word=[3, 1, 2, 3], place=2)
+    """
     return moved("lower_word", rank, index, word)
 
 
