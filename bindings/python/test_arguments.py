@@ -23,10 +23,11 @@ class Sequences(Case):
         for kind in kinds:
             given = kind(word)
             self.assertEqual(lu.tableau_of_word(4, given), lu.tableau_of_word(4, word))
-            self.assertEqual(lu.raise_word(4, 1, given), [4, 3, 1, 3])
+            self.assertEqual(lu.raise_word(4, 1, given), ([4, 3, 1, 3], 2))
             self.assertEqual(lu.tableau_line_of_word(4, given), lu.tableau_line_of_word(4, word))
             self.assertTrue(lu.same_class(4, given, 4, word))
             parts = kind(LETTERS), kind(MARKS), kind(ENTRIES)
+            self.assertEqual(lu.raise_tableau(4, 1, *parts[:2]), (lu.Tableau([1, 3, 3, 4], MARKS), 0))
             self.assertEqual(lu.word_of_pair(4, *parts), word)
             self.assertEqual(lu.insert_letter(4, 1, *parts), lu.Pair([1, 2, 3, 3, 4], [0, 1, 1, 0, 1], [5, 3, 2, 4, 1]))
             self.assertEqual(lu.product(4, parts[:2], parts[:2]), lu.product(4, TABLEAU, TABLEAU))
@@ -155,6 +156,21 @@ class Values(Case):
             self.assertRaises(TypeError, lu.Pair, [1], [0], [other])
         self.assertEqual(PAIR.tableau, TABLEAU)
         self.assertIs(type(PAIR.tableau), lu.Tableau)
+
+    def test_moved(self) -> None:
+        """What a move gives is taken apart, and told by name; only a tableau with its place is a key."""
+        word, place = lu.raise_word(3, 2, [1, 3, 1])
+        self.assertEqual((type(word), type(place)), (list, int))
+        tableau, cell = lu.raise_tableau(3, 2, lu.tableau_of_word(3, [1, 3, 1]))
+        self.assertEqual((type(tableau), type(cell)), (lu.Tableau, int))
+        moved_word, moved_tableau = lu.MovedWord([1, 2, 1], 1), lu.MovedTableau(lu.Tableau([1, 1, 2], [0, 0, 1]), 2)
+        self.assertEqual((moved_word.word, moved_word.place, moved_tableau.tableau, moved_tableau.place), (word, place, tableau, cell))
+        self.assertEqual(repr(moved_word), "MovedWord(word=[1, 2, 1], place=1)")
+        for moved in (moved_word, moved_tableau):
+            self.assertIs(type(pickle.loads(pickle.dumps(moved))), type(moved))
+            self.assertRaises(AttributeError, setattr, moved, "place", 0)
+        self.assertEqual({moved_tableau: 1}[lu.raise_tableau(3, 2, lu.tableau_of_word(3, [3, 1, 1]))], 1)
+        self.assertRaises(TypeError, hash, moved_word)
 
     def test_keys(self) -> None:
         classes = {lu.tableau_of_word(4, word): word for word in ([4, 3, 2, 3], [3, 2, 4, 3], [2, 3, 3, 4])}

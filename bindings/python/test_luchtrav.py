@@ -1,8 +1,10 @@
-"""Tests of the operations: document 01's checked words, what they do not call, and products.
+"""Tests of the operations: document 01's checked words, the places that moves change, what they do not call, and products.
 
     python3 bindings/python/test_luchtrav.py
 """
 import unittest
+from itertools import product
+from typing import List
 
 from support import Case, lu, word_of
 
@@ -51,11 +53,11 @@ class CheckedWords(Case):
         self.assertEqual(lu.recording_of_word(6, word_of("243245565")), [1, 4, 3, 2, 5, 6, 7, 9, 8])
 
     def test_moves(self) -> None:
-        self.assertEqual(lu.lower_word(3, 1, word_of("3113")), word_of("3123"))
+        self.assertEqual(lu.lower_word(3, 1, word_of("3113")), lu.MovedWord(word_of("3123"), 2))
         self.refuses(10, 0, lu.raise_word, 3, 2, word_of("3123"))
         self.refuses(11, 0, lu.lower_word, 3, 2, word_of("3131"))
-        self.assertEqual(lu.raise_word(3, 2, word_of("3131")), word_of("2131"))
-        self.assertEqual(lu.raise_word(3, 2, word_of("31")), word_of("21"))
+        self.assertEqual(lu.raise_word(3, 2, word_of("3131")), lu.MovedWord(word_of("2131"), 0))
+        self.assertEqual(lu.raise_word(3, 2, word_of("31")), lu.MovedWord(word_of("21"), 0))
 
     def test_classes_and_weights(self) -> None:
         self.assertIs(lu.same_class(4, word_of("3243"), 4, word_of("4323")), True)
@@ -83,13 +85,72 @@ class CheckedWords(Case):
         self.assertEqual(lu.answer(b"x" * 4097), b"E,14,4096\n")
 
 
+class ChangedPlaces(Case):
+    """Which letter a move changes, in a word and in its tableau."""
+
+    def test_word_and_cell(self) -> None:
+        """First, middle and last places; two words of one class whose places differ, while the cell is one."""
+        for rank, raising, index, digits, place, cell in (
+            (3, False, 1, "3113", 2, 1), (3, True, 2, "3131", 0, 2), (3, True, 2, "31", 0, 1), (3, True, 2, "131", 1, 2), (3, True, 2, "311", 0, 2),
+            (7, False, 6, "12446553275", 4, 9), (7, False, 1, "12446553275", 0, 0), (7, True, 6, "12446553275", 9, 10), (3, False, 2, "2123", 2, 2),
+            (2, True, 1, "122", 1, 1), (2, True, 1, "22", 0, 0), (2, False, 1, "11", 1, 1), (4, False, 2, "2114", 0, 2),
+        ):
+            word = word_of(digits)
+            tableau, entries = lu.tableau_of_word(rank, word), lu.recording_of_word(rank, word)
+            move_word, move_tableau = (lu.raise_word, lu.raise_tableau) if raising else (lu.lower_word, lu.lower_tableau)
+            new = index if raising else index + 1
+            moved = [new if at == place else letter for at, letter in enumerate(word)]
+            self.assertEqual(move_word(rank, index, word), lu.MovedWord(moved, place))
+            letters = [new if at == cell else letter for at, letter in enumerate(tableau.letters)]
+            self.assertEqual(move_tableau(rank, index, tableau), lu.MovedTableau(lu.Tableau(letters, tableau.marks), cell))
+            self.assertEqual(entries[cell], place + 1)
+
+    def test_tableau_alone(self) -> None:
+        self.assertEqual(lu.raise_tableau(4, 2, [2, 3, 3], [0, 0, 0]), lu.MovedTableau(lu.Tableau([2, 2, 3], [0, 0, 0]), 1))
+        self.refuses(10, 0, lu.raise_tableau, 4, 2, [2, 3, 3], [0, 1, 0])
+        self.assertEqual(lu.lower_tableau(4, 2, [1, 2, 2, 4], [0, 1, 0, 1]), lu.MovedTableau(lu.Tableau([1, 2, 3, 4], [0, 1, 0, 1]), 2))
+
+    def test_all_short_words(self) -> None:
+        """All words of up to five letters over 1 to 3: the letter that the rule names and no other, in word and tableau, joined by the recording; both
+        are refused alike."""
+        made = 0
+        for length in range(6):
+            for word in product((1, 2, 3), repeat=length):
+                made += sum(self.moves_alike(index, list(word)) for index in (1, 2))
+        self.assertEqual(made, 516)
+
+    def moves_alike(self, index: int, word: List[int]) -> int:
+        """Both moves at an index, on a word over 1 to 3 and on its tableau: how many were made."""
+        tableau, entries = lu.tableau_of_word(3, word), lu.recording_of_word(3, word)
+        made = 0
+        for raising, move_word, move_tableau in ((True, lu.raise_word, lu.raise_tableau), (False, lu.lower_word, lu.lower_tableau)):
+            try:
+                moved, place = move_word(3, index, word)
+            except lu.Refusal as refusal:
+                self.refuses(refusal.number, 0, move_tableau, 3, index, tableau)
+                continue
+            made += 1
+            (letters, marks), cell = move_tableau(3, index, tableau)
+            self.changed_alone(raising, index, place, word, moved)
+            self.changed_alone(raising, index, cell, list(tableau.letters), list(letters))
+            self.assertEqual((marks, entries[cell]), (tableau.marks, place + 1))
+        return made
+
+    def changed_alone(self, raising: bool, index: int, place: int, before: List[int], after: List[int]) -> None:
+        """The letter at the place was changed as the move does, no other was, and none before it (raising) or after it (lowering) was to be."""
+        old, new = (index + 1, index) if raising else (index, index + 1)
+        self.assertEqual((before[place], after[place]), (old, new))
+        self.assertEqual(before[:place] + before[place + 1 :], after[:place] + after[place + 1 :])
+        self.assertNotIn(old, before[:place] if raising else before[place + 1 :])
+
+
 class Operations(Case):
     """What the checked words do not call."""
 
     def test_tableau_moves(self) -> None:
         letters, marks = lu.tableau_of_word(3, word_of("3113"))
-        self.assertEqual(lu.lower_tableau(3, 1, letters, marks), lu.Tableau([1, 2, 3, 3], marks))
-        self.assertEqual(lu.raise_tableau(3, 2, letters, marks), lu.Tableau([1, 1, 2, 3], marks))
+        self.assertEqual(lu.lower_tableau(3, 1, letters, marks), lu.MovedTableau(lu.Tableau([1, 2, 3, 3], marks), 1))
+        self.assertEqual(lu.raise_tableau(3, 2, letters, marks), lu.MovedTableau(lu.Tableau([1, 1, 2, 3], marks), 2))
         self.assertEqual(lu.lower_count_tableau(3, 1, letters, marks), 2)
         self.assertEqual(lu.raise_count_tableau(3, 2, letters, marks), 2)
         self.refuses(10, 0, lu.raise_tableau, 4, 2, [2, 3], [0, 1])

@@ -12,7 +12,7 @@ import unittest
 
 from support import HERE, PACKAGES, Case, lu, run_python
 
-from luchtrav import places, tableaux
+from luchtrav import places, tableaux, words
 from luchtrav.library import FUNCTIONS
 
 
@@ -36,8 +36,9 @@ class Package(Case):
 
     def test_examples(self) -> None:
         """Those that docstrings have."""
-        failed, tried = doctest.testmod(tableaux, extraglobs={"luchtrav": lu})
-        self.assertEqual((failed, tried), (0, 1))
+        for module, count in ((words, 2), (tableaux, 3)):
+            failed, tried = doctest.testmod(module, extraglobs={"luchtrav": lu})
+            self.assertEqual((failed, tried), (0, count))
 
     def test_version(self) -> None:
         with open(places.HEADER) as file:
