@@ -1,4 +1,4 @@
-/* Prints what to store for the whole class of a word, and whether another word is in that class. */
+/* Prints what to store for the whole class of a word, whether another word is in that class, and what a move changes. */
 #include <stdio.h>
 #include "luchtrav.h"
 int main(void) {
@@ -7,5 +7,6 @@ int main(void) {
     if (t.number != LUCHTRAV_OK) return printf("place %zu: %s\n", t.place, luchtrav_refusal_text(t.number)), 1;
     fwrite(line, 1, t.count, stdout);
     luchtrav_class c = luchtrav_same_class(4, word, 4, 4, other, 4);
-    return printf("one class: %zu\n", c.same), 0;
+    luchtrav_move m = luchtrav_raise_word(4, 1, word, 4);
+    return printf("one class: %zu\nthe letter at place %zu is now %d\n", c.same, m.changed, word[m.changed]), 0;
 }

@@ -1,4 +1,5 @@
-/* What include/luchtrav.h says beside its functions: names and texts of the refusal numbers, the longest lines, NULL.
+/* What include/luchtrav.h says beside its functions: names and texts of the refusal numbers, the longest lines, the
+ * places that moves change, NULL.
  *
  * Prints the table of refusals as the names and luchtrav_refusal_text have it, for scripts/packages_c to hold against
  * the table of the header's opening comment. Fails where something else is not as the header says.
@@ -62,6 +63,41 @@ static void longest(void) {
     LONGEST(12255, answer, w_line, w_count);
 }
 
+/* A move that was made: its number and place are 0, it tells the changed place, and leaves these letters. */
+static void made(const char *what, luchtrav_move said, size_t changed, const uint8_t *letters, const char *digits) {
+    expect(what, said.number, LUCHTRAV_OK);
+    expect(what, said.place, 0);
+    expect(what, said.changed, changed);
+    for (size_t i = 0; i < strlen(digits); i++) expect(what, letters[i], (size_t)(digits[i] - '0'));
+}
+
+/* A move that was refused: it tells neither place. */
+static void undefined(const char *what, luchtrav_move said, size_t number) {
+    expect(what, said.number, number);
+    expect(what, said.place, 0);
+    expect(what, said.changed, 0);
+}
+
+/* The changed places of words and tableaux, 0 among them; and of a word beside its tableau, where the recording entry of
+ * the changed cell is the word's changed place plus 1. */
+static void moves(void) {
+    uint8_t first[] = {3, 1, 1, 3}, second[] = {3, 1, 3, 1}, third[] = {1, 3, 1}, cells[] = {2, 3, 3}, level[] = {0, 0, 0};
+    uint8_t letters[3], marks[3];
+    uint16_t entries[3];
+    made("3113 lowered", luchtrav_lower_word(3, 1, first, 4), 2, first, "3123");
+    undefined("3123 raised", luchtrav_raise_word(3, 2, first, 4), LUCHTRAV_INVERSION);
+    undefined("3131 lowered", luchtrav_lower_word(3, 2, second, 4), LUCHTRAV_NO_LETTER);
+    made("3131 raised", luchtrav_raise_word(3, 2, second, 4), 0, second, "2131");
+    made("the tableau 233 raised", luchtrav_raise_tableau(3, 2, cells, 3, level, 3), 1, cells, "223");
+    made("the tableau 223 lowered", luchtrav_lower_tableau(3, 2, cells, 3, level, 3), 1, cells, "233");
+    undefined("the tableau 233 lowered at 3", luchtrav_lower_tableau(3, 3, cells, 3, level, 3), LUCHTRAV_BAD_INDEX);
+    luchtrav_tableau_of_word(3, third, 3, letters, 3, marks, 3);
+    luchtrav_recording_of_word(3, third, 3, entries, 3);
+    made("131 raised", luchtrav_raise_word(3, 2, third, 3), 1, third, "121");
+    made("the tableau of 131 raised", luchtrav_raise_tableau(3, 2, letters, 3, marks, 3), 2, letters, "112");
+    expect("the entry of the changed cell", entries[2], 2);
+}
+
 /* The factors of a product without memory, their letters and marks as many as told. */
 static size_t product_says(size_t first, size_t first_marks, size_t second, size_t second_marks) {
     luchtrav_count said =
@@ -75,6 +111,7 @@ static void null(void) {
     expect("rank", luchtrav_check_word(0, NULL, 4).number, LUCHTRAV_BAD_RANK);
     expect("length", luchtrav_check_word(4, NULL, (size_t)-1).number, LUCHTRAV_BAD_LENGTH);
     expect("parts", luchtrav_check_tableau(4, NULL, 4, NULL, 3).number, LUCHTRAV_BAD_PARTS);
+    undefined("a move without a word", luchtrav_raise_word(4, 1, NULL, 0), LUCHTRAV_NO_LETTER);
     expect("the empty product", product_says(0, 0, 0, 0), LUCHTRAV_OK);
     expect("cells together", product_says(600, 600, 425, 425), LUCHTRAV_BAD_LENGTH);
     expect("cells together, a sum of 2^64", product_says((size_t)1 << 63, 0, (size_t)1 << 63, 0), LUCHTRAV_BAD_LENGTH);
@@ -89,6 +126,7 @@ static void null(void) {
 int main(void) {
     texts();
     longest();
+    moves();
     null();
     return wrong != 0;
 }
