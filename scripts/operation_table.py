@@ -1,5 +1,5 @@
 """The tables of calls, by operation: the documents' checked words, one case at least for each refusal number of each operation, outputs longer than needed
-and too short by one, and the order of the checks. The program that makes the calls of a table knows its operations alone: at the end of each table it is
+and too short by one, moves of a first, a middle and a last place, on words and on their tableaux, and the order of the checks. The program that makes the calls of a table knows its operations alone: at the end of each table it is
 asked for one that it does not know."""
 from line_table import RIBBON_LINES, WORD_LINES
 
@@ -31,8 +31,13 @@ junctions 64 1,64,65
 raise_word 3 2 3,1,2,3
 raise_word 3 2 3,1,3,1
 raise_word 3 2 3,1
+raise_word 3 2 1,3,1
+raise_word 3 2 3,1,1
 raise_word 3 1 3,1,1,3
 raise_word 3 1 1,2,2
+raise_word 7 6 1,2,4,4,6,5,5,3,2,7,5
+raise_word 4 2 2,4,1,3,1,3
+raise_word 4 2 2,1,4,3
 raise_word 4 3 4,1,4
 raise_word 64 63 64,64
 raise_word 4 2 -
@@ -53,6 +58,9 @@ lower_word 3 2 3,1,3,1
 lower_word 3 1 2,1
 lower_word 3 1 2,3,1
 lower_word 3 2 2,1,2,3
+lower_word 7 6 1,2,4,4,6,5,5,3,2,7,5
+lower_word 4 2 2,1,1,4
+lower_word 3 2 2,1,2
 lower_word 4 3 3,4,4
 lower_word 64 63 63
 lower_word 4 3 -
@@ -297,6 +305,12 @@ raise_tableau 3 1 1,2 0,1
 raise_tableau 4 2 1,3,3,3 0,1,0,0
 raise_tableau 4 3 2,3,3,4 0,1,0,1
 raise_tableau 4 1 2,3,3,4 0,1,0,1
+raise_tableau 4 2 2,3,3 0,0,0
+raise_tableau 3 2 1,1,3 0,0,1
+raise_tableau 7 6 1,2,2,3,4,4,5,5,5,6,7 0,0,0,1,1,0,0,0,0,1,0
+raise_tableau 4 2 1,1,2,3,3,4 0,0,1,0,0,1
+raise_tableau 4 2 1,2,3,4 0,1,0,1
+raise_tableau 4 1 1*1023,2 0*1024
 raise_tableau 4 2 - -
 raise_tableau 4 2 1,2 0,0
 raise_tableau 4 0 1 0
@@ -310,6 +324,11 @@ raise_tableau 4 9 2,2 0,1
 lower_tableau 3 1 1,1,3,3 0,0,1,0
 lower_tableau 3 2 1,1,3,3 0,0,1,0
 lower_tableau 4 2 1,2,3 0,1,1
+lower_tableau 3 1 1,3,3 0,1,0
+lower_tableau 7 6 1,2,2,3,4,4,5,5,5,6,7 0,0,0,1,1,0,0,0,0,1,0
+lower_tableau 3 2 1,2,2,3 0,1,0,0
+lower_tableau 4 2 1,1,2,4 0,0,1,0
+lower_tableau 3 2 1,2,2 0,1,0
 lower_tableau 4 4 1 0
 lower_tableau 64 63 63*1024 0*1024
 lower_tableau 0 1 1 0

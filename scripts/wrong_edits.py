@@ -123,6 +123,50 @@ MOVES = [
     ("weights: the second sum fed the first word's counts", "meaning", "for word in (first, second)]\n    at_most", "for word in (first, first)]\n    at_most"),
 ]
 
+# How the moves of words and of tableaux are made, and how every reply is made of values.
+IN_WORD = "change(raising, index, word_inversion(index, word), word)"
+IN_TABLEAU = "change(raising, index, tableau_inversion(index, letters, marks), letters)"
+VALUES = "OPERATIONS[function.name](*arguments) or []"
+
+
+def moves_reply(reply):
+    """Another reply of moves, made of their values; that of every other function as it is."""
+    return "(lambda values: %s if 'changed' in function.fields else [0, 0] + values)(%s)" % (reply, VALUES)
+
+
+CHANGED_PLACES = [
+    ("a move tells the place 0 always", "meaning", "return [place]", "return [0]"),
+    ("a changed place counted from 1", "meaning", "return [place]", "return [place + 1]"),
+    ("a changed place counted from the end", "meaning", "return [place]", "return [len(letters) - 1 - place]"),
+    ("a changed place cut to a byte", "meaning", "return [place]", "return [place % 256]"),
+    ("the new letter for the changed place", "meaning", "return [place]", "return [new]"),
+    ("lowering tells the leftmost, and changes the rightmost", "meaning", "return [place]", "return [places[0]]"),
+    ("raising tells the rightmost, and changes the leftmost", "meaning", "return [place]", "return [places[-1]]"),
+    ("the tableau's move tells one place too far", "meaning", "return " + IN_TABLEAU, "return [%s[0] + 1]" % IN_TABLEAU),
+    (
+        "the tableau's move tells a place in its column reading", "meaning",
+        "    return " + IN_TABLEAU,
+        "    word = reading(letters, marks)\n    %s\n    return move_word(raising, rank, index, word)" % IN_TABLEAU,
+    ),
+    (
+        "the word's move tells a cell of its tableau", "meaning",
+        "    return " + IN_WORD,
+        "    letters, marks, _ = pair_of(word)\n    %s\n    return move_tableau(raising, rank, index, letters, marks)" % IN_WORD,
+    ),
+    ("the changed place in place, and not in changed", "replies", "[0, 0] + (%s)" % VALUES, moves_reply("[0, *values, 0]")),
+    ("the changed place in place and in changed", "replies", "[0, 0] + (%s)" % VALUES, moves_reply("[0, *values, *values]")),
+    (
+        "the index in changed after a refusal", "replies",
+        "[0] * (len(function.fields) - 2)",
+        "[arguments[1] if 'changed' in function.fields else 0] * (len(function.fields) - 2)",
+    ),
+]
+
+# The place that a move changes in a word, by the recording entry of the cell that it changes in the word's tableau.
+BY_ENTRY = """    letters, marks, entries = pair_of(word)
+    %s
+    return [entries[cell] - 1 for cell in move_tableau(raising, rank, index, letters, marks)]""" % IN_WORD
+
 # The product as it stands, and by letters and marks alone, as a kernel finds it: counts of both factors, the letters that a step down leaves in each, and
 # from the largest letter down the step into the next larger one of either.
 MULTIPLIED = "    new_letters, new_marks, _ = pair_of(reading(first_letters, first_marks) + reading(second_letters, second_marks))\n"
@@ -145,7 +189,10 @@ def by_letters(old, new):
     return BY_LETTERS.replace(old, new)
 
 
-RIGHT = [("the product by letters", "meaning", MULTIPLIED, BY_LETTERS)]
+RIGHT = [
+    ("the changed letter by the changed cell's entry", "meaning", "    return " + IN_WORD, BY_ENTRY),
+    ("the product by letters", "meaning", MULTIPLIED, BY_LETTERS),
+]
 
 PRODUCTS = [
     ("2 times 1 goes right", "meaning", MULTIPLIED, by_letters("(a in first_down or second[a] > 0)", "a in first_down")),
@@ -238,7 +285,7 @@ LINES = [
     ("the length as the place of a long input", "lines", "Refused(14, 4096)", "Refused(14, len(text))"),
 ]
 
-EDITS = CHECKS + RIBBONS + MOVES + PRODUCTS + LINES
+EDITS = CHECKS + RIBBONS + MOVES + CHANGED_PLACES + PRODUCTS + LINES
 
 EDGES = [
     (

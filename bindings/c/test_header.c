@@ -78,11 +78,11 @@ static void undefined(const char *what, luchtrav_move said, size_t number) {
     expect(what, said.changed, 0);
 }
 
-/* The changed places of words and tableaux, 0 among them; and of a word beside its tableau, where the recording entry of
- * the changed cell is the word's changed place plus 1. */
+/* The changed places of words and tableaux, 0 among them; and of a word beside its tableau, where the recording entry
+ * of the changed cell is the word's changed place plus 1. */
 static void moves(void) {
-    uint8_t first[] = {3, 1, 1, 3}, second[] = {3, 1, 3, 1}, third[] = {1, 3, 1}, cells[] = {2, 3, 3}, level[] = {0, 0, 0};
-    uint8_t letters[3], marks[3];
+    uint8_t first[] = {3, 1, 1, 3}, second[] = {3, 1, 3, 1}, third[] = {1, 3, 1}, letters[3], marks[3];
+    uint8_t cells[] = {2, 3, 3}, level[] = {0, 0, 0};
     uint16_t entries[3];
     made("3113 lowered", luchtrav_lower_word(3, 1, first, 4), 2, first, "3123");
     undefined("3123 raised", luchtrav_raise_word(3, 2, first, 4), LUCHTRAV_INVERSION);
