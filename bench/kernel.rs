@@ -16,6 +16,19 @@ impl From<Done> for Reply {
 }
 
 #[repr(C)]
+pub struct Move {
+    number: usize,
+    place: usize,
+    changed: usize,
+}
+
+impl From<Move> for Reply {
+    fn from(said: Move) -> Reply {
+        [said.number, said.place, said.changed, 0, 0, 0]
+    }
+}
+
+#[repr(C)]
 pub struct Count {
     number: usize,
     place: usize,
@@ -125,9 +138,9 @@ extern "C" {
     ) -> Count;
     pub fn luchtrav_junctions(rank: usize, word: *const u8, word_count: usize) -> Junction;
     pub fn luchtrav_raise_word(rank: usize, index: usize, word: *mut u8, word_count: usize)
-        -> Done;
+        -> Move;
     pub fn luchtrav_lower_word(rank: usize, index: usize, word: *mut u8, word_count: usize)
-        -> Done;
+        -> Move;
     pub fn luchtrav_raise_count_word(
         rank: usize,
         index: usize,
@@ -179,7 +192,7 @@ extern "C" {
         letters_count: usize,
         marks: *const u8,
         marks_count: usize,
-    ) -> Done;
+    ) -> Move;
     pub fn luchtrav_lower_tableau(
         rank: usize,
         index: usize,
@@ -187,7 +200,7 @@ extern "C" {
         letters_count: usize,
         marks: *const u8,
         marks_count: usize,
-    ) -> Done;
+    ) -> Move;
     pub fn luchtrav_raise_count_tableau(
         rank: usize,
         index: usize,

@@ -81,6 +81,10 @@ fn done(answer: Answer<()>) -> Reply {
     said(answer, |()| [])
 }
 
+fn changed(answer: Answer<usize>) -> Reply {
+    said(answer, |place| [place])
+}
+
 fn count(answer: Answer<usize>) -> Reply {
     said(answer, |count| [count])
 }

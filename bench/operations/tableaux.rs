@@ -1,6 +1,6 @@
 //! Tableaux: column reading, moves, repeat counts, cells, products.
 
-use super::{cell, count, done, operation, Operation};
+use super::{cell, changed, count, done, operation, Operation};
 use crate::inputs::Lent;
 use crate::kernel::*;
 use crate::plain::checks::check_tableau;
@@ -40,7 +40,7 @@ pub const OPERATIONS: [Operation; 9] = [
                 )
             },
             |i, m| {
-                done(tableaux::move_tableau(
+                changed(tableaux::move_tableau(
                     Raising,
                     i.rank,
                     i.rank - 1,
@@ -64,7 +64,7 @@ pub const OPERATIONS: [Operation; 9] = [
                 )
             },
             |i, m| {
-                done(tableaux::move_tableau(
+                changed(tableaux::move_tableau(
                     Lowering,
                     i.rank,
                     1,

@@ -1,6 +1,6 @@
 //! Words: ribbons, junctions, moves, repeat counts, classes and weights.
 
-use super::{count, done, operation, said, Operation, Unit};
+use super::{changed, count, done, operation, said, Operation, Unit};
 use crate::inputs::Lent;
 use crate::kernel::*;
 use crate::plain::checks::check_word;
@@ -72,7 +72,7 @@ pub const OPERATIONS: [Operation; 10] = [
             "raise_word",
             |i, m| call!(luchtrav_raise_word, i.rank, i.rank - 1, [mut m.letters[..i.count]]),
             |i, m| {
-                done(words::move_word(
+                changed(words::move_word(
                     Raising,
                     i.rank,
                     i.rank - 1,
@@ -87,7 +87,7 @@ pub const OPERATIONS: [Operation; 10] = [
             "lower_word",
             |i, m| call!(luchtrav_lower_word, i.rank, 1, [mut m.letters[..i.count]]),
             |i, m| {
-                done(words::move_word(
+                changed(words::move_word(
                     Lowering,
                     i.rank,
                     1,

@@ -36,7 +36,7 @@ pub fn move_tableau(
     index: usize,
     letters: &mut [u8],
     marks: &[u8],
-) -> Answer<()> {
+) -> Answer<usize> {
     check_tableau(rank, letters, marks)?;
     check_index(rank, index)?;
     let index = index as u8;
