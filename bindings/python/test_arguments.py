@@ -171,6 +171,13 @@ class Values(Case):
             self.assertRaises(AttributeError, setattr, moved, "place", 0)
         self.assertEqual({moved_tableau: 1}[lu.raise_tableau(3, 2, lu.tableau_of_word(3, [3, 1, 1]))], 1)
         self.assertRaises(TypeError, hash, moved_word)
+        calls: List[Tuple[Any, ...]] = [
+            (lu.check_word, 3, moved_word), (lu.raise_word, 3, 1, moved_word), (lu.check_tableau, 3, moved_tableau),
+            (lu.check_tableau, 3, *moved_tableau), (lu.raise_tableau, 3, 1, moved_tableau), (lu.product, 3, moved_tableau, tableau),
+            (lu.Tableau, *moved_tableau),
+        ]
+        for call, *arguments in calls:  # What a move gives is not taken for the word or the tableau in it.
+            self.assertRaises(TypeError, call, *arguments)
 
     def test_keys(self) -> None:
         classes = {lu.tableau_of_word(4, word): word for word in ([4, 3, 2, 3], [3, 2, 4, 3], [2, 3, 3, 4])}
