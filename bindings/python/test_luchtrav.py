@@ -110,6 +110,13 @@ class ChangedPlaces(Case):
         self.refuses(10, 0, lu.raise_tableau, 4, 2, [2, 3, 3], [0, 1, 0])
         self.assertEqual(lu.lower_tableau(4, 2, [1, 2, 2, 4], [0, 1, 0, 1]), lu.MovedTableau(lu.Tableau([1, 2, 3, 4], [0, 1, 0, 1]), 2))
 
+    def test_last_of_1024(self) -> None:
+        self.assertEqual(lu.raise_word(2, 1, [1] * 1023 + [2]), lu.MovedWord([1] * 1024, 1023))
+        self.assertEqual(lu.lower_word(2, 1, [1] * 1024), lu.MovedWord([1] * 1023 + [2], 1023))
+        level = [0] * 1024
+        self.assertEqual(lu.raise_tableau(2, 1, [1] * 1023 + [2], level), lu.MovedTableau(lu.Tableau([1] * 1024, level), 1023))
+        self.assertEqual(lu.lower_tableau(2, 1, [1] * 1024, level), lu.MovedTableau(lu.Tableau([1] * 1023 + [2], level), 1023))
+
     def test_all_short_words(self) -> None:
         """All words of up to five letters over 1 to 3: the letter that the rule names and no other, in word and tableau, joined by the recording; both
         are refused alike."""
