@@ -167,7 +167,7 @@ typedef struct {
 } luchtrav_done;
 
 /* A move that was made: changed is the place of the letter that it changed, in a word, or of the cell, in a tableau. A
- * changed place 0 is a place like any other: that the move was made says number 0. */
+ * changed place 0 is a place like any other: number 0 tells that the move was made. */
 typedef struct {
     size_t number, place;
     size_t changed;

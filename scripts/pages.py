@@ -9,6 +9,7 @@ MADE is not. A block whose fence names a file has lines of that file, in its ord
 In docs/PROMISES.md a row has one file, in its last cell. Of an operation: functions of that file, their refusals, definitions that each contract
 cites. Of a theorem: public theorems of that file, and after a colon definitions that each type cites; those REQUIRED have a row. A definition is
 declared in that file or in one that the section names. A name in code below "Ruled out:" is an edit: of code before Theorems, else of a definition.
+Beside the pages: each text that an edit replaces is there, and the structs of the header have the fields of the code's.
 """
 import re
 import sys
@@ -33,7 +34,7 @@ STANDS = r"(?<![\w-])NAME(?![\w-])"
 FUNCTION = r"\bfn NAME\b(?:[^{]*?\bensures)?(.*?)(?:^ *| )\{$"
 THEOREM = r"^ *pub NAME :(.*?)^ *(?:unfolding|NAME) "
 DECLARED = r"\b(fn|struct|enum) NAME\b|^ *pub NAME:|^ *(abbrev |unfoldable )?(pub )?((record|data) )?NAME [:({]"
-REQUIRED = "classes written-classes word-of-pair pair-of-word word-reading read-back class-joined tableau-answer repeat-word starred outputs product-of-classes stepped-weights word-changing changed-cell move-together".split()
+REQUIRED = "classes written-classes word-of-pair pair-of-word word-reading read-back class-joined tableau-answer repeat-word starred outputs product-of-classes stepped-weights word-moved-at changed-cell move-together".split()
 EDITS = [(edit.stem, re.search(r"^file: (\w+)/", edit.read_text(), re.M).group(1).replace("proofs", "specs")) for edit in CRATES.glob("*/must-fail/*.edit")]
 HEADER = header.functions_of(None)
 EXPORTED = ["luchtrav_" + name for name in HEADER]
@@ -168,6 +169,28 @@ def check_edits():
         named = set(code("".join(re.findall(r"^Ruled out:\n\n((?:[- ] .*\n?)+)", part, re.M))))
         edits = {name for name, changed in EDITS if changed == top}
         yield from ((PROMISES, f"{'no edit' if name in named else 'edit not named'} of {top}/: {name}") for name in sorted(named ^ edits))
+
+
+def check_old_texts():
+    """Each text that an edit replaces stands once in its file, what it has replaced before taken into account."""
+    for edit in sorted(CRATES.glob("*/must-fail/*.edit")):
+        for file, changes in re.findall(r"^file: (.*)\n((?:old: .*\nnew: .*\n?)+)", edit.read_text(), re.M):
+            text = (edit.parent.parent / file).read_text()
+            for old, new in re.findall(r"^old: (.*)\nnew: (.*)$", changes, re.M):
+                if text.count(old) != 1:
+                    yield edit, f"stands {text.count(old)} times in {file}: {old}"
+                text = text.replace(old, new)
+
+
+def check_structs():
+    """The fields of each reply stand in the header in the order of the code, which no contract fixes."""
+    told = header.fields_of(re.sub(r"/\*.*?\*/", "", Path(header.HEADER).read_text(), flags=re.S))
+    text = (CRATES / "structs/src/replies.rt").read_text()
+    for name, body in re.findall(r"^#\[repr\(C\)\]\npub struct (\w+)Reply \{\n(.*?)^\}", text, re.M | re.S):
+        fields = re.findall(r"^    pub (\w+): (?:usize|u64),$", body, re.M)
+        if told.pop("luchtrav_" + name.lower(), None) != fields:
+            yield Path(header.HEADER), f"fields other than those of {name}Reply, {fields}"
+    yield from ((Path(header.HEADER), "no struct of the code: " + name) for name in told)
 
 
 def functions():

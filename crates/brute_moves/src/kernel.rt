@@ -82,7 +82,7 @@ pub(crate) fn compare_on_word(
         + one_if(times_number(count) != times)
 }
 
-// A move on a tableau: reply, letters afterwards, marks, which stay, and repeat count.
+// A move on a tableau: the whole reply as one number (told), letters afterwards, marks, which stay, and repeat count.
 pub(crate) fn compare_on_tableau(
     side: Side,
     rank: usize,
@@ -90,7 +90,7 @@ pub(crate) fn compare_on_tableau(
     length: usize,
     letters: [u8; 1024],
     marks: [u8; 1024],
-    reply: usize,
+    expected: usize,
     after: Tableau,
     times: usize,
 ) -> usize
@@ -108,7 +108,7 @@ pub(crate) fn compare_on_tableau(
     );
     let own_letters = after.letters;
     let own_marks = after.marks;
-    one_if(move_number(made) != reply)
+    one_if(move_number(made) != expected)
         + unlike(changed, own_letters)
         + unlike(marks, own_marks)
         + one_if(times_number(count) != times)

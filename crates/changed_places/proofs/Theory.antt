@@ -2,5 +2,6 @@
 pub mod ChangedPlaces
 pub mod ChangedCells
 pub mod MoveTogether
+pub mod TakenApart
 -- ---- cases
 pub mod PlaceCases

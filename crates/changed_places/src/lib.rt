@@ -1,1 +1,2 @@
-// What the place that a move replies says of the letters, and its laws: no code. Definitions stand in specs/, theorems in proofs/.
+// The place that a move replies: what it means for the letters of a word and of its tableau, and its laws. No code: definitions stand in specs/, theorems in
+// proofs/.

@@ -27,6 +27,7 @@ pub mod Correspondence
 pub mod Undo
 pub mod MoveRecording
 pub mod MoveCounts
+pub mod Targets
 pub mod MoveTableau
 pub mod MoveValid
 pub mod Repeats

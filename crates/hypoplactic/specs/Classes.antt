@@ -11,7 +11,7 @@ use mathlib.Core.Path.{_≡_}
 use mathlib.Core.List.{List, [], _∷_}
 use mathlib.Core.Logic.{_↔_}
 use mathlib.Core.Option.{Option, some}
-use Prim.Native.Nat.{ℕ, _≤_}
+use Prim.Native.Nat.{ℕ, _≤_, _<_}
 use lib.ListN.{length, take, set}
 use Rattle.hypoplactic.specs.Insertion.{recordingOf}
 use Rattle.hypoplactic.specs.Words.{Accepted}
@@ -50,10 +50,10 @@ lineBytes n w out = elements ((tableauLineRun n w out) .0) ((tableauLineRun n w 
 abbrev pub moveLeft : ℕ → Move → List ℕ → List ℕ
 moveLeft n m w = (moveWordRun n m w) .1
 
--- What a move that gives the letter a replies to two words, and leaves of them: made in both, each at its own place, where a then stands; or refused in
--- both with one number, both left as they were.
+-- What a move that gives the letter a replies to two words, and leaves of them: made in both, each at a place of its own in the word, where a then stands;
+-- or refused in both with one number, both left as they were.
 pub data MovedTogether (a : ℕ) (u v : List ℕ) : Said × List ℕ → Said × List ℕ → Type 0 where
-  in-both : (p q : ℕ) → MovedTogether a u v (gives (p ∷ []), set u p a) (gives (q ∷ []), set v q a)
+  in-both : (p q : ℕ) → p < length u → q < length v → MovedTogether a u v (gives (p ∷ []), set u p a) (gives (q ∷ []), set v q a)
   in-neither : (k : ℕ) → MovedTogether a u v (refused k 0, u) (refused k 0, v)
 
 pub record FaithfullyWritten (n : ℕ) (u v : List ℕ) : Type 0 where

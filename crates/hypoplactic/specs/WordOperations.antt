@@ -1,7 +1,7 @@
 -- What the operations on words reply to every input, and what lent memory then holds (document 01; the checks that each makes, in order).
 --     junctionSays      1 2 4                gives the junction set and the rows
 --     moveWordSays      1 2 4 9 10 11        gives the place of the changed letter; moveWordRun changes the word in place
---     placeTold         the place that is given
+--     placeTold         the changed place as a reply's values
 --     undefinedBy, moveReply                 a move's reply past the checks of its word or tableau, from the move's definition, as theorems say it
 --     repeatWordSays    1 2 4 9              gives the repeat count
 --     sameClassSays, weightsSays   1 2 4 of two words      give 1 or 0; 0 equal, 1 lower, 2 higher, 3 neither

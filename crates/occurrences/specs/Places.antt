@@ -3,7 +3,6 @@
 --     standsLeft p q           whether both places are there and p is left of q
 --     before-found             some q stands left of some p exactly where the leftmost q stands left of the rightmost p
 --     inversion-places         the same of an i-inversion
---     Below n o                a place, if there is one, is below n; leftmost-below, rightmost-below: these places are the word's
 --     further i o              a place, if there is one, counted from i places further left
 --     Seeking, Returning               what the scans keep: forward and backward
 --     standing, seeking, returning     the rulesets
@@ -91,32 +90,6 @@ before-found p q (x ∷ w) = rw (occurs-rightmost p w, before-found p q w) (left
 -- An i-inversion: the leftmost i+1 stands left of the rightmost i.
 pub inversion-places : (i : ℕ) (w : List ℕ) → inverted i w ≡ standsLeft (leftmost (suc i) w) (rightmost i w)
 inversion-places i w = before-found i (suc i) w
-
--- ---- where places lie
-
--- A place, if there is one, is below n.
-abbrev pub Below : ℕ → Option ℕ → Type 0
-Below n none = Unit {0}
-Below n (some k) = k < n
-
--- The places that the scans find are the word's.
-pub leftmost-below : (a : ℕ) (w : List ℕ) → Below (length w) (leftmost a w)
-leftmost-below a [] = tt
-leftmost-below a (x ∷ w) = go (eqb x a) (leftmost a w) (leftmost-below a w)
-  where
-    go : (b : Bool) (o : Option ℕ) → Below (length w) o → Below (suc (length w)) (cond b (some 0) (onward o))
-    go true o h = omega arith
-    go false none h = tt
-    go false (some k) h = omega arith
-
-pub rightmost-below : (a : ℕ) (w : List ℕ) → Below (length w) (rightmost a w)
-rightmost-below a [] = tt
-rightmost-below a (x ∷ w) = go (eqb x a) (rightmost a w) (rightmost-below a w)
-  where
-    go : (b : Bool) (o : Option ℕ) → Below (length w) o → Below (suc (length w)) (orHere b o)
-    go true none h = omega arith
-    go false none h = tt
-    go b (some k) h = omega arith
 
 -- ---- the leftmost place
 

@@ -29,7 +29,7 @@ use Rattle.refusals.specs.Said.{saidRefusal, saidVerdict}
 use Rattle.refusals.specs.declared.refusal.Refusal.{Refusal}
 use Rattle.refusals.specs.declared.answers.Verdict.{Verdict}
 use Rattle.refusals.specs.declared.answers.Verdict.the-variants.{Passed, Refused}
-use Rattle.operators.specs.Targets.{sideOf, moveOf, targetBy, targetOf, noPlace, target-lacking, TargetWithin, target-within}
+use Rattle.operators.specs.Targets.{sideOf, moveBy, targetBy, targetOf, noPlace, target-lacking, TargetWithin, target-within}
 use Rattle.operators.specs.declared.changes.Side.{Side as Chosen}
 use Rattle.operators.specs.declared.changes.Target.{Target}
 use Rattle.operators.specs.declared.changes.Target.the-variants.{At, Inverted, Missing}
@@ -136,18 +136,18 @@ module _ {v : Verdict} (n i : ℕ) (e : saidVerdict v ≡ first (changeJudgement
       go (rank, (index, t)) = index-small n i rank index
 
   -- which refuses, and nothing changes,
-  pub change-refused : (s : Chosen) (b : Bool) (w : List ℕ) (r : Refusal) → v ≡ Refused r → (saidRefusal r, w) ≡ moveLettersRun n (moveOf s i) b w
+  pub change-refused : (s : Chosen) (b : Bool) (w : List ℕ) (r : Refusal) → v ≡ Refused r → (saidRefusal r, w) ≡ moveLettersRun n (moveBy s i) b w
   unfolding moveLettersRun
-  change-refused s b w r q = run-stopped (changeJudgements n i) (targetJudgements (moveOf s i) b w) _ (orSame (moved b (moveOf s i) w) w) w r e q
+  change-refused s b w r q = run-stopped (changeJudgements n i) (targetJudgements (moveBy s i) b w) _ (orSame (moved b (moveBy s i) w) w) w r e q
 
   -- or passes, and the move is as its target tells.
   pub change-passed : {t : Target} {r : Said × List ℕ} (s : Chosen) (b : Bool) (w : List ℕ) → v ≡ Passed → t ≡ targetOf b (sideOf s) i w
-      → r ≡ moveRan t (given (sideOf s) i) w → r ≡ moveLettersRun n (moveOf s i) b w
+      → r ≡ moveRan t (given (sideOf s) i) w → r ≡ moveLettersRun n (moveBy s i) b w
   unfolding moveLettersRun
   change-passed s b w q f h =
-      let told : Said = gives (placeTold (changedPlace b (moveOf s i) w)) in
-      let past = first-past (changeJudgements n i) (targetJudgements (moveOf s i) b w) told (all-passing (changeJudgements n i) e q) in
-      h ∙ rw (f, past) (sym (ran-moved (moveOf s i) b w))
+      let told : Said = gives (placeTold (changedPlace b (moveBy s i) w)) in
+      let past = first-past (changeJudgements n i) (targetJudgements (moveBy s i) b w) told (all-passing (changeJudgements n i) e q) in
+      h ∙ rw (f, past) (sym (ran-moved (moveBy s i) b w))
 
 pub ruleset changing = (target-within, stored-within, stored, stopped, lacking, passed-index, small-byte, change-refused, change-passed, needs)
 
@@ -155,7 +155,7 @@ pub ruleset changing = (target-within, stored-within, stored, stopped, lacking, 
 
 -- Without an inversion one for each letter that the move takes.
 pub all-repeated : {b : Bool} {a k : ℕ} (s : Chosen) (i : ℕ) (w : List ℕ) → b ≡ false → a ≡ taken (sideOf s) i → k ≡ count a w
-    → k ≡ remaining (moveOf s i) b w
+    → k ≡ remaining (moveBy s i) b w
 all-repeated s i w f h c = c ∙ rw (f, h)
 
 -- What is said past 1 and 2: what 1 and 9 say, or else the count.
@@ -175,17 +175,17 @@ module _ {u : Verdict} (n : ℕ) (w : List ℕ) (d : saidVerdict u ≡ first (li
   passed-length p = length-judged (length w) .0 (all-passing (limitsJudgements n w) d p .1 .0)
 
   -- which refuses,
-  pub count-refused : (i : ℕ) (s : Chosen) (b : Bool) (r : Refusal) → u ≡ Refused r → saidRefusal r ≡ repeatLettersSays n (moveOf s i) b w
+  pub count-refused : (i : ℕ) (s : Chosen) (b : Bool) (r : Refusal) → u ≡ Refused r → saidRefusal r ≡ repeatLettersSays n (moveBy s i) b w
   unfolding repeatLettersSays
   count-refused i s b r q =
-      sym (first-append (limitsJudgements n w) (indexJudged n i ∷ []) (gives (remaining (moveOf s i) b w ∷ [])) ∙ rw (← d, q))
+      sym (first-append (limitsJudgements n w) (indexJudged n i ∷ []) (gives (remaining (moveBy s i) b w ∷ [])) ∙ rw (← d, q))
 
   -- or passes, and then that of 1 and 9.
   module _ {v : Verdict} (i : ℕ) (p : u ≡ Passed) (e : saidVerdict v ≡ first (changeJudgements n i) passed) where
-    pub count-stopped : (s : Chosen) (b : Bool) (r : Refusal) → v ≡ Refused r → saidRefusal r ≡ repeatLettersSays n (moveOf s i) b w
-    count-stopped s b r q = sym (says-index n (moveOf s i) b w (all-passing (limitsJudgements n w) d p) ∙ rw (← e, q))
+    pub count-stopped : (s : Chosen) (b : Bool) (r : Refusal) → v ≡ Refused r → saidRefusal r ≡ repeatLettersSays n (moveBy s i) b w
+    count-stopped s b r q = sym (says-index n (moveBy s i) b w (all-passing (limitsJudgements n w) d p) ∙ rw (← e, q))
 
-    pub count-passed : {k : ℕ} (s : Chosen) (b : Bool) → v ≡ Passed → k ≡ remaining (moveOf s i) b w → gives (k ∷ []) ≡ repeatLettersSays n (moveOf s i) b w
-    count-passed s b q h = rw h (sym (says-index n (moveOf s i) b w (all-passing (limitsJudgements n w) d p) ∙ rw (← e, q)))
+    pub count-passed : {k : ℕ} (s : Chosen) (b : Bool) → v ≡ Passed → k ≡ remaining (moveBy s i) b w → gives (k ∷ []) ≡ repeatLettersSays n (moveBy s i) b w
+    count-passed s b q h = rw h (sym (says-index n (moveBy s i) b w (all-passing (limitsJudgements n w) d p) ∙ rw (← e, q)))
 
 pub ruleset recurring = (all-repeated, passed-length, passed-index, small-byte, count-refused, count-stopped, count-passed, needs)

@@ -21,7 +21,7 @@ use Rattle.refusals.specs.declared.answers.Verdict.{Verdict}
 use Rattle.refusals.specs.declared.answers.Verdict.the-variants.{Passed, Refused}
 use Rattle.operators.specs.Changes.{targetJudgements, moveLettersRun, repeatLettersSays, index-small, small-byte, move-on, repeat-on}
 use Rattle.occurrences.specs.Places.{standsLeft, inversion-places}
-use Rattle.operators.specs.Targets.{moveOf}
+use Rattle.operators.specs.Targets.{moveBy}
 use Rattle.operators.specs.declared.changes.Side.{Side as Chosen}
 
 -- ---- the inversion
@@ -43,27 +43,27 @@ module _ {v : Verdict} (n i : ℕ) (w : List ℕ) (e : saidVerdict v ≡ checksT
   passed-index q = judged q .1
 
   -- which refuses, and nothing changes,
-  pub move-refused : (s : Chosen) (r : Refusal) → v ≡ Refused r → (saidRefusal r, w) ≡ moveWordRun n (moveOf s i) w
+  pub move-refused : (s : Chosen) (r : Refusal) → v ≡ Refused r → (saidRefusal r, w) ≡ moveWordRun n (moveBy s i) w
   unfolding moveWordRun moveWordSays checksThen
   move-refused s r q =
-      run-stopped (wordJudgements n w ++ (indexJudged n i ∷ [])) (targetJudgements (moveOf s i) (inverted i w) w) _
-      (orSame (movedWord (moveOf s i) w) w) w r e q
+      run-stopped (wordJudgements n w ++ (indexJudged n i ∷ [])) (targetJudgements (moveBy s i) (inverted i w) w) _
+      (orSame (movedWord (moveBy s i) w) w) w r e q
 
-  pub repeat-refused : (s : Chosen) (r : Refusal) → v ≡ Refused r → saidRefusal r ≡ repeatWordSays n (moveOf s i) w
+  pub repeat-refused : (s : Chosen) (r : Refusal) → v ≡ Refused r → saidRefusal r ≡ repeatWordSays n (moveBy s i) w
   unfolding repeatWordSays checksThen
   repeat-refused s r q =
-      sym (first-append (wordJudgements n w ++ (indexJudged n i ∷ [])) [] (gives (repeatWord (moveOf s i) w ∷ [])) ∙ rw (← e, q))
+      sym (first-append (wordJudgements n w ++ (indexJudged n i ∷ [])) [] (gives (repeatWord (moveBy s i) w ∷ [])) ∙ rw (← e, q))
 
   -- or passes, and the letters are moved or counted as the inversion tells.
-  pub move-passed : {b : Bool} {r : Said × List ℕ} (s : Chosen) → v ≡ Passed → b ≡ inverted i w → r ≡ moveLettersRun n (moveOf s i) b w
-      → r ≡ moveWordRun n (moveOf s i) w
+  pub move-passed : {b : Bool} {r : Said × List ℕ} (s : Chosen) → v ≡ Passed → b ≡ inverted i w → r ≡ moveLettersRun n (moveBy s i) b w
+      → r ≡ moveWordRun n (moveBy s i) w
   unfolding moveWordRun moveWordSays
-  move-passed s q f h = h ∙ rw f (move-on n (moveOf s i) (inverted i w) w (lettersJudged n w ∷ []) (judged q .0))
+  move-passed s q f h = h ∙ rw f (move-on n (moveBy s i) (inverted i w) w (lettersJudged n w ∷ []) (judged q .0))
 
-  pub repeat-passed : {b : Bool} {r : Said} (s : Chosen) → v ≡ Passed → b ≡ inverted i w → r ≡ repeatLettersSays n (moveOf s i) b w
-      → r ≡ repeatWordSays n (moveOf s i) w
+  pub repeat-passed : {b : Bool} {r : Said} (s : Chosen) → v ≡ Passed → b ≡ inverted i w → r ≡ repeatLettersSays n (moveBy s i) b w
+      → r ≡ repeatWordSays n (moveBy s i) w
   unfolding repeatWordSays repeatWord
-  repeat-passed s q f h = h ∙ rw f (repeat-on n (moveOf s i) (inverted i w) w (lettersJudged n w ∷ []) (judged q .0))
+  repeat-passed s q f h = h ∙ rw f (repeat-on n (moveBy s i) (inverted i w) w (lettersJudged n w ∷ []) (judged q .0))
 
 pub ruleset moving = (passed-index, small-byte, move-refused, move-passed, needs)
 

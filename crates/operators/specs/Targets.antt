@@ -1,5 +1,5 @@
 -- The place that a move changes in letters, or why there is none, b telling whether there is an inversion.
---     sideOf s             the side of the written meaning; moveOf s i the move
+--     sideOf s             the side of the written meaning; moveBy s i the move
 --     foundTarget o        a place, if there is one
 --     targetBy b o         the same unless there is an inversion
 --     targetOf b s i w     the place that the move changes in the letters w
@@ -20,7 +20,8 @@ use borrow.Author.Needs.{needs}
 use borrow.Author.Tests.{ne-eqb}
 use Rattle.hypoplactic.specs.Words.{tick, count}
 use Rattle.hypoplactic.specs.Moves.{Side, raising, lowering, Move, taken, given, onward, leftmost, orHere, rightmost, target}
-use Rattle.occurrences.specs.Places.{foundPlace, Below, leftmost-below, rightmost-below}
+use Rattle.hypoplactic.proofs.Theory.Targets.{Below, target-below}
+use Rattle.occurrences.specs.Places.{foundPlace}
 use Rattle.occurrences.specs.declared.places.Found.{Found}
 use Rattle.occurrences.specs.declared.places.Found.the-variants as found
 use Rattle.operators.specs.declared.changes.Side.{Side as Chosen}
@@ -34,8 +35,8 @@ sideOf Raising = raising
 sideOf Lowering = lowering
 
 -- The move of the written meaning.
-abbrev pub moveOf : Chosen → ℕ → Move
-moveOf s i = record { side = sideOf s; index = i }
+abbrev pub moveBy : Chosen → ℕ → Move
+moveBy s i = record { side = sideOf s; index = i }
 
 -- A place, if there is one.
 abbrev pub foundTarget : Option ℕ → Target
@@ -57,10 +58,6 @@ TargetWithin n Inverted = Unit {0}
 TargetWithin n Missing = Unit {0}
 
 -- ---- where it lies
-
-target-below : (s : Side) (i : ℕ) (w : List ℕ) → Below (length w) (target s i w)
-target-below raising i w = leftmost-below (suc i) w
-target-below lowering i w = rightmost-below i w
 
 -- The place to change is one of the letters'.
 pub target-within : {t : Target} (b : Bool) (s : Side) (i : ℕ) (w : List ℕ) → t ≡ targetOf b s i w → TargetWithin (length w) t

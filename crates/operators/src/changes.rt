@@ -20,7 +20,7 @@ ghost use Rattle.hypoplactic.specs.Replies.{first, passed};
 ghost use Rattle.refusals.specs.Said.{saidMove, saidRepeat, saidVerdict};
 ghost use Rattle.operators.specs.Changes.{changeJudgements, moveLettersRun, moveRan, repeatLettersSays};
 ghost use Rattle.occurrences.specs.Places.{foundPlace};
-ghost use Rattle.operators.specs.Targets.{TargetWithin, foundTarget, moveOf, sideOf, targetOf};
+ghost use Rattle.operators.specs.Targets.{TargetWithin, foundTarget, moveBy, sideOf, targetOf};
 
 // Raising turns an i+1 into i, lowering an i into i+1.
 pub enum Side {
@@ -111,7 +111,7 @@ pub fn move_letters(
     inversion: bool,
     letters: &mut [u8],
 ) -> Move
-    ensures { λ r. ⌜ (saidMove r, now (letters .exit)) ≡ moveLettersRun rank (moveOf side index) inversion (now (letters .entry)) ⌝ }
+    ensures { λ r. ⌜ (saidMove r, now (letters .exit)) ≡ moveLettersRun rank (moveBy side index) inversion (now (letters .entry)) ⌝ }
 {
     if let Verdict::Refused(refusal) = check_change(rank, index) {
         return Move::Refused(refusal);
@@ -124,7 +124,7 @@ pub fn move_letters(
 // The repeat count past the checks: none under an inversion, else one for each letter that the move could change.
 fn repeats_of(side: Side, index: u8, inversion: bool, letters: &[u8]) -> usize
     requires { ⌜ index < 64 ⌝ }
-    ensures { λ r. ⌜ r ≡ remaining (moveOf side index) inversion (now (letters .entry)) ⌝ }
+    ensures { λ r. ⌜ r ≡ remaining (moveBy side index) inversion (now (letters .entry)) ⌝ }
 {
     if inversion {
         return 0;
@@ -140,7 +140,7 @@ pub fn repeat_letters(
     inversion: bool,
     letters: &[u8],
 ) -> Repeat
-    ensures { λ r. ⌜ saidRepeat r ≡ repeatLettersSays rank (moveOf side index) inversion (now (letters .entry)) ⌝ }
+    ensures { λ r. ⌜ saidRepeat r ≡ repeatLettersSays rank (moveBy side index) inversion (now (letters .entry)) ⌝ }
 {
     if let Verdict::Refused(refusal) = check_limits(rank, letters.len()) {
         return Repeat::Refused(refusal);

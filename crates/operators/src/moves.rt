@@ -20,7 +20,7 @@ ghost use Rattle.hypoplactic.specs.Moves.{inverted, lowering, raising};
 ghost use Rattle.hypoplactic.specs.WordOperations.{moveWordRun, repeatWordSays};
 ghost use Rattle.refusals.specs.Running.{checksThen};
 ghost use Rattle.refusals.specs.Said.{saidMove, saidRepeat, saidVerdict};
-ghost use Rattle.operators.specs.Targets.{moveOf};
+ghost use Rattle.operators.specs.Targets.{moveBy};
 
 // 1, 2, 4 and 9: what a move and a repeat count check first.
 fn check_move(rank: usize, index: usize, word: &[u8]) -> Verdict
@@ -39,7 +39,7 @@ fn has_inversion(index: u8, word: &[u8]) -> bool
 
 // The move of either side, in the lent letters.
 pub fn move_word(side: Side, rank: usize, index: usize, word: &mut [u8]) -> Move
-    ensures { λ r. ⌜ (saidMove r, now (word .exit)) ≡ moveWordRun rank (moveOf side index) (now (word .entry)) ⌝ }
+    ensures { λ r. ⌜ (saidMove r, now (word .exit)) ≡ moveWordRun rank (moveBy side index) (now (word .entry)) ⌝ }
 {
     if let Verdict::Refused(refusal) = check_move(rank, index, word) {
         return Move::Refused(refusal);
@@ -64,7 +64,7 @@ pub fn lower_word(rank: usize, index: usize, word: &mut [u8]) -> Move
 
 // How often the move of either side can be made, one after the other.
 pub fn repeat_word(side: Side, rank: usize, index: usize, word: &[u8]) -> Repeat
-    ensures { λ r. ⌜ saidRepeat r ≡ repeatWordSays rank (moveOf side index) (now (word .entry)) ⌝ }
+    ensures { λ r. ⌜ saidRepeat r ≡ repeatWordSays rank (moveBy side index) (now (word .entry)) ⌝ }
 {
     if let Verdict::Refused(refusal) = check_move(rank, index, word) {
         return Repeat::Refused(refusal);

@@ -15,7 +15,7 @@ ghost use mathlib.Core.Path.{_≡_};
 ghost use Rattle.refusals.specs.Said.{saidCell, saidClass, saidJunctions, saidMove, saidRefusal, saidWeights};
 ghost use Rattle.structs.specs.Replies.{cellOf, classOf, junctionOf, moveOf, orderOf};
 
-// A refusal of a move: the values are 0.
+// A refusal of a move: no place was changed, and that field is 0.
 fn move_refused(refusal: Refusal) -> MoveReply
     ensures { λ r. ⌜ r ≡ moveOf (saidRefusal refusal) ⌝ }
 {

@@ -8,7 +8,7 @@ pub struct DoneReply {
     pub place: usize,
 }
 
-// A move that was made: the place that it changed. Place is that of a refusal, and so 0.
+// A move: `changed` is the place that it changed, 0 after a refusal; `place` is the refusal's, 0 where the move was made.
 #[repr(C)]
 pub struct MoveReply {
     pub number: usize,

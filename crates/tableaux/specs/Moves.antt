@@ -32,7 +32,7 @@ use Rattle.refusals.specs.declared.refusal.Refusal.{Refusal}
 use Rattle.refusals.specs.declared.answers.Verdict.{Verdict}
 use Rattle.refusals.specs.declared.answers.Verdict.the-variants.{Passed, Refused}
 use Rattle.operators.specs.Changes.{moveLettersRun, repeatLettersSays, move-on, repeat-on}
-use Rattle.operators.specs.Targets.{moveOf}
+use Rattle.operators.specs.Targets.{moveBy}
 use Rattle.operators.specs.declared.changes.Side.{Side as Chosen}
 
 -- ---- one step
@@ -112,26 +112,26 @@ laterJudgements n xs ms = alikeJudged (length xs) (length ms ∷ []) ∷ letters
 -- The verdict of the tableau's checks,
 module _ {v : Verdict} (n i : ℕ) (xs ms : List ℕ) (e : saidVerdict v ≡ first (tableauJudgements n xs ms) passed) where
   -- which refuses, and nothing changes,
-  pub move-refused : (s : Chosen) (r : Refusal) → v ≡ Refused r → (saidRefusal r, xs) ≡ moveTableauRun n (moveOf s i) xs ms
+  pub move-refused : (s : Chosen) (r : Refusal) → v ≡ Refused r → (saidRefusal r, xs) ≡ moveTableauRun n (moveBy s i) xs ms
   unfolding moveTableauRun moveTableauSays
   move-refused s r q =
-      run-stopped (tableauJudgements n xs ms) (moveJudgements n (moveOf s i) (below i xs ms) xs) _ (orSame (movedTableau (moveOf s i) xs ms) xs) xs r e q
+      run-stopped (tableauJudgements n xs ms) (moveJudgements n (moveBy s i) (below i xs ms) xs) _ (orSame (movedTableau (moveBy s i) xs ms) xs) xs r e q
 
-  pub repeat-refused : (s : Chosen) (r : Refusal) → v ≡ Refused r → saidRefusal r ≡ repeatTableauSays n (moveOf s i) xs ms
+  pub repeat-refused : (s : Chosen) (r : Refusal) → v ≡ Refused r → saidRefusal r ≡ repeatTableauSays n (moveBy s i) xs ms
   unfolding repeatTableauSays
   repeat-refused s r q =
-      sym (first-append (tableauJudgements n xs ms) (indexJudged n i ∷ []) (gives (repeatTableau (moveOf s i) xs ms ∷ [])) ∙ rw (← e, q))
+      sym (first-append (tableauJudgements n xs ms) (indexJudged n i ∷ []) (gives (repeatTableau (moveBy s i) xs ms ∷ [])) ∙ rw (← e, q))
 
   -- or passes, and the letters are moved or counted as the inversion tells.
-  pub move-passed : {b : Bool} {r : Said × List ℕ} (s : Chosen) → v ≡ Passed → b ≡ below i xs ms → r ≡ moveLettersRun n (moveOf s i) b xs
-      → r ≡ moveTableauRun n (moveOf s i) xs ms
+  pub move-passed : {b : Bool} {r : Said × List ℕ} (s : Chosen) → v ≡ Passed → b ≡ below i xs ms → r ≡ moveLettersRun n (moveBy s i) b xs
+      → r ≡ moveTableauRun n (moveBy s i) xs ms
   unfolding moveTableauRun moveTableauSays
-  move-passed s q f h = h ∙ rw f (move-on n (moveOf s i) (below i xs ms) xs (laterJudgements n xs ms) (all-passing (tableauJudgements n xs ms) e q))
+  move-passed s q f h = h ∙ rw f (move-on n (moveBy s i) (below i xs ms) xs (laterJudgements n xs ms) (all-passing (tableauJudgements n xs ms) e q))
 
-  pub repeat-passed : {b : Bool} {r : Said} (s : Chosen) → v ≡ Passed → b ≡ below i xs ms → r ≡ repeatLettersSays n (moveOf s i) b xs
-      → r ≡ repeatTableauSays n (moveOf s i) xs ms
+  pub repeat-passed : {b : Bool} {r : Said} (s : Chosen) → v ≡ Passed → b ≡ below i xs ms → r ≡ repeatLettersSays n (moveBy s i) b xs
+      → r ≡ repeatTableauSays n (moveBy s i) xs ms
   unfolding repeatTableauSays repeatTableau
-  repeat-passed s q f h = h ∙ rw f (repeat-on n (moveOf s i) (below i xs ms) xs (laterJudgements n xs ms) (all-passing (tableauJudgements n xs ms) e q))
+  repeat-passed s q f h = h ∙ rw f (repeat-on n (moveBy s i) (below i xs ms) xs (laterJudgements n xs ms) (all-passing (tableauJudgements n xs ms) e q))
 
 pub ruleset moving = (move-refused, move-passed, needs)
 

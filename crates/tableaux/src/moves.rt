@@ -16,7 +16,7 @@ ghost use lib.Dec.{eqb};
 ghost use Rattle.hypoplactic.specs.Moves.{below, fromTo, lowering, raising};
 ghost use Rattle.hypoplactic.specs.TableauOperations.{moveTableauRun, repeatTableauSays};
 ghost use Rattle.refusals.specs.Said.{saidMove, saidRepeat};
-ghost use Rattle.operators.specs.Targets.{moveOf};
+ghost use Rattle.operators.specs.Targets.{moveBy};
 
 // Whether both of two tests pass. Each is made before either is looked at.
 fn both(one: bool, other: bool) -> bool
@@ -65,7 +65,7 @@ fn has_below(index: usize, letters: &[u8], marks: &[u8]) -> bool
 
 // The move of either side, in the lent letters.
 pub fn move_tableau(side: Side, rank: usize, index: usize, letters: &mut [u8], marks: &[u8]) -> Move
-    ensures { λ r. ⌜ (saidMove r, now (letters .exit)) ≡ moveTableauRun rank (moveOf side index) (now (letters .entry)) (now (marks .entry)) ⌝ }
+    ensures { λ r. ⌜ (saidMove r, now (letters .exit)) ≡ moveTableauRun rank (moveBy side index) (now (letters .entry)) (now (marks .entry)) ⌝ }
 {
     let verdict = check_tableau(rank, letters, marks);
     if let Verdict::Refused(refusal) = verdict {
@@ -95,7 +95,7 @@ pub fn lower_tableau(rank: usize, index: usize, letters: &mut [u8], marks: &[u8]
 
 // How often the move of either side can be made, one after the other.
 pub fn repeat_tableau(side: Side, rank: usize, index: usize, letters: &[u8], marks: &[u8]) -> Repeat
-    ensures { λ r. ⌜ saidRepeat r ≡ repeatTableauSays rank (moveOf side index) (now (letters .entry)) (now (marks .entry)) ⌝ }
+    ensures { λ r. ⌜ saidRepeat r ≡ repeatTableauSays rank (moveBy side index) (now (letters .entry)) (now (marks .entry)) ⌝ }
 {
     if let Verdict::Refused(refusal) = check_tableau(rank, letters, marks) {
         return Repeat::Refused(refusal);

@@ -69,7 +69,7 @@ given-taken : (s : Side) (i : ℕ) → given s i ≢ taken s i
 given-taken raising i e = omega arith
 given-taken lowering i e = omega arith
 
--- Two words of one recording ribbon, whose letters in the tableau differ at c, differ at the place that the entry of c tells.
+-- A move that changes the place p of a word and the cell c of its tableau.
 module _ (m : Move) (w : List ℕ) (p c : ℕ) (e : changedPlace (inverted (m .index) w) m w ≡ some p)
     (f : changedPlace (below (m .index) (lettersOf w) (marksOf w)) m (lettersOf w) ≡ some c) where
   abbrev new : ℕ
@@ -84,21 +84,21 @@ module _ (m : Move) (w : List ℕ) (p c : ℕ) (e : changedPlace (inverted (m .i
   made : movedWord m w ≡ some v
   made = ap (replaced new w) e
 
-  same-letters : lettersOf v ≡ set (lettersOf w) c new
-  same-letters = let h : some (set (lettersOf w) c new) ≡ some (lettersOf v) = sym (ap (replaced new (lettersOf w)) f) ∙ tableau-moved m w v made in cc
+  moved-letters : lettersOf v ≡ set (lettersOf w) c new
+  moved-letters = let h : some (set (lettersOf w) c new) ≡ some (lettersOf v) = sym (ap (replaced new (lettersOf w)) f) ∙ tableau-moved m w v made in cc
 
   cell-changed : entry ≡ suc p
   cell-changed =
-      let (inside, held, foremost) = changed-held (below (m .index) (lettersOf w) (marksOf w)) m (lettersOf w) c f in
-      let as-recording : length (recordingOf w) ≡ length (lettersOf w) = length-recording w ∙ sym (length-letters w) in
+      let (inside, held, none-past) = changed-held (below (m .index) (lettersOf w) (marksOf w)) m (lettersOf w) c f in
+      let one-length : length (recordingOf w) ≡ length (lettersOf w) = length-recording w ∙ sym (length-letters w) in
       let once = pair-valid w .recording .once in
       let (low, high) = within-at (length (recordingOf w)) (recordingOf w) c (once-entries (recordingOf w) .0 once .0) (omega arith) in
       let one : count entry (recordingOf w) ≡ 1 = once entry low high in
-      go (entry - 1) (omega arith) inside held as-recording one high
+      go (entry - 1) (omega arith) inside held one-length one high
     where
       go : (k : ℕ) → entry ≡ suc k → c < length (lettersOf w) → getD (lettersOf w) c 0 ≡ taken (m .side) (m .index)
           → length (recordingOf w) ≡ length (lettersOf w) → count entry (recordingOf w) ≡ 1 → entry ≤ length (recordingOf w) → entry ≡ suc p
-      go k is inside held as-recording one high = is ∙ ap suc (decided (eqb k p) refl)
+      go k is inside held one-length one high = is ∙ ap suc (decided (eqb k p) refl)
         where
           -- The word's letter there is the one taken, the moved word's the one given.
           before : getD w k 0 ≡ taken (m .side) (m .index)
@@ -108,7 +108,7 @@ module _ (m : Move) (w : List ℕ) (p c : ℕ) (e : changedPlace (inverted (m .i
 
           after : getD v k 0 ≡ new
           after =
-              ap (λ (u : List ℕ). getD u k 0) (sym (word-of-pair v)) ∙ rw (same-letters, move-recording m w v made .0)
+              ap (λ (u : List ℕ). getD u k 0) (sym (word-of-pair v)) ∙ rw (moved-letters, move-recording m w v made .0)
               (word-at (set (lettersOf w) c new) (recordingOf w) k (rw (length-set (lettersOf w) c new) (omega arith))
               ∙ rw (← is) (letter-at (set (lettersOf w) c new) (recordingOf w) c (rw (length-set (lettersOf w) c new) inside) (omega arith) one)
               ∙ getD-set-same (lettersOf w) c new 0 inside)

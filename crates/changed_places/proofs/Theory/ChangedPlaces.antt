@@ -1,37 +1,39 @@
 -- The place that a move replies (document 02, N3): inside, where the letter taken stood, the leftmost such place for raising and the rightmost for lowering.
---     Held s a w o         what a place o of the letter a in w is: the foremost one from the side s; where there is none, a stands nowhere
+--     Held s a w o         the letter a stands at the place o of w, and at none past it; where there is no o, it stands nowhere
 --     leftmost-first       the leftmost a has no a left of it
 --     rightmost-last       the rightmost a has no a right of it
 --     changed-held         the place that a move changes, whatever tells of an inversion
---     word-changing        every move on a word that gives values is Changing, whatever the rank and the word
---     tableau-changing     every move on a tableau that gives values is
+--     word-moved-at        every move on a word that gives values is MovedAt, whatever the rank and the word
+--     tableau-moved-at     every move on a tableau that gives values is
+--     word-made, word-unmade           a move on an accepted word that is defined replies a place and leaves its result; else it is refused
+--     tableau-made, tableau-unmade     so does one on a tableau within the limits
 -- Assumes nothing.
 use Prim.Native.Nat.{ℕ, zero, suc, _<_}
 use native.Mathlib.Omega.{arith}
-use mathlib.Core.Path.{_≡_, refl, subst}
+use mathlib.Core.Path.{_≡_, refl, sym, subst, _∙_}
 use mathlib.Core.Logic.{_≢_}
 use mathlib.Core.Bool.{Bool, true, false, cond}
 use mathlib.Core.Option.{Option, none, some, Option·none-ne-some}
 use mathlib.Core.List.{List, [], _∷_}
 use lib.Dec.{eqb}
-use lib.ListN.{length, getD}
+use lib.ListN.{length, getD, set}
 use borrow.Author.Tests.{eqb-true, eqb-false}
 use Rattle.hypoplactic.specs.Words.{Accepted}
 use Rattle.hypoplactic.specs.Ribbons.{TableauAt}
-use Rattle.hypoplactic.specs.Moves.{Side, raising, lowering, Move, taken, onward, leftmost, orHere, rightmost, target, changedPlace, inverted, below, guarded, placeInWord, placeInTableau}
-use Rattle.hypoplactic.specs.Replies.{Said, Passes}
+use Rattle.hypoplactic.specs.Moves.{Side, raising, lowering, Move, taken, onward, leftmost, orHere, rightmost, target, changedPlace, inverted, below, guarded, moveTableau, moveWord, placeInWord, placeInTableau, replaced}
+use Rattle.hypoplactic.specs.Replies.{Said, gives, refused, Passes}
 use Rattle.hypoplactic.specs.Judgements.{tableauJudgements, wordJudgements}
-use Rattle.hypoplactic.specs.WordOperations.{moveJudgements, moveWordRun, moveWordSays}
+use Rattle.hypoplactic.specs.WordOperations.{moveJudgements, moveWordRun, moveWordSays, undefinedBy}
 use Rattle.hypoplactic.specs.TableauOperations.{moveTableauRun, moveTableauSays}
-use Rattle.changed_places.specs.ChangedPlaces.{Past, Changing}
+use Rattle.changed_places.specs.ChangedPlaces.{Past, MovedAt}
 use Rattle.hypoplactic.proofs.Theory.Closure.{unguarded}
 use Rattle.hypoplactic.proofs.Theory.Judged.{tableau-passing, word-passing}
-use Rattle.hypoplactic.proofs.Theory.MoveResults.{move-tableau-made, move-tableau-refused, move-word-made, move-word-refused}
+use Rattle.hypoplactic.proofs.Theory.MoveResults.{move-replaced, move-tableau-made, move-tableau-refused, move-word-made, move-word-refused}
 use Rattle.hypoplactic.proofs.Theory.Passing.{passing-before}
 
 -- ---- the leftmost and the rightmost
 
--- Nowhere, or foremost from this side.
+-- Nowhere, or at this place and not past it.
 abbrev pub Held : Side → ℕ → List ℕ → Option ℕ → Type 0
 Held s a w none = (q : ℕ) → q < length w → getD w q 0 ≢ a
 Held s a w (some p) = (p < length w) × (getD w p 0 ≡ a) × ((q : ℕ) → q < length w → Past s p q → getD w q 0 ≢ a)
@@ -86,29 +88,62 @@ guarded-held n b m w p e = changed-held b m w p (unguarded n m (changedPlace b m
 -- ---- the replies
 
 -- A move on a word that is not refused.
-pub word-changing : (n : ℕ) (m : Move) (w : List ℕ) → Passes ((moveWordRun n m w) .0) → Changing m w (moveWordRun n m w)
+pub word-moved-at : (n : ℕ) (m : Move) (w : List ℕ) → Passes ((moveWordRun n m w) .0) → MovedAt m w (moveWordRun n m w)
 unfolding moveWordRun moveWordSays
-word-changing n m w h = go (placeInWord n m w) refl
+word-moved-at n m w h = go (placeInWord n m w) refl
   where
     a : Accepted n w
     a = word-passing n w .0 (passing-before (wordJudgements n w) (moveJudgements n m (inverted (m .index) w) w) _ h)
 
-    go : (o : Option ℕ) → placeInWord n m w ≡ o → Changing m w (moveWordRun n m w)
+    go : (o : Option ℕ) → placeInWord n m w ≡ o → MovedAt m w (moveWordRun n m w)
     go none e = absurd (subst (λ (r : Said × List ℕ). Passes (r .0)) (move-word-refused n m w a e) h)
     go (some p) e =
-        let (inside, held, foremost) = guarded-held n (inverted (m .index) w) m w p e in
-        record { place = p; inside = inside; held = held; foremost = foremost; told = move-word-made n m w a p e }
+        let (inside, held, none-past) = guarded-held n (inverted (m .index) w) m w p e in
+        record { place = p; inside = inside; held = held; none-past = none-past; told = move-word-made n m w a p e }
 
 -- A move on a tableau that is not refused.
-pub tableau-changing : (n : ℕ) (m : Move) (xs ms : List ℕ) → Passes ((moveTableauRun n m xs ms) .0) → Changing m xs (moveTableauRun n m xs ms)
+pub tableau-moved-at : (n : ℕ) (m : Move) (xs ms : List ℕ) → Passes ((moveTableauRun n m xs ms) .0) → MovedAt m xs (moveTableauRun n m xs ms)
 unfolding moveTableauRun moveTableauSays
-tableau-changing n m xs ms h = go (placeInTableau n m xs ms) refl
+tableau-moved-at n m xs ms h = go (placeInTableau n m xs ms) refl
   where
     a : TableauAt n xs ms
     a = tableau-passing n xs ms .0 (passing-before (tableauJudgements n xs ms) (moveJudgements n m (below (m .index) xs ms) xs) _ h)
 
-    go : (o : Option ℕ) → placeInTableau n m xs ms ≡ o → Changing m xs (moveTableauRun n m xs ms)
+    go : (o : Option ℕ) → placeInTableau n m xs ms ≡ o → MovedAt m xs (moveTableauRun n m xs ms)
     go none e = absurd (subst (λ (r : Said × List ℕ). Passes (r .0)) (move-tableau-refused n m xs ms a e) h)
     go (some p) e =
-        let (inside, held, foremost) = guarded-held n (below (m .index) xs ms) m xs p e in
-        record { place = p; inside = inside; held = held; foremost = foremost; told = move-tableau-made n m xs ms a p e }
+        let (inside, held, none-past) = guarded-held n (below (m .index) xs ms) m xs p e in
+        record { place = p; inside = inside; held = held; none-past = none-past; told = move-tableau-made n m xs ms a p e }
+
+-- ---- from the definition of the move
+
+-- A result is the letters with another one at a place; without a result there is no place.
+placed : (a : ℕ) (w v : List ℕ) (o : Option ℕ) → replaced a w o ≡ some v → (p : ℕ) × (o ≡ some p) × (set w p a ≡ v)
+placed a w v none e = absurd (Option·none-ne-some v e)
+placed a w v (some p) e = (p, refl, cc)
+
+unplaced : (a : ℕ) (w : List ℕ) (o : Option ℕ) → replaced a w o ≡ none → o ≡ none
+unplaced a w none e = refl
+unplaced a w (some p) e = absurd (Option·none-ne-some (set w p a) (sym e))
+
+module _ (n : ℕ) (m : Move) (w : List ℕ) (a : Accepted n w) where
+  pub word-made : (v : List ℕ) → moveWord n m w ≡ some v → (p : ℕ) × (moveWordRun n m w ≡ (gives (p ∷ []), v))
+  unfolding moveWord
+  word-made v e =
+      let (p, is, same) = placed _ w v (placeInWord n m w) (sym (move-replaced n m (inverted (m .index) w) w) ∙ e) in
+      (p, move-word-made n m w a p is ∙ rw same)
+
+  pub word-unmade : moveWord n m w ≡ none → moveWordRun n m w ≡ (refused (undefinedBy n m (inverted (m .index) w)) 0, w)
+  unfolding moveWord
+  word-unmade e = move-word-refused n m w a (unplaced _ w (placeInWord n m w) (sym (move-replaced n m (inverted (m .index) w) w) ∙ e))
+
+module _ (n : ℕ) (m : Move) (xs ms : List ℕ) (h : TableauAt n xs ms) where
+  pub tableau-made : (ys : List ℕ) → moveTableau n m xs ms ≡ some ys → (c : ℕ) × (moveTableauRun n m xs ms ≡ (gives (c ∷ []), ys))
+  unfolding moveTableau
+  tableau-made ys e =
+      let (c, is, same) = placed _ xs ys (placeInTableau n m xs ms) (sym (move-replaced n m (below (m .index) xs ms) xs) ∙ e) in
+      (c, move-tableau-made n m xs ms h c is ∙ rw same)
+
+  pub tableau-unmade : moveTableau n m xs ms ≡ none → moveTableauRun n m xs ms ≡ (refused (undefinedBy n m (below (m .index) xs ms)) 0, xs)
+  unfolding moveTableau
+  tableau-unmade e = move-tableau-refused n m xs ms h (unplaced _ xs (placeInTableau n m xs ms) (sym (move-replaced n m (below (m .index) xs ms) xs) ∙ e))

@@ -32,7 +32,7 @@ use Rattle.words.specs.Given.{countGiven, junctionGiven}
 use Rattle.words.specs.Tables.{Table}
 use Rattle.fillings.specs.Filled.{filled}
 use Rattle.operators.specs.Changes.{moveLettersRun, repeatLettersSays}
-use Rattle.operators.specs.Targets.{moveOf}
+use Rattle.operators.specs.Targets.{moveBy}
 use Rattle.operators.specs.declared.changes.Side.the-variants.{Lowering, Raising}
 use Rattle.examples.specs.Shared.{sharedCases}
 
@@ -40,7 +40,7 @@ pub shared-pinned : map (λ (c : Case). c .meaning) sharedCases ≡ map (λ (c :
 unfolding sharedCases pushed wholeCells readHead readCounted number junctionSet rankJudged lengthJudged usedJudged lettersJudged risingJudged marksJudged entriesJudged recordingJudged indexJudged inversionJudged letterJudged fullJudged roomJudged checksThen countGiven junctionGiven filled layers moveLettersRun repeatLettersSays
 shared-pinned = refl
 
-pub sides-named : (i : ℕ) → (moveOf Raising i ≡ raise i) × (moveOf Lowering i ≡ lower i)
+pub sides-named : (i : ℕ) → (moveBy Raising i ≡ raise i) × (moveBy Lowering i ≡ lower i)
 sides-named i = (refl, refl)
 
 pub places-told : (k : ℕ) → (foundPlace (At k) ≡ some k) × (foundPlace Nothing ≡ none)

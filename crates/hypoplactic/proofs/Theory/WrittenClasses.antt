@@ -28,6 +28,7 @@ use Rattle.hypoplactic.proofs.Theory.Memory.{written-needed}
 use Rattle.hypoplactic.proofs.Theory.MoveResults.{move-replaced, move-word-made, move-word-refused, move-word-result}
 use Rattle.hypoplactic.proofs.Theory.Pairs.{length-recording}
 use Rattle.hypoplactic.proofs.Theory.Passing.{first-past}
+use Rattle.hypoplactic.proofs.Theory.Targets.{place-below}
 
 -- The bytes written are the tableau line.
 pub line-bytes : (n : ℕ) (w out : List ℕ) → Accepted n w → length (tableauLine n w) ≤ length out → lineBytes n w out ≡ tableauLine n w
@@ -88,7 +89,9 @@ module _ (n : ℕ) (u v : List ℕ) (a : Accepted n u) (b : Accepted n v) where
       go none none e f h = rw (move-word-refused n m u a e, move-word-refused n m v b f, number) (in-neither (undefinedBy n m (inverted (m .index) u)))
       go none (some q) e f h = absurd (h .1 tt)
       go (some p) none e f h = absurd (h .0 tt)
-      go (some p) (some q) e f h = rw (move-word-made n m u a p e, move-word-made n m v b q f) (in-both p q)
+      go (some p) (some q) e f h =
+          rw (move-word-made n m u a p e, move-word-made n m v b q f)
+          (in-both p q (place-below n m (inverted (m .index) u) u p e) (place-below n m (inverted (m .index) v) v q f))
 
   left-recording : (m : Move) → recordingOf (moveLeft n m u) ≡ recordingOf u
   left-recording m = rw (left-word n m u a) (go (moveWord n m u) refl)
