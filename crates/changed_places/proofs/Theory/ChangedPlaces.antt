@@ -20,7 +20,7 @@ use lib.ListN.{length, getD, set}
 use borrow.Author.Tests.{eqb-true, eqb-false}
 use Rattle.hypoplactic.specs.Words.{Accepted}
 use Rattle.hypoplactic.specs.Ribbons.{TableauAt}
-use Rattle.hypoplactic.specs.Moves.{Side, raising, lowering, Move, taken, onward, leftmost, orHere, rightmost, target, changedPlace, inverted, below, guarded, moveTableau, moveWord, placeInWord, placeInTableau, replaced}
+use Rattle.hypoplactic.specs.Moves.{Side, raising, lowering, Move, taken, onward, leftmost, orHere, rightmost, target, changedPlace, inverted, below, given, guarded, moveTableau, moveWord, moved, replaced}
 use Rattle.hypoplactic.specs.Replies.{Said, gives, refused, Passes}
 use Rattle.hypoplactic.specs.Judgements.{tableauJudgements, wordJudgements}
 use Rattle.hypoplactic.specs.WordOperations.{moveJudgements, moveWordRun, moveWordSays, undefinedBy}
@@ -80,42 +80,7 @@ changed-held false m w p e = subst (Held (m .side) (taken (m .side) (m .index)) 
     named raising i = leftmost-first (suc i) w
     named lowering i = rightmost-last i w
 
--- The same at a rank.
-guarded-held : (n : ℕ) (b : Bool) (m : Move) (w : List ℕ) (p : ℕ) → guarded n m (changedPlace b m w) ≡ some p
-    → Held (m .side) (taken (m .side) (m .index)) w (some p)
-guarded-held n b m w p e = changed-held b m w p (unguarded n m (changedPlace b m w) e)
-
 -- ---- the replies
-
--- A move on a word that is not refused.
-pub word-moved-at : (n : ℕ) (m : Move) (w : List ℕ) → Passes ((moveWordRun n m w) .0) → MovedAt m w (moveWordRun n m w)
-unfolding moveWordRun moveWordSays
-word-moved-at n m w h = go (placeInWord n m w) refl
-  where
-    a : Accepted n w
-    a = word-passing n w .0 (passing-before (wordJudgements n w) (moveJudgements n m (inverted (m .index) w) w) _ h)
-
-    go : (o : Option ℕ) → placeInWord n m w ≡ o → MovedAt m w (moveWordRun n m w)
-    go none e = absurd (subst (λ (r : Said × List ℕ). Passes (r .0)) (move-word-refused n m w a e) h)
-    go (some p) e =
-        let (inside, held, none-past) = guarded-held n (inverted (m .index) w) m w p e in
-        record { place = p; inside = inside; held = held; none-past = none-past; told = move-word-made n m w a p e }
-
--- A move on a tableau that is not refused.
-pub tableau-moved-at : (n : ℕ) (m : Move) (xs ms : List ℕ) → Passes ((moveTableauRun n m xs ms) .0) → MovedAt m xs (moveTableauRun n m xs ms)
-unfolding moveTableauRun moveTableauSays
-tableau-moved-at n m xs ms h = go (placeInTableau n m xs ms) refl
-  where
-    a : TableauAt n xs ms
-    a = tableau-passing n xs ms .0 (passing-before (tableauJudgements n xs ms) (moveJudgements n m (below (m .index) xs ms) xs) _ h)
-
-    go : (o : Option ℕ) → placeInTableau n m xs ms ≡ o → MovedAt m xs (moveTableauRun n m xs ms)
-    go none e = absurd (subst (λ (r : Said × List ℕ). Passes (r .0)) (move-tableau-refused n m xs ms a e) h)
-    go (some p) e =
-        let (inside, held, none-past) = guarded-held n (below (m .index) xs ms) m xs p e in
-        record { place = p; inside = inside; held = held; none-past = none-past; told = move-tableau-made n m xs ms a p e }
-
--- ---- from the definition of the move
 
 -- A result is the letters with another one at a place; without a result there is no place.
 placed : (a : ℕ) (w v : List ℕ) (o : Option ℕ) → replaced a w o ≡ some v → (p : ℕ) × (o ≡ some p) × (set w p a ≡ v)
@@ -126,24 +91,56 @@ unplaced : (a : ℕ) (w : List ℕ) (o : Option ℕ) → replaced a w o ≡ none
 unplaced a w none e = refl
 unplaced a w (some p) e = absurd (Option·none-ne-some (set w p a) (sym e))
 
+-- A run r of a move in the letters w, under the test b for an inversion, which goes by the place that the move changes at the rank.
+module _ (n : ℕ) (m : Move) (b : Bool) (w : List ℕ) (k : ℕ) (r : Said × List ℕ)
+    (goes : (p : ℕ) → guarded n m (changedPlace b m w) ≡ some p → r ≡ (gives (p ∷ []), set w p (given (m .side) (m .index))))
+    (stays : guarded n m (changedPlace b m w) ≡ none → r ≡ (refused k 0, w)) where
+  moved-at : Passes (r .0) → MovedAt m w r
+  moved-at h = go (guarded n m (changedPlace b m w)) refl
+    where
+      go : (o : Option ℕ) → guarded n m (changedPlace b m w) ≡ o → MovedAt m w r
+      go none e = absurd (subst (λ (r : Said × List ℕ). Passes (r .0)) (stays e) h)
+      go (some p) e =
+          let (inside, held, none-past) = changed-held b m w p (unguarded n m (changedPlace b m w) e) in
+          record { place = p; inside = inside; held = held; none-past = none-past; told = goes p e }
+
+  made : (v : List ℕ) → guarded n m (moved b m w) ≡ some v → (p : ℕ) × (r ≡ (gives (p ∷ []), v))
+  made v e =
+      let (p, is, same) = placed _ w v (guarded n m (changedPlace b m w)) (sym (move-replaced n m b w) ∙ e) in
+      (p, goes p is ∙ rw same)
+
+  unmade : guarded n m (moved b m w) ≡ none → r ≡ (refused k 0, w)
+  unmade e = stays (unplaced _ w (guarded n m (changedPlace b m w)) (sym (move-replaced n m b w) ∙ e))
+
+-- On a word: whatever it is,
+pub word-moved-at : (n : ℕ) (m : Move) (w : List ℕ) → Passes ((moveWordRun n m w) .0) → MovedAt m w (moveWordRun n m w)
+unfolding moveWordRun moveWordSays
+word-moved-at n m w h =
+    let a : Accepted n w = word-passing n w .0 (passing-before (wordJudgements n w) (moveJudgements n m (inverted (m .index) w) w) _ h) in
+    moved-at n m (inverted (m .index) w) w _ (moveWordRun n m w) (move-word-made n m w a) (move-word-refused n m w a) h
+
+-- and where it is accepted, by the definition of the move.
 module _ (n : ℕ) (m : Move) (w : List ℕ) (a : Accepted n w) where
   pub word-made : (v : List ℕ) → moveWord n m w ≡ some v → (p : ℕ) × (moveWordRun n m w ≡ (gives (p ∷ []), v))
   unfolding moveWord
-  word-made v e =
-      let (p, is, same) = placed _ w v (placeInWord n m w) (sym (move-replaced n m (inverted (m .index) w) w) ∙ e) in
-      (p, move-word-made n m w a p is ∙ rw same)
+  word-made = made n m (inverted (m .index) w) w _ (moveWordRun n m w) (move-word-made n m w a) (move-word-refused n m w a)
 
   pub word-unmade : moveWord n m w ≡ none → moveWordRun n m w ≡ (refused (undefinedBy n m (inverted (m .index) w)) 0, w)
   unfolding moveWord
-  word-unmade e = move-word-refused n m w a (unplaced _ w (placeInWord n m w) (sym (move-replaced n m (inverted (m .index) w) w) ∙ e))
+  word-unmade = unmade n m (inverted (m .index) w) w _ (moveWordRun n m w) (move-word-made n m w a) (move-word-refused n m w a)
 
-module _ (n : ℕ) (m : Move) (xs ms : List ℕ) (h : TableauAt n xs ms) where
+-- On a tableau likewise.
+pub tableau-moved-at : (n : ℕ) (m : Move) (xs ms : List ℕ) → Passes ((moveTableauRun n m xs ms) .0) → MovedAt m xs (moveTableauRun n m xs ms)
+unfolding moveTableauRun moveTableauSays
+tableau-moved-at n m xs ms h =
+    let a : TableauAt n xs ms = tableau-passing n xs ms .0 (passing-before (tableauJudgements n xs ms) (moveJudgements n m (below (m .index) xs ms) xs) _ h) in
+    moved-at n m (below (m .index) xs ms) xs _ (moveTableauRun n m xs ms) (move-tableau-made n m xs ms a) (move-tableau-refused n m xs ms a) h
+
+module _ (n : ℕ) (m : Move) (xs ms : List ℕ) (a : TableauAt n xs ms) where
   pub tableau-made : (ys : List ℕ) → moveTableau n m xs ms ≡ some ys → (c : ℕ) × (moveTableauRun n m xs ms ≡ (gives (c ∷ []), ys))
   unfolding moveTableau
-  tableau-made ys e =
-      let (c, is, same) = placed _ xs ys (placeInTableau n m xs ms) (sym (move-replaced n m (below (m .index) xs ms) xs) ∙ e) in
-      (c, move-tableau-made n m xs ms h c is ∙ rw same)
+  tableau-made = made n m (below (m .index) xs ms) xs _ (moveTableauRun n m xs ms) (move-tableau-made n m xs ms a) (move-tableau-refused n m xs ms a)
 
   pub tableau-unmade : moveTableau n m xs ms ≡ none → moveTableauRun n m xs ms ≡ (refused (undefinedBy n m (below (m .index) xs ms)) 0, xs)
   unfolding moveTableau
-  tableau-unmade e = move-tableau-refused n m xs ms h (unplaced _ xs (placeInTableau n m xs ms) (sym (move-replaced n m (below (m .index) xs ms) xs) ∙ e))
+  tableau-unmade = unmade n m (below (m .index) xs ms) xs _ (moveTableauRun n m xs ms) (move-tableau-made n m xs ms a) (move-tableau-refused n m xs ms a)
