@@ -2,8 +2,8 @@
 -- it holds at every rank of any two words accepted at it.
 --     Faithful line move u v    lines and moves tell of u and v what the rewriting rules tell
 --     FaithfulLines             the demand: Faithful of tableau lines and of moves on words. Theorem `classes`, proofs/Theory/Classes.antt
---     MovedTogether a u v r s   a move's replies to u and v: made in both, each at its own place, or refused in both with one number
 --     FaithfullyWritten n u v   the same of what the operations reply and leave in lent memory
+--     MovedTogether a u v r s   there, of a move's replies r and s: made in both, each at its own place, or refused in both with one number
 --     FaithfulWriting           the demand over what is written. Theorem `written-classes`, proofs/Theory/WrittenClasses.antt
 -- FaithfulLines is the one to read first: it has neither buffers nor replies. FaithfulWriting speaks of the very definitions that the contracts of the
 -- tableau line, of the moves on words and of the recording ribbon cite, and so of the programs. Assumes nothing.
