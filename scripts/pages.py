@@ -241,7 +241,7 @@ def check_links():
 
 def cases(*lists):
     """How many computed cases some lists have."""
-    text = "".join(file.read_text() for crate in ("hypoplactic", "examples", "products") for file in CRATES.glob(crate + "/specs/*.antt"))
+    text = "".join(file.read_text() for crate in ("hypoplactic", "examples", "products", "changed_places") for file in CRATES.glob(crate + "/specs/*.antt"))
     bodies = [re.search(rf"^{name} =(.*?)(?=^\S|\Z)", text, re.M | re.S).group(1) for name in lists]
     return sum(len(re.findall(r"^ *(?:∷ )?case\b", body, re.M)) for body in bodies)
 
@@ -259,6 +259,7 @@ FIGURES = [
     ("# worked examples", cases("workedCases"), None),
     ("# checked words", cases("refusalCases"), None),
     ("# of products", cases("productCases", "productRefusals", "productLimits"), [README, TESTS]),
+    ("# of changed places", cases("placeCases"), [README, TESTS]),
     ("# (?:more )?(?:cases|fix)", cases("orderCases", "valueCases", "lineCases", "sharedCases"), [README, TESTS]),
 ]
 

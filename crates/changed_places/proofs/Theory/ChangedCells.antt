@@ -19,15 +19,15 @@ use lib.Seq.{getD-set-same, getD-set-other}
 use borrow.Author.Tests.{eqb-true, eqb-false, eq-eqb}
 use Rattle.hypoplactic.specs.Words.{count, tick}
 use Rattle.hypoplactic.specs.Insertion.{letterWith, lettersOf, marksOf, recordingOf, wordFrom, wordOf}
-use Rattle.hypoplactic.specs.Moves.{Side, raising, lowering, Move, below, changedPlace, given, inverted, movedWord, placeInTableau, placeInWord, replaced, taken}
+use Rattle.hypoplactic.specs.Moves.{Side, raising, lowering, Move, below, given, movedWord, placeInTableau, placeInWord, replaced, taken}
 use Rattle.changed_places.proofs.Theory.ChangedPlaces.{changed-held}
-use Rattle.hypoplactic.proofs.Theory.Closure.{unguarded}
 use Rattle.hypoplactic.proofs.Theory.Contents.{within-at}
 use Rattle.hypoplactic.proofs.Theory.Correspondence.{pair-valid, word-of-pair}
 use Rattle.hypoplactic.proofs.Theory.MoveRecording.{move-recording}
 use Rattle.hypoplactic.proofs.Theory.MoveTableau.{tableau-moved}
 use Rattle.hypoplactic.proofs.Theory.Once.{once-entries}
 use Rattle.hypoplactic.proofs.Theory.Pairs.{length-letters, length-recording}
+use Rattle.hypoplactic.proofs.Theory.Targets.{place-below, unguarded}
 
 -- ---- the way back, place by place
 
@@ -37,7 +37,7 @@ from-at (suc k) e xs rs zero l = rw (add-zero e)
 from-at (suc k) e xs rs (suc j) l = from-at k (suc e) xs rs j (omega arith) ∙ rw (suc-add e j, add-suc e j)
 
 -- The letter at a place of a pair's word.
-pub word-at : (xs rs : List ℕ) (j : ℕ) → j < length xs → getD (wordOf xs rs) j 0 ≡ letterWith (suc j) xs rs
+word-at : (xs rs : List ℕ) (j : ℕ) → j < length xs → getD (wordOf xs rs) j 0 ≡ letterWith (suc j) xs rs
 unfolding wordOf
 word-at xs rs j l = from-at (length xs) 1 xs rs j l ∙ ap (λ (e : ℕ). letterWith e xs rs) (omega arith)
 
@@ -52,7 +52,7 @@ count-at (r ∷ rs) (suc c) l = go (eqb r (getD rs c 0)) (count-at rs c (omega a
     go false h = h
 
 -- An entry that stands once leads to its own cell.
-pub letter-at : (xs rs : List ℕ) (c : ℕ) → c < length xs → c < length rs → count (getD rs c 0) rs ≡ 1 → letterWith (getD rs c 0) xs rs ≡ getD xs c 0
+letter-at : (xs rs : List ℕ) (c : ℕ) → c < length xs → c < length rs → count (getD rs c 0) rs ≡ 1 → letterWith (getD rs c 0) xs rs ≡ getD xs c 0
 letter-at [] rs c l k o = let z : ⊥ = omega arith in absurd z
 letter-at (x ∷ xs) [] c l k o = let z : ⊥ = omega arith in absurd z
 letter-at (x ∷ xs) (r ∷ rs) zero l k o = rw (eq-eqb r r refl)
@@ -70,8 +70,7 @@ given-taken raising i e = omega arith
 given-taken lowering i e = omega arith
 
 -- A move that changes the place p of a word and the cell c of its tableau.
-module _ (m : Move) (w : List ℕ) (p c : ℕ) (e : changedPlace (inverted (m .index) w) m w ≡ some p)
-    (f : changedPlace (below (m .index) (lettersOf w) (marksOf w)) m (lettersOf w) ≡ some c) where
+module _ (n : ℕ) (m : Move) (w : List ℕ) (p c : ℕ) (e : placeInWord n m w ≡ some p) (f : placeInTableau n m (lettersOf w) (marksOf w) ≡ some c) where
   abbrev new : ℕ
   new = given (m .side) (m .index)
 
@@ -82,14 +81,17 @@ module _ (m : Move) (w : List ℕ) (p c : ℕ) (e : changedPlace (inverted (m .i
   entry = getD (recordingOf w) c 0
 
   made : movedWord m w ≡ some v
-  made = ap (replaced new w) e
+  made = ap (replaced new w) (unguarded n m _ e)
 
   moved-letters : lettersOf v ≡ set (lettersOf w) c new
-  moved-letters = let h : some (set (lettersOf w) c new) ≡ some (lettersOf v) = sym (ap (replaced new (lettersOf w)) f) ∙ tableau-moved m w v made in cc
+  moved-letters =
+      let h : some (set (lettersOf w) c new) ≡ some (lettersOf v) = sym (ap (replaced new (lettersOf w)) (unguarded n m _ f)) ∙ tableau-moved m w v made in cc
 
-  cell-changed : entry ≡ suc p
-  cell-changed =
-      let (inside, held, none-past) = changed-held (below (m .index) (lettersOf w) (marksOf w)) m (lettersOf w) c f in
+  -- The recording entry of the cell that a move changes is the place that it changes in the word, plus 1.
+  pub changed-cell : getD (recordingOf w) c 0 ≡ suc p
+  changed-cell =
+      let inside : c < length (lettersOf w) = place-below n m (below (m .index) (lettersOf w) (marksOf w)) (lettersOf w) c f in
+      let (held, none-past) = changed-held (below (m .index) (lettersOf w) (marksOf w)) m (lettersOf w) c (unguarded n m _ f) in
       let one-length : length (recordingOf w) ≡ length (lettersOf w) = length-recording w ∙ sym (length-letters w) in
       let once = pair-valid w .recording .once in
       let (low, high) = within-at (length (recordingOf w)) (recordingOf w) c (once-entries (recordingOf w) .0 once .0) (omega arith) in
@@ -116,8 +118,3 @@ module _ (m : Move) (w : List ℕ) (p c : ℕ) (e : changedPlace (inverted (m .i
           decided : (t : Bool) → eqb k p ≡ t → k ≡ p
           decided true d = eqb-true k p d
           decided false d = absurd (given-taken (m .side) (m .index) (sym after ∙ getD-set-other w p k new 0 (eqb-false k p d) ∙ before))
-
--- The recording entry of the cell that a move changes is the place that it changes in the word, plus 1.
-pub changed-cell : (n : ℕ) (m : Move) (w : List ℕ) (p c : ℕ) → placeInWord n m w ≡ some p → placeInTableau n m (lettersOf w) (marksOf w) ≡ some c
-    → getD (recordingOf w) c 0 ≡ suc p
-changed-cell n m w p c e f = cell-changed m w p c (unguarded n m _ e) (unguarded n m _ f)

@@ -1,5 +1,5 @@
 -- The place that a move replies (document 02, N3): inside, where the letter taken stood, the leftmost such place for raising and the rightmost for lowering.
---     Held s a w o         the letter a stands at the place o of w, and at none past it; where there is no o, it stands nowhere
+--     Held s a w o         the letter a stands at the place o of w, and at none past it; where there is no o, it stands nowhere. (That o is inside: Targets)
 --     leftmost-first       the leftmost a has no a left of it
 --     rightmost-last       the rightmost a has no a right of it
 --     changed-held         the place that a move changes, whatever tells of an inversion
@@ -26,17 +26,17 @@ use Rattle.hypoplactic.specs.Judgements.{tableauJudgements, wordJudgements}
 use Rattle.hypoplactic.specs.WordOperations.{moveJudgements, moveWordRun, moveWordSays, undefinedBy}
 use Rattle.hypoplactic.specs.TableauOperations.{moveTableauRun, moveTableauSays}
 use Rattle.changed_places.specs.ChangedPlaces.{Past, MovedAt}
-use Rattle.hypoplactic.proofs.Theory.Closure.{unguarded}
 use Rattle.hypoplactic.proofs.Theory.Judged.{tableau-passing, word-passing}
 use Rattle.hypoplactic.proofs.Theory.MoveResults.{move-replaced, move-tableau-made, move-tableau-refused, move-word-made, move-word-refused}
 use Rattle.hypoplactic.proofs.Theory.Passing.{passing-before}
+use Rattle.hypoplactic.proofs.Theory.Targets.{place-below, unguarded}
 
 -- ---- the leftmost and the rightmost
 
 -- Nowhere, or at this place and not past it.
 abbrev pub Held : Side → ℕ → List ℕ → Option ℕ → Type 0
 Held s a w none = (q : ℕ) → q < length w → getD w q 0 ≢ a
-Held s a w (some p) = (p < length w) × (getD w p 0 ≡ a) × ((q : ℕ) → q < length w → Past s p q → getD w q 0 ≢ a)
+Held s a w (some p) = (getD w p 0 ≡ a) × ((q : ℕ) → q < length w → Past s p q → getD w q 0 ≢ a)
 
 module _ (a x : ℕ) (xs : List ℕ) where
   -- No a at the places that R tells, the first place apart.
@@ -54,20 +54,17 @@ leftmost-first a [] = λ q l. let z : ⊥ = omega arith in absurd z
 leftmost-first a (x ∷ xs) = go (eqb x a) refl (leftmost a xs) (leftmost-first a xs)
   where
     go : (t : Bool) → eqb x a ≡ t → (o : Option ℕ) → Held raising a xs o → Held raising a (x ∷ xs) (cond t (some 0) (onward o))
-    go true e o h = (omega arith, eqb-true x a e, λ q l r. let z : ⊥ = omega arith in absurd z)
+    go true e o h = (eqb-true x a e, λ q l r. let z : ⊥ = omega arith in absurd z)
     go false e none h = none-more a x xs (eqb-false x a e) h raising
-    go false e (some p) h =
-        (omega (arith, h .0), h .1, one-more a x xs (λ q. q < suc p) (λ r. eqb-false x a e) (λ q l r. h .2 q l (omega arith)))
+    go false e (some p) h = (h .0, one-more a x xs (λ q. q < suc p) (λ r. eqb-false x a e) (λ q l r. h .1 q l (omega arith)))
 
 pub rightmost-last : (a : ℕ) (w : List ℕ) → Held lowering a w (rightmost a w)
 rightmost-last a [] = λ q l. let z : ⊥ = omega arith in absurd z
 rightmost-last a (x ∷ xs) = go (eqb x a) refl (rightmost a xs) (rightmost-last a xs)
   where
     go : (t : Bool) → eqb x a ≡ t → (o : Option ℕ) → Held lowering a xs o → Held lowering a (x ∷ xs) (orHere t o)
-    go t e (some p) h =
-        (omega (arith, h .0), h .1, one-more a x xs (λ q. suc p < q) (λ r. let z : ⊥ = omega arith in absurd z) (λ q l r. h .2 q l (omega arith)))
-    go true e none h =
-        (omega arith, eqb-true x a e, one-more a x xs (λ q. 0 < q) (λ r. let z : ⊥ = omega arith in absurd z) (λ q l r. h q l))
+    go t e (some p) h = (h .0, one-more a x xs (λ q. suc p < q) (λ r. let z : ⊥ = omega arith in absurd z) (λ q l r. h .1 q l (omega arith)))
+    go true e none h = (eqb-true x a e, one-more a x xs (λ q. 0 < q) (λ r. let z : ⊥ = omega arith in absurd z) (λ q l r. h q l))
     go false e none h = none-more a x xs (eqb-false x a e) h lowering
 
 -- ---- the place that a move changes
@@ -101,8 +98,8 @@ module _ (n : ℕ) (m : Move) (b : Bool) (w : List ℕ) (k : ℕ) (r : Said × L
       go : (o : Option ℕ) → guarded n m (changedPlace b m w) ≡ o → MovedAt m w r
       go none e = absurd (subst (λ (r : Said × List ℕ). Passes (r .0)) (stays e) h)
       go (some p) e =
-          let (inside, held, none-past) = changed-held b m w p (unguarded n m (changedPlace b m w) e) in
-          record { place = p; inside = inside; held = held; none-past = none-past; told = goes p e }
+          let (held, none-past) = changed-held b m w p (unguarded n m (changedPlace b m w) e) in
+          record { place = p; inside = place-below n m b w p e; held = held; none-past = none-past; told = goes p e }
 
   made : (v : List ℕ) → guarded n m (moved b m w) ≡ some v → (p : ℕ) × (r ≡ (gives (p ∷ []), v))
   made v e =

@@ -16,10 +16,11 @@ use Rattle.hypoplactic.specs.WordOperations.{moveWordRun}
 use Rattle.hypoplactic.specs.TableauOperations.{moveTableauRun}
 use Rattle.changed_places.specs.ChangedPlaces.{Beside, alike, beside}
 use Rattle.changed_places.proofs.Theory.ChangedCells.{changed-cell}
-use Rattle.hypoplactic.proofs.Theory.Closure.{unguarded, word-tableau-at}
+use Rattle.hypoplactic.proofs.Theory.Closure.{word-tableau-at}
 use Rattle.hypoplactic.proofs.Theory.MoveRecording.{move-recording}
 use Rattle.hypoplactic.proofs.Theory.MoveResults.{move-replaced, move-tableau-made, move-tableau-refused, move-word-made, move-word-refused}
 use Rattle.hypoplactic.proofs.Theory.MoveTableau.{inversion-below, tableau-answer}
+use Rattle.hypoplactic.proofs.Theory.Targets.{unguarded}
 
 -- A move on an accepted word and the same move on its tableau: refused alike, or made at a place and in a cell that the recording ribbon leads to; the
 -- tableau of the word afterwards has the letters afterwards; its marks, and the recording ribbon, stay.

@@ -30,6 +30,7 @@ use Rattle.hypoplactic.proofs.Theory.ReadBack.{read-back}
 use Rattle.hypoplactic.proofs.Theory.Correspondence.{pair-of-word, pair-valid}
 use Rattle.hypoplactic.proofs.Theory.MoveValid.{moved-valid}
 use Rattle.hypoplactic.proofs.Theory.Contents.{accepted-content, accepted-snoc}
+use Rattle.hypoplactic.proofs.Theory.Targets.{unguarded}
 
 -- ---- words and their pairs
 
@@ -106,14 +107,6 @@ moved-accepted {n} {v} m b w a e = go (indexOf n (m .index)) refl (changedPlace 
 pub move-accepted : {n : ℕ} {w v : List ℕ} (m : Move) → Accepted n w → moveWord n m w ≡ some v → Accepted n v
 unfolding moveWord
 move-accepted {n} {w} m a e = moved-accepted m (inverted (m .index) w) w a e
-
--- What is there at a rank is there without it.
-pub unguarded : {A : Type 0} {v : A} (n : ℕ) (m : Move) (o : Option A) → guarded n m o ≡ some v → o ≡ some v
-unguarded {v = v} n m o e = go (indexOf n (m .index)) e
-  where
-    go : (t : Bool) → cond t o none ≡ some v → o ≡ some v
-    go true e = e
-    go false e = absurd (Option·none-ne-some v e)
 
 -- A defined move on a tableau within the limits gives a tableau within the limits; its marks stay.
 pub move-tableau-at : {n : ℕ} {xs ms ys : List ℕ} (m : Move) → TableauAt n xs ms → moveTableau n m xs ms ≡ some ys → TableauAt n ys ms

@@ -49,19 +49,19 @@ module _ (m : Move) (Good : List ℕ → Type 0) (test : List ℕ → Bool) (run
     (goes : (w : List ℕ) (p : ℕ) → Good w → changedPlace (test w) m w ≡ some p → run w ≡ (gives (p ∷ []), set w p (given (m .side) (m .index))))
     (stays : (w : List ℕ) → Good w → changedPlace (test w) m w ≡ none → run w ≡ (refused (cond (test w) 10 11) 0, w)) where
   -- What the answer by a place says of the letters that the move could change.
-  abbrev Left : List ℕ → Option ℕ → Type 0
-  Left w o = Counted m (test w) w (replaced (given (m .side) (m .index)) w o)
+  abbrev CountedAt : List ℕ → Option ℕ → Type 0
+  CountedAt w o = Counted m (test w) w (replaced (given (m .side) (m .index)) w o)
 
   -- It is made as often as there are letters that the move could change.
   repeats : (k : ℕ) (w : List ℕ) → Good w → remaining m (test w) w ≡ k → Repeated run k (cond (test w) 10 11) w
   repeats zero w g e = go (changedPlace (test w) m w) refl (moved-counted m (test w) w (upright w g))
     where
-      go : (o : Option ℕ) → changedPlace (test w) m w ≡ o → Left w o → Repeated run zero (cond (test w) 10 11) w
+      go : (o : Option ℕ) → changedPlace (test w) m w ≡ o → CountedAt w o → Repeated run zero (cond (test w) 10 11) w
       go none f c = record { last = w; made = refl; stops = stays w g f }
       go (some p) f c = let z : ⊥ = omega arith in absurd z
   repeats (suc k) w g e = go (changedPlace (test w) m w) refl (moved-counted m (test w) w (upright w g)) (repeats k)
     where
-      go : (o : Option ℕ) → changedPlace (test w) m w ≡ o → Left w o
+      go : (o : Option ℕ) → changedPlace (test w) m w ≡ o → CountedAt w o
           → ((v : List ℕ) → Good v → remaining m (test v) v ≡ k → Repeated run k (cond (test v) 10 11) v) → Repeated run (suc k) (cond (test w) 10 11) w
       go none f c rest = let z : ⊥ = omega arith in absurd z
       go (some p) f c rest =

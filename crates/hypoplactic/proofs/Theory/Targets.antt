@@ -1,14 +1,15 @@
--- The place that a move's rule names is one of the word's (document 01, "Moves").
+-- The place that a move's rule names is one of the word's, and a rank only takes places away (document 01, "Moves").
 --     Below n o                          a place, if there is one, is below n
 --     leftmost-below, rightmost-below    of the leftmost and the rightmost letter
 --     target-below                       of the letter that the rule names
 --     place-below                        of the place that a move changes at a rank
+--     unguarded                          what is there at a rank is there without it
 -- Assumes nothing.
 use Prim.Native.Nat.{ℕ, suc, _<_}
 use native.Mathlib.Omega.{arith}
 use mathlib.Core.Path.{_≡_, subst}
 use mathlib.Core.Bool.{Bool, true, false, cond}
-use mathlib.Core.Option.{Option, none, some}
+use mathlib.Core.Option.{Option, none, some, Option·none-ne-some}
 use mathlib.Core.List.{List, [], _∷_}
 use lib.Dec.{eqb}
 use lib.ListN.{length}
@@ -18,7 +19,7 @@ abbrev pub Below : ℕ → Option ℕ → Type 0
 Below n none = Unit {0}
 Below n (some k) = k < n
 
-pub leftmost-below : (a : ℕ) (w : List ℕ) → Below (length w) (leftmost a w)
+leftmost-below : (a : ℕ) (w : List ℕ) → Below (length w) (leftmost a w)
 leftmost-below a [] = tt
 leftmost-below a (x ∷ w) = go (eqb x a) (leftmost a w) (leftmost-below a w)
   where
@@ -27,7 +28,7 @@ leftmost-below a (x ∷ w) = go (eqb x a) (leftmost a w) (leftmost-below a w)
     go false none h = tt
     go false (some k) h = omega arith
 
-pub rightmost-below : (a : ℕ) (w : List ℕ) → Below (length w) (rightmost a w)
+rightmost-below : (a : ℕ) (w : List ℕ) → Below (length w) (rightmost a w)
 rightmost-below a [] = tt
 rightmost-below a (x ∷ w) = go (eqb x a) (rightmost a w) (rightmost-below a w)
   where
@@ -47,3 +48,11 @@ place-below n m b w p e = subst (Below (length w)) e (go (indexOf n (m .index)) 
     go true true = tt
     go true false = target-below (m .side) (m .index) w
     go false b = tt
+
+-- What is there at a rank is there without it.
+pub unguarded : {A : Type 0} {v : A} (n : ℕ) (m : Move) (o : Option A) → guarded n m o ≡ some v → o ≡ some v
+unguarded {v = v} n m o e = go (indexOf n (m .index)) e
+  where
+    go : (t : Bool) → cond t o none ≡ some v → o ≡ some v
+    go true e = e
+    go false e = absurd (Option·none-ne-some v e)
