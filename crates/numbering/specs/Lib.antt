@@ -1,0 +1,4 @@
+pub mod Dictionary
+pub mod Operations
+pub mod Compositions
+pub mod Orders
