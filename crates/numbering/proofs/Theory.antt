@@ -1,1 +1,2 @@
 -- The laws of the words of a class, by topic. docs/PROMISES.md leads from each promise to its theorem.
+pub mod Counting
