@@ -1,3 +1,4 @@
 -- The laws of the words of a class, by topic. docs/PROMISES.md leads from each promise to its theorem.
 pub mod Counting
 pub mod Choices
+pub mod Kept

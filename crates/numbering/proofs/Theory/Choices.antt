@@ -151,7 +151,7 @@ choices-free (y ∷ ys) (m ∷ ms) h =
     every [] = tt
     every (c ∷ cs) = (tt, every cs)
 
-every-both : (P Q R : Choice → Type 0) (cs : List Choice) → ((c : Choice) → P c → Q c → R c) → Every P cs → Every Q cs → Every R cs
+pub every-both : (P Q R : Choice → Type 0) (cs : List Choice) → ((c : Choice) → P c → Q c → R c) → Every P cs → Every Q cs → Every R cs
 every-both P Q R [] f h k = tt
 every-both P Q R (c ∷ cs) f h k = (f c (h .0) (k .0), every-both P Q R cs f (h .1) (k .1))
 
