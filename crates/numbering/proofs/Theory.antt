@@ -2,3 +2,4 @@
 pub mod Counting
 pub mod Choices
 pub mod Kept
+pub mod Taken

@@ -71,7 +71,7 @@ pub record OpenRibbon (n l : ℕ) (ys ms : List ℕ) : Type 0 where
   pub linked : Along LinkStep 0 ys ms
   pub first : FirstFree ms
 
-link-le : (m p q : ℕ) → LinkStep m p q → p ≤ q
+pub link-le : (m p q : ℕ) → LinkStep m p q → p ≤ q
 link-le zero p q h = h
 link-le (suc m) p q h = omega arith
 
@@ -174,6 +174,12 @@ Climbing p (c ∷ cs) = (p < c .letter) × Climbing (c .letter) cs
 climb-lower : (p q : ℕ) (cs : List Choice) → p ≤ q → Climbing q cs → Climbing p cs
 climb-lower p q [] l h = tt
 climb-lower p q (c ∷ cs) l h = (omega (arith, h .0), h .1)
+
+-- None of them is at most p.
+pub climb-above : (a p : ℕ) (cs : List Choice) → a ≤ p → Climbing p cs → Some (λ c. c .letter ≡ a) cs → ⊥
+climb-above a p [] l h t = t
+climb-above a p (c ∷ cs) l h (inl e) = omega (arith, h .0)
+climb-above a p (c ∷ cs) l h (inr t) = climb-above a (c .letter) cs (omega (arith, h .0)) (h .1) t
 
 climb-behind : (p y m : ℕ) (cs : List Choice) → Climbing p cs → Climbing p (map (behind y m) cs)
 climb-behind p y m [] h = tt

@@ -20,7 +20,7 @@ use Rattle.hypoplactic.proofs.Theory.Limits.{count-outside, occurs-none}
 use Rattle.hypoplactic.proofs.Theory.Occurrences.{count-tail, occurs-count}
 use Rattle.hypoplactic.proofs.Theory.Pairs.{le-or-lt}
 use Rattle.numbering.specs.Orders.{Choice, behind, choices, entered, freed, left, withIf}
-use Rattle.numbering.proofs.Theory.Choices.{Every, FirstFree, LinkStep, OpenRibbon, Some, choice-letters, entered-rise, every-both, every-choice, link-rising}
+use Rattle.numbering.proofs.Theory.Choices.{Every, FirstFree, LinkStep, OpenRibbon, Some, choice-letters, entered-rise, every-both, every-choice, link-le, link-rising}
 
 abbrev pub KeptStep : List ℕ → ℕ → ℕ → ℕ → Type 0
 KeptStep w zero p q = p < q → before w p q ≡ false
@@ -67,12 +67,8 @@ module _ (a : ℕ) (w : List ℕ) where
   kept-past p (y ∷ ys) [] l h = absurd h
   kept-past p (y ∷ ys) (m ∷ ms) l h =
       let step : KeptStep (a ∷ w) m p y ↔ KeptStep w m p y = kept-skip m p y (h .0) (λ r e. omega arith) in
-      let rest : Along (KeptStep (a ∷ w)) y ys ms ↔ Along (KeptStep w) y ys ms = kept-past y ys ms (omega (arith, low m (h .0))) (h .1) in
+      let rest : Along (KeptStep (a ∷ w)) y ys ms ↔ Along (KeptStep w) y ys ms = kept-past y ys ms (omega (arith, link-le m p y (h .0))) (h .1) in
       (λ k. (step .0 (k .0), rest .0 (k .1)), λ k. (step .1 (k .0), rest .1 (k .1)))
-    where
-      low : (m : ℕ) → LinkStep m p y → p ≤ y
-      low zero k = k
-      low (suc m) k = omega arith
 
   -- Letters of a part of the ribbon: none more often than in the word, and all of its letters a.
   abbrev Part : List ℕ → Type 0
@@ -102,13 +98,9 @@ module _ (a : ℕ) (w : List ℕ) where
   across-cell p [] (m ∷ ms) part e h = absurd h
   across-cell p (z ∷ zs) [] part e h = absurd h
   across-cell p (z ∷ zs) (m ∷ ms) part e h =
-      let rest : Along (KeptStep (a ∷ w)) z zs ms ↔ Along (KeptStep w) z zs ms = kept-past z zs ms (low m (h .0)) (h .1) in
+      let rest : Along (KeptStep (a ∷ w)) z zs ms ↔ Along (KeptStep w) z zs ms = kept-past z zs ms (link-le m a z (h .0)) (h .1) in
       (λ k. (tt, rest .0 (k .1)), λ k. (out m e (h .0), rest .1 (k .1)))
     where
-      low : (m : ℕ) → LinkStep m a z → a ≤ z
-      low zero k = k
-      low (suc m) k = omega arith
-
       out : (m : ℕ) → left (m ∷ ms) ≡ true → LinkStep m a z → KeptStep (a ∷ w) m a z
       out zero e k = λ l. before-skip a w a z (λ s. omega arith) ∙ before-gone w a z (last-gone z zs ms part l (h .1))
       out (suc zero) e k = absurd (false≢true e)
@@ -171,33 +163,29 @@ module _ (a : ℕ) (w : List ℕ) where
 
 -- ---- what holds of each choice
 
--- Of the cells after one with the letter p, under what the walk up to them knows: the letter is above p, and the steps are kept as told.
-Walked : List ℕ → ℕ → List ℕ → List ℕ → Choice → Type 0
-Walked w p ys ms c =
+-- Of the cells after one with the letter p, under what the walk up to them knows: the letter is above p, and the steps are kept as told, by any word.
+Walked : ℕ → List ℕ → List ℕ → Choice → Type 0
+Walked p ys ms c =
     (p < c .letter)
-    × (Part (c .letter) w ys → Seen w p ms → Along (KeptStep (c .letter ∷ w)) p ys ms ↔ Along (KeptStep w) p (c .letters) (c .marks))
+    × ((w : List ℕ) → Part (c .letter) w ys → Seen w p ms → Along (KeptStep (c .letter ∷ w)) p ys ms ↔ Along (KeptStep w) p (c .letters) (c .marks))
 
-choices-walked : (w : List ℕ) (p : ℕ) (ys ms : List ℕ) → Along LinkStep p ys ms → Every (Walked w p ys ms) (choices ys ms)
+choices-walked : (p : ℕ) (ys ms : List ℕ) → Along LinkStep p ys ms → Every (Walked p ys ms) (choices ys ms)
 unfolding Walked
-choices-walked w p [] ms h = tt
-choices-walked w p (y ∷ ys) [] h = tt
-choices-walked w p (y ∷ ys) (m ∷ ms) h =
-    every-choice (Walked w p (y ∷ ys) (m ∷ ms)) (Walked w y ys ms) y m ys ms here there (choices-walked w y ys ms (h .1))
+choices-walked p [] ms h = tt
+choices-walked p (y ∷ ys) [] h = tt
+choices-walked p (y ∷ ys) (m ∷ ms) h =
+    every-choice (Walked p (y ∷ ys) (m ∷ ms)) (Walked y ys ms) y m ys ms here there (choices-walked y ys ms (h .1))
   where
-    here : entered m ≡ true → left ms ≡ true → Walked w p (y ∷ ys) (m ∷ ms) (record { letter = y; letters = ys; marks = freed ms })
-    here e f = (entered-rise m p y e (h .0), λ part s.
+    here : entered m ≡ true → left ms ≡ true → Walked p (y ∷ ys) (m ∷ ms) (record { letter = y; letters = ys; marks = freed ms })
+    here e f = (entered-rise m p y e (h .0), λ w part s.
         let past : Along (KeptStep (y ∷ w)) y ys ms ↔ Along (KeptStep w) p ys (freed ms) = across-cell y w p ys ms part f (h .1) in
         (λ k. past .0 (k .1), λ k. (into-cell y w m p ms e s, past .1 k)))
 
-    low : (m : ℕ) → LinkStep m p y → p ≤ y
-    low zero k = k
-    low (suc m) k = omega arith
-
-    there : (c : Choice) → Walked w y ys ms c → Walked w p (y ∷ ys) (m ∷ ms) (behind y m c)
-    there c (l, t) = (omega (arith, low m (h .0)), λ part s.
+    there : (c : Choice) → Walked y ys ms c → Walked p (y ∷ ys) (m ∷ ms) (behind y m c)
+    there c (l, t) = (omega (arith, link-le m p y (h .0)), λ w part s.
         let step : KeptStep (c .letter ∷ w) m p y ↔ KeptStep w m p y = kept-skip (c .letter) w m p y (h .0) (λ r e. omega arith) in
         let rest : Along (KeptStep (c .letter ∷ w)) y ys ms ↔ Along (KeptStep w) y (c .letters) (c .marks)
-            = t (part-rest (c .letter) w y ys l part) (part-seen (c .letter) w y ys ms l part) in
+            = t w (part-rest (c .letter) w y ys l part) (part-seen (c .letter) w y ys ms l part) in
         (λ k. (step .0 (k .0), rest .0 (k .1)), λ k. (step .1 (k .0), rest .1 (k .1))))
 
 tick-equal : (t : Bool) (m n : ℕ) → tick t m ≡ tick t n → m ≡ n
@@ -209,15 +197,18 @@ free-seen w [] f h = let z : ⊥ = omega arith in absurd z
 free-seen w (m ∷ ms) f h = let z : ⊥ = omega arith in absurd z
 
 -- A word after a choice's letter is kept exactly when the word is, by what the choice leaves.
-pub kept-first : (n l : ℕ) (ys ms w : List ℕ) → OpenRibbon n l ys ms
-    → Every (λ c. Kept ys ms (c .letter ∷ w) ↔ Kept (c .letters) (c .marks) w) (choices ys ms)
+pub kept-first : (n l : ℕ) (ys ms : List ℕ) → OpenRibbon n l ys ms
+    → Every (λ c. (w : List ℕ) → Kept ys ms (c .letter ∷ w) ↔ Kept (c .letters) (c .marks) w) (choices ys ms)
 unfolding Walked
-kept-first n l ys ms w h = every-both _ _ _ (choices ys ms) both (choice-letters ys ms) (choices-walked w 0 ys ms (h .linked))
+kept-first n l ys ms h = every-both _ _ _ (choices ys ms) both (choice-letters ys ms) (choices-walked 0 ys ms (h .linked))
   where
-    both : (c : Choice) → ((b : ℕ) → count b ys ≡ tick (eqb (c .letter) b) (count b (c .letters))) → Walked w 0 ys ms c
-        → Kept ys ms (c .letter ∷ w) ↔ Kept (c .letters) (c .marks) w
-    both c e (low, t) = (forth, back)
+    both : (c : Choice) → ((b : ℕ) → count b ys ≡ tick (eqb (c .letter) b) (count b (c .letters))) → Walked 0 ys ms c
+        → (w : List ℕ) → Kept ys ms (c .letter ∷ w) ↔ Kept (c .letters) (c .marks) w
+    both c e (low, walk) w = (forth, back)
       where
+        t : Part (c .letter) w ys → Seen w 0 ms → Along (KeptStep (c .letter ∷ w)) 0 ys ms ↔ Along (KeptStep w) 0 (c .letters) (c .marks)
+        t = walk w
+
         part : ((b : ℕ) → count b ys ≡ count b (c .letter ∷ w)) → Part (c .letter) w ys
         part k = (λ b. omega (arith, k b), k (c .letter))
 
