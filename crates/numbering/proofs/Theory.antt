@@ -3,3 +3,4 @@ pub mod Counting
 pub mod Choices
 pub mod Kept
 pub mod Taken
+pub mod ClassSize
