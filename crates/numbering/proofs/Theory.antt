@@ -1,4 +1,5 @@
 -- The laws of the words of a class, by topic. docs/PROMISES.md leads from each promise to its theorem.
+pub mod Multinomials
 pub mod Counting
 pub mod Choices
 pub mod Kept

@@ -1,6 +1,7 @@
 -- Compositions and multinomial coefficients (paper, Theorem 8.2). A composition is a list of numbers; the shape of a ribbon is that of its row lengths.
 --     choose n k          the ways to choose k of n things, by Pascal's rule
---     multinomial β       the ways to part the sum of β into blocks of these sizes
+--     factorial n         1 times 2 times .. n; factorials β: the product of the factorials of the parts
+--     multinomial β       the ways to part the sum of β into blocks of these sizes. Times factorials β it is the sum's factorial (Theory/Multinomials)
 --     shapeOf ms          the row lengths of the ribbon that the marks ms tell
 --     coarser b α         the compositions coarser than α (neighbouring parts merged): made by an even number of merges for true, by an odd number for false
 --     multinomials βs     the sum of the multinomial coefficients of these compositions
@@ -13,6 +14,14 @@ abbrev pub choose : ℕ → ℕ → ℕ
 choose n zero = 1
 choose zero (suc k) = 0
 choose (suc n) (suc k) = choose n k + choose n (suc k)
+
+abbrev pub factorial : ℕ → ℕ
+factorial zero = 1
+factorial (suc n) = suc n * factorial n
+
+abbrev pub factorials : List ℕ → ℕ
+factorials [] = 1
+factorials (b ∷ bs) = factorial b * factorials bs
 
 abbrev pub total : List ℕ → ℕ
 total [] = 0
