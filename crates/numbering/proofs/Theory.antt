@@ -1,6 +1,7 @@
 -- The laws of the words of a class, by topic. docs/PROMISES.md leads from each promise to its theorem.
 pub mod Multinomials
 pub mod Alternating
+pub mod CompositionCases
 pub mod Counting
 pub mod Choices
 pub mod Kept
