@@ -3,6 +3,7 @@
 --     coarser-values, coarser-none          the compositions coarser than 1 2 1, and than that of no part
 --     shape-143214, sums-143214             the paper's first example of Theorem 8.2: from the tableau of the word to 230 - 211, 19 orders
 --     shape-421323, sums-421323             and its other one: 212 - 151, 61 orders
+--     shape-12446553275, sums-12446553275   document 01's tableau with the rows 1 2 2, 3, 4 4 5 5 5 and 6 7: its shape backwards is another one
 -- Assumes nothing.
 use mathlib.Core.Path.{_≡_, refl}
 use mathlib.Core.Bool.{true, false}
@@ -51,3 +52,12 @@ pub sums-421323 : (multinomials (coarser true (1 ∷ 2 ∷ 2 ∷ 1 ∷ [])) ≡ 
     × (orders (freed (marksOf (4 ∷ 2 ∷ 1 ∷ 3 ∷ 2 ∷ 3 ∷ []))) ≡ 61)
 unfolding pairOf insert orders
 sums-421323 = (refl, refl, refl)
+
+pub shape-12446553275 : shapeOf (marksOf (1 ∷ 2 ∷ 4 ∷ 4 ∷ 6 ∷ 5 ∷ 5 ∷ 3 ∷ 2 ∷ 7 ∷ 5 ∷ [])) ≡ 3 ∷ 1 ∷ 5 ∷ 2 ∷ []
+unfolding pairOf insert
+shape-12446553275 = refl
+
+pub sums-12446553275 : (multinomials (coarser true (3 ∷ 1 ∷ 5 ∷ 2 ∷ [])) ≡ 28270) × (multinomials (coarser false (3 ∷ 1 ∷ 5 ∷ 2 ∷ [])) ≡ 12871)
+    × (orders (freed (marksOf (1 ∷ 2 ∷ 4 ∷ 4 ∷ 6 ∷ 5 ∷ 5 ∷ 3 ∷ 2 ∷ 7 ∷ 5 ∷ []))) ≡ 15399)
+unfolding pairOf insert orders
+sums-12446553275 = (refl, refl, refl)
