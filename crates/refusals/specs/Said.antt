@@ -1,16 +1,17 @@
--- What each case of each answer says in document 01's own numbers: the values that an operation gives, or a refusal's number and place. Every promise of
+-- What each case of each answer says in the documents' own numbers: the values that an operation gives, or a refusal's number and place. Every promise of
 -- the kernel equates what these definitions give for a reply with the written meaning's reply to the input.
---     number, place      of a refusal, as document 01's table fixes them
+--     number, place      of a refusal, as the tables of documents 01 and 02 fix them
 --     saidRefusal        a refusal
 --     saidFault k        the first fault that a scan for refusal k finds
---     saidVerdict, saidMove, saidRepeat, saidJunctions, saidClass, saidWeights, saidWritten, saidInserted, saidCell, saidWordLine, saidTableauLine, saidRecordingLine
+--     saidVerdict, saidMove, saidRepeat, saidJunctions, saidNumbered, saidClass, saidWeights, saidWritten, saidInserted, saidCell, saidWordLine, saidTableauLine,
+--     saidRecordingLine
 --                        the answers
 -- That each of them tells all cases apart is proofs/Theory/Apart. Assumes nothing.
 use Prim.Native.Nat.{ℕ}
 use mathlib.Core.List.{[], _∷_}
 use Rattle.hypoplactic.specs.Replies.{Said, gives, refused}
 use Rattle.refusals.specs.declared.refusal.Refusal.{Refusal}
-use Rattle.refusals.specs.declared.refusal.Refusal.the-variants.{Rank, Length, Parts, Letter, Falling, Mark, Entry, Step, Index, Inversion, NoLetter, Full, Room, Line}
+use Rattle.refusals.specs.declared.refusal.Refusal.the-variants.{Rank, Length, Parts, Letter, Falling, Mark, Entry, Step, Index, Inversion, NoLetter, Full, Room, Line, Large, PastLast}
 use Rattle.refusals.specs.declared.answers.Verdict.{Verdict}
 use Rattle.refusals.specs.declared.answers.Verdict.the-variants as verdict
 use Rattle.refusals.specs.declared.answers.Fault.{Fault}
@@ -21,6 +22,8 @@ use Rattle.refusals.specs.declared.answers.Repeat.{Repeat}
 use Rattle.refusals.specs.declared.answers.Repeat.the-variants as repeat
 use Rattle.refusals.specs.declared.answers.Junctions.{Junctions}
 use Rattle.refusals.specs.declared.answers.Junctions.the-variants as junctions
+use Rattle.refusals.specs.declared.answers.Numbered.{Numbered}
+use Rattle.refusals.specs.declared.answers.Numbered.the-variants as numbered
 use Rattle.refusals.specs.declared.answers.Class.{Class}
 use Rattle.refusals.specs.declared.answers.Class.the-variants as class
 use Rattle.refusals.specs.declared.answers.Weights.{Weights}
@@ -53,6 +56,8 @@ number NoLetter = 11
 number Full = 12
 number (Room need) = 13
 number (Line p) = 14
+number Large = 15
+number PastLast = 16
 
 abbrev pub place : Refusal → ℕ
 place Rank = 0
@@ -69,6 +74,8 @@ place NoLetter = 0
 place Full = 1024
 place (Room need) = need
 place (Line p) = p
+place Large = 0
+place PastLast = 0
 
 abbrev pub saidRefusal : Refusal → Said
 saidRefusal r = refused (number r) (place r)
@@ -94,6 +101,11 @@ saidRepeat (repeat.Refused r) = saidRefusal r
 abbrev pub saidJunctions : Junctions → Said
 saidJunctions (junctions.Found set rows) = gives (set ∷ rows ∷ [])
 saidJunctions (junctions.Refused r) = saidRefusal r
+
+-- The size of a class, or the number of a word in it.
+abbrev pub saidNumbered : Numbered → Said
+saidNumbered (numbered.Number k) = gives (k ∷ [])
+saidNumbered (numbered.Refused r) = saidRefusal r
 
 -- Yes is 1, no is 0.
 abbrev pub saidClass : Class → Said

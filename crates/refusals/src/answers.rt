@@ -1,4 +1,4 @@
-// What operations answer: each kind of answer is an enum of its own, whose last case passes a refusal on. What each case says in document 01's numbers is
+// What operations answer: each kind of answer is an enum of its own, whose last case passes a refusal on. What each case says in the documents' numbers is
 // fixed in specs/Said.antt.
 use crate::refusal::Refusal;
 
@@ -29,6 +29,12 @@ pub enum Repeat {
 // What the junction question answers: the junction set and the rows.
 pub enum Junctions {
     Found(u64, usize),
+    Refused(Refusal),
+}
+
+// What the questions about the numbers of a class answer: how many words it has, or the number of a word in it.
+pub enum Numbered {
+    Number(u64),
     Refused(Refusal),
 }
 

@@ -1,8 +1,9 @@
-// The refusals of document 01's table ("Returned instead of a result"), and the one function that turns a refusal into number and place.
+// The refusals of document 01's table ("Returned instead of a result") and those that document 02 adds, and the one function that turns a refusal into number
+// and place.
 ghost use mathlib.Core.Path.{_≡_};
 ghost use Rattle.refusals.specs.Said.{number, place};
 
-// One case for each row of the table, with the place or the need where the row has one.
+// One case for each row of the tables, with the place or the need where the row has one.
 pub enum Refusal {
     // 1: the rank is not 1 to 64.
     Rank,
@@ -32,9 +33,13 @@ pub enum Refusal {
     Room(usize),
     // 14: the byte at this place breaks the line grammar.
     Line(usize),
+    // 15: more than 20 cells or letters, where a class is counted.
+    Large,
+    // 16: the number of a word is not below the size of its class.
+    PastLast,
 }
 
-// Document 01's number and place.
+// A refusal as number and place, as the documents fix them.
 pub struct Returned {
     pub number: usize,
     pub place: usize,
@@ -83,5 +88,13 @@ pub fn number_and_place(refusal: Refusal) -> Returned
             place: need,
         },
         Refusal::Line(place) => Returned { number: 14, place },
+        Refusal::Large => Returned {
+            number: 15,
+            place: 0,
+        },
+        Refusal::PastLast => Returned {
+            number: 16,
+            place: 0,
+        },
     }
 }

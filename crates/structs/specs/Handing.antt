@@ -10,7 +10,7 @@ use Prim.Native.Nat.{ℕ}
 use mathlib.Core.Path.{_≡_, _∙_}
 use borrow.Author.Needs.{needs}
 use Rattle.hypoplactic.specs.Replies.{Said, refused}
-use Rattle.refusals.specs.Said.{number, place, saidRefusal, saidVerdict, saidMove, saidWritten, saidInserted, saidRepeat, saidRecordingLine, saidClass, saidWeights, saidJunctions, saidWordLine, saidTableauLine, saidCell}
+use Rattle.refusals.specs.Said.{number, place, saidRefusal, saidVerdict, saidMove, saidWritten, saidInserted, saidRepeat, saidRecordingLine, saidClass, saidWeights, saidJunctions, saidNumbered, saidWordLine, saidTableauLine, saidCell}
 use Rattle.refusals.specs.declared.refusal.Refusal.{Refusal}
 use Rattle.refusals.specs.declared.refusal.Refusal.the-variants.{Line}
 use Rattle.refusals.specs.declared.answers.Verdict.{Verdict}
@@ -23,6 +23,7 @@ use Rattle.refusals.specs.declared.answers.RecordingLine.the-variants as record
 use Rattle.refusals.specs.declared.answers.Class.{Class}
 use Rattle.refusals.specs.declared.answers.Weights.{Weights}
 use Rattle.refusals.specs.declared.answers.Junctions.{Junctions}
+use Rattle.refusals.specs.declared.answers.Numbered.{Numbered}
 use Rattle.refusals.specs.declared.answers.WordLine.{WordLine}
 use Rattle.refusals.specs.declared.answers.WordLine.the-variants as wordLine
 use Rattle.refusals.specs.declared.answers.TableauLine.{TableauLine}
@@ -34,9 +35,10 @@ use Rattle.structs.specs.declared.replies.CountReply.{CountReply}
 use Rattle.structs.specs.declared.replies.ClassReply.{ClassReply}
 use Rattle.structs.specs.declared.replies.OrderReply.{OrderReply}
 use Rattle.structs.specs.declared.replies.JunctionReply.{JunctionReply}
+use Rattle.structs.specs.declared.replies.ValueReply.{ValueReply}
 use Rattle.structs.specs.declared.replies.LineReply.{LineReply}
 use Rattle.structs.specs.declared.replies.CellReply.{CellReply}
-use Rattle.structs.specs.Replies.{doneOf, moveOf, countOf, classOf, orderOf, junctionOf, lineOf, cellOf, replied}
+use Rattle.structs.specs.Replies.{doneOf, moveOf, countOf, classOf, orderOf, junctionOf, valueOf, lineOf, cellOf, replied}
 
 pub passed-on : {R A : Type 0} (f : Said → R) (r : R) (s : Said) (m : A) (run : Said × A) → r ≡ f s → (s, m) ≡ run → (r, m) ≡ replied f run
 unfolding replied
@@ -58,6 +60,9 @@ module _ {s t : Said} (e : s ≡ t) where
 
   pub junction-said : {r : JunctionReply} → r ≡ junctionOf s → r ≡ junctionOf t
   junction-said h = rw (← e) h
+
+  pub value-said : {r : ValueReply} → r ≡ valueOf s → r ≡ valueOf t
+  value-said h = rw (← e) h
 
   pub cell-said : {r : CellReply} → r ≡ cellOf s → r ≡ cellOf t
   cell-said h = rw (← e) h
@@ -81,6 +86,9 @@ module _ {k p : ℕ} (r : Refusal) (e : k ≡ number r) (h : p ≡ place r) wher
 
   pub junction-refused : junctionOf (refused k p) ≡ junctionOf (saidRefusal r)
   junction-refused = rw (e, h)
+
+  pub value-refused : valueOf (refused k p) ≡ valueOf (saidRefusal r)
+  value-refused = rw (e, h)
 
   pub line-refused : lineOf (refused k p) ≡ lineOf (saidRefusal r)
   line-refused = rw (e, h)
@@ -115,6 +123,9 @@ weights-case e h = rw e h
 
 pub junctions-case : {a b : Junctions} {r : JunctionReply} → a ≡ b → r ≡ junctionOf (saidJunctions b) → r ≡ junctionOf (saidJunctions a)
 junctions-case e h = rw e h
+
+pub numbered-case : {a b : Numbered} {r : ValueReply} → a ≡ b → r ≡ valueOf (saidNumbered b) → r ≡ valueOf (saidNumbered a)
+numbered-case e h = rw e h
 
 pub word-line-case : {a b : WordLine} {r : LineReply} → a ≡ b → r ≡ lineOf (saidWordLine b) → r ≡ lineOf (saidWordLine a)
 word-line-case e h = rw e h
@@ -159,6 +170,7 @@ pub ruleset replying = (
   class-said,
   order-said,
   junction-said,
+  value-said,
   cell-said,
   done-refused,
   move-refused,
@@ -166,6 +178,7 @@ pub ruleset replying = (
   class-refused,
   order-refused,
   junction-refused,
+  value-refused,
   line-refused,
   cell-refused,
   verdict-case,
@@ -177,6 +190,7 @@ pub ruleset replying = (
   class-case,
   weights-case,
   junctions-case,
+  numbered-case,
   word-line-case,
   tableau-line-case,
   cell-case,

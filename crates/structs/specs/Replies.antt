@@ -1,12 +1,12 @@
--- What the C interface replies, field by field, for what an operation says in document 01's numbers. Each contract of src/ equates a struct with one of these.
+-- What the C interface replies, field by field, for what an operation says in the documents' numbers. Each contract of src/ equates a struct with one of these.
 --     numberOf s, placeOf s      number and place: 0 and 0 where values are given
 --     value i s                  the value at i that is given; 0 where there is none, and after a refusal
 --     anyValue s                 1 where some value is given, else 0
---     doneOf, moveOf, countOf, classOf, orderOf, junctionOf, lineOf, cellOf
+--     doneOf, moveOf, countOf, classOf, orderOf, junctionOf, valueOf, lineOf, cellOf
 --                                the structs of src/replies.rt
 --     replied f run              an operation's reply as a struct, beside the same lent memory
 --     tells k p vs               what number, place and values say, read as the C header says
---     doneTells, moveTells, countTells, classTells, orderTells, junctionTells, lineTells, cellTells
+--     doneTells, moveTells, countTells, classTells, orderTells, junctionTells, valueTells, lineTells, cellTells
 --                                what the structs say
 -- That nothing of an answer is lost in its struct is proofs/Theory/Told. Assumes nothing.
 use Prim.Native.Nat.{ℕ, zero, suc}
@@ -19,6 +19,7 @@ use Rattle.structs.specs.declared.replies.CountReply.{CountReply}
 use Rattle.structs.specs.declared.replies.ClassReply.{ClassReply}
 use Rattle.structs.specs.declared.replies.OrderReply.{OrderReply}
 use Rattle.structs.specs.declared.replies.JunctionReply.{JunctionReply}
+use Rattle.structs.specs.declared.replies.ValueReply.{ValueReply}
 use Rattle.structs.specs.declared.replies.LineReply.{LineReply}
 use Rattle.structs.specs.declared.replies.CellReply.{CellReply}
 
@@ -58,6 +59,9 @@ orderOf s = record { number = numberOf s; place = placeOf s; order = value 0 s }
 abbrev pub junctionOf : Said → JunctionReply
 junctionOf s = record { number = numberOf s; place = placeOf s; set = value 0 s; rows = value 1 s }
 
+abbrev pub valueOf : Said → ValueReply
+valueOf s = record { number = numberOf s; place = placeOf s; value = value 0 s }
+
 abbrev pub lineOf : Said → LineReply
 lineOf s = record { number = numberOf s; place = placeOf s; rank = value 0 s; count = value 1 s }
 
@@ -92,6 +96,9 @@ orderTells r = tells (r .number) (r .place) (r .order ∷ [])
 
 abbrev pub junctionTells : JunctionReply → Said
 junctionTells r = tells (r .number) (r .place) (r .set ∷ r .rows ∷ [])
+
+abbrev pub valueTells : ValueReply → Said
+valueTells r = tells (r .number) (r .place) (r .value ∷ [])
 
 abbrev pub lineTells : LineReply → Said
 lineTells r = tells (r .number) (r .place) (r .rank ∷ r .count ∷ [])

@@ -1,19 +1,21 @@
-// Answers of a move, of the junction question, of two words and of a look, as structs of the C interface.
+// Answers of a move, of the junction question, of the numbers of a class, of two words and of a look, as structs of the C interface.
 use crate::replies::CellReply;
 use crate::replies::ClassReply;
 use crate::replies::JunctionReply;
 use crate::replies::MoveReply;
 use crate::replies::OrderReply;
+use crate::replies::ValueReply;
 use refusals::answers::Cell;
 use refusals::answers::Class;
 use refusals::answers::Junctions;
 use refusals::answers::Move;
+use refusals::answers::Numbered;
 use refusals::answers::Weights;
 use refusals::refusal::Refusal;
 use refusals::refusal::number_and_place;
 ghost use mathlib.Core.Path.{_≡_};
-ghost use Rattle.refusals.specs.Said.{saidCell, saidClass, saidJunctions, saidMove, saidRefusal, saidWeights};
-ghost use Rattle.structs.specs.Replies.{cellOf, classOf, junctionOf, moveOf, orderOf};
+ghost use Rattle.refusals.specs.Said.{saidCell, saidClass, saidJunctions, saidMove, saidNumbered, saidRefusal, saidWeights};
+ghost use Rattle.structs.specs.Replies.{cellOf, classOf, junctionOf, moveOf, orderOf, valueOf};
 
 // A refusal of a move: no place was changed, and that field is 0.
 fn move_refused(refusal: Refusal) -> MoveReply
@@ -136,6 +138,32 @@ pub fn junction_reply(answer: Junctions) -> JunctionReply
             rows,
         },
         Junctions::Refused(refusal) => junction_refused(refusal),
+    }
+}
+
+// A refusal of a size or a number: the values are 0.
+fn value_refused(refusal: Refusal) -> ValueReply
+    ensures { λ r. ⌜ r ≡ valueOf (saidRefusal refusal) ⌝ }
+{
+    let told = number_and_place(refusal);
+    ValueReply {
+        number: told.number,
+        place: told.place,
+        value: 0,
+    }
+}
+
+// The size of a class, or the number of a word in it.
+pub fn value_reply(answer: Numbered) -> ValueReply
+    ensures { λ r. ⌜ r ≡ valueOf (saidNumbered answer) ⌝ }
+{
+    match answer {
+        Numbered::Number(value) => ValueReply {
+            number: 0,
+            place: 0,
+            value,
+        },
+        Numbered::Refused(refusal) => value_refused(refusal),
     }
 }
 

@@ -49,6 +49,14 @@ pub struct JunctionReply {
     pub rows: usize,
 }
 
+// The size of a class, or the number of a word in it.
+#[repr(C)]
+pub struct ValueReply {
+    pub number: usize,
+    pub place: usize,
+    pub value: u64,
+}
+
 // What a line says: its rank, and the number of its letters or cells.
 #[repr(C)]
 pub struct LineReply {

@@ -1,9 +1,9 @@
--- What an answer says fixes the answer: no two cases of an enum say the same in document 01's numbers. So a promise that fixes what is said fixes the reply.
+-- What an answer says fixes the answer: no two cases of an enum say the same in the documents' numbers. So a promise that fixes what is said fixes the reply.
 -- Each answer is found again from what it says.
 --     refusal-apart                                                     refusals by number and place
 --     fault-apart                                                       the faults that a scan for one refusal finds
---     verdict-apart, move-apart, repeat-apart, junctions-apart, class-apart, weights-apart, written-apart, inserted-apart,
---     cell-apart, word-line-apart, tableau-line-apart, recording-line-apart     the answers
+--     verdict-apart, move-apart, repeat-apart, junctions-apart, numbered-apart, class-apart, weights-apart, written-apart,
+--     inserted-apart, cell-apart, word-line-apart, tableau-line-apart, recording-line-apart     the answers
 -- Assumes nothing.
 use Prim.Native.Nat.{ℕ, _-_}
 use mathlib.Core.Path.{_≡_, refl, sym, ap, _∙_}
@@ -11,7 +11,7 @@ use mathlib.Core.List.{List, [], _∷_}
 use lib.ListN.{getD}
 use Rattle.hypoplactic.specs.Replies.{Said, gives, refused}
 use Rattle.refusals.specs.declared.refusal.Refusal.{Refusal}
-use Rattle.refusals.specs.declared.refusal.Refusal.the-variants.{Rank, Length, Parts, Letter, Falling, Mark, Entry, Step, Index, Inversion, NoLetter, Full, Room, Line}
+use Rattle.refusals.specs.declared.refusal.Refusal.the-variants.{Rank, Length, Parts, Letter, Falling, Mark, Entry, Step, Index, Inversion, NoLetter, Full, Room, Line, Large, PastLast}
 use Rattle.refusals.specs.declared.answers.Verdict.{Verdict}
 use Rattle.refusals.specs.declared.answers.Verdict.the-variants as verdict
 use Rattle.refusals.specs.declared.answers.Fault.{Fault}
@@ -22,6 +22,8 @@ use Rattle.refusals.specs.declared.answers.Repeat.{Repeat}
 use Rattle.refusals.specs.declared.answers.Repeat.the-variants as repeat
 use Rattle.refusals.specs.declared.answers.Junctions.{Junctions}
 use Rattle.refusals.specs.declared.answers.Junctions.the-variants as junctions
+use Rattle.refusals.specs.declared.answers.Numbered.{Numbered}
+use Rattle.refusals.specs.declared.answers.Numbered.the-variants as numbered
 use Rattle.refusals.specs.declared.answers.Class.{Class}
 use Rattle.refusals.specs.declared.answers.Class.the-variants as class
 use Rattle.refusals.specs.declared.answers.Weights.{Weights}
@@ -38,7 +40,7 @@ use Rattle.refusals.specs.declared.answers.TableauLine.{TableauLine}
 use Rattle.refusals.specs.declared.answers.TableauLine.the-variants as tableauLine
 use Rattle.refusals.specs.declared.answers.RecordingLine.{RecordingLine}
 use Rattle.refusals.specs.declared.answers.RecordingLine.the-variants as recordingLine
-use Rattle.refusals.specs.Said.{number, place, saidRefusal, saidFault, saidVerdict, saidMove, saidRepeat, saidJunctions, saidClass, saidWeights, saidWritten, saidInserted, saidCell, saidWordLine, saidTableauLine, saidRecordingLine}
+use Rattle.refusals.specs.Said.{number, place, saidRefusal, saidFault, saidVerdict, saidMove, saidRepeat, saidJunctions, saidNumbered, saidClass, saidWeights, saidWritten, saidInserted, saidCell, saidWordLine, saidTableauLine, saidRecordingLine}
 
 -- What can be found again is told apart.
 apart : {A : Type 0} (said : A → Said) (back : Said → A) → ((a : A) → back (said a) ≡ a) → (a b : A) → said a ≡ said b → a ≡ b
@@ -46,10 +48,11 @@ apart said back again a b e = sym (again a) ∙ ap back e ∙ again b
 
 -- ---- refusals
 
--- The table's rows in order, at a place.
+-- The tables' rows in order, at a place.
 rows : ℕ → List Refusal
 rows p =
-    Rank ∷ Length ∷ Parts ∷ Letter p ∷ Falling p ∷ Mark p ∷ Entry p ∷ Step p ∷ Index ∷ Inversion ∷ NoLetter ∷ Full ∷ Room p ∷ Line p ∷ []
+    Rank ∷ Length ∷ Parts ∷ Letter p ∷ Falling p ∷ Mark p ∷ Entry p ∷ Step p ∷ Index ∷ Inversion ∷ NoLetter ∷ Full ∷ Room p ∷ Line p
+    ∷ Large ∷ PastLast ∷ []
 
 row : ℕ → ℕ → Refusal
 row k p = getD (rows p) (k - 1) Rank
@@ -70,6 +73,8 @@ row-of NoLetter = refl
 row-of Full = refl
 row-of (Room need) = refl
 row-of (Line p) = refl
+row-of Large = refl
+row-of PastLast = refl
 
 -- An answer from what it says: from the values that it gives, or from the refusal that it passes on.
 answer : {A : Type 0} → (List ℕ → A) → (Refusal → A) → Said → A
@@ -126,6 +131,14 @@ junctions-again (junctions.Refused r) = ap junctions.Refused (row-of r)
 
 pub junctions-apart : (a b : Junctions) → saidJunctions a ≡ saidJunctions b → a ≡ b
 junctions-apart = apart saidJunctions (answer (λ vs. junctions.Found (getD vs 0 0) (getD vs 1 0)) junctions.Refused) junctions-again
+
+numbered-again : (a : Numbered) → answer (λ vs. numbered.Number (getD vs 0 0)) numbered.Refused (saidNumbered a) ≡ a
+unfolding answer
+numbered-again (numbered.Number k) = refl
+numbered-again (numbered.Refused r) = ap numbered.Refused (row-of r)
+
+pub numbered-apart : (a b : Numbered) → saidNumbered a ≡ saidNumbered b → a ≡ b
+numbered-apart = apart saidNumbered (answer (λ vs. numbered.Number (getD vs 0 0)) numbered.Refused) numbered-again
 
 class-again : (a : Class) → answer (λ vs. getD (class.Different ∷ class.Same ∷ []) (getD vs 0 0) class.Same) class.Refused (saidClass a) ≡ a
 unfolding answer

@@ -1,5 +1,5 @@
--- What each case of each answer says, in document 01's own numbers: all cases, each number and each value in its place.
---     refusal-table                                  the table "Returned instead of a result": number and place of every refusal
+-- What each case of each answer says, in the documents' own numbers: all cases, each number and each value in its place.
+--     refusal-table                                  document 01's table "Returned instead of a result" and document 02's rows: number and place of every refusal
 --     fault-values                                   what the scan for a refusal says
 --     answer-values, class-numbers, weights-numbers  what an answer that is no refusal gives
 --     passed-on                                      an answer that is a refusal says what the refusal says
@@ -14,12 +14,13 @@ use Rattle.hypoplactic.specs.Weights.{equal, lower, higher, neither}
 use Rattle.hypoplactic.specs.Replies.{gives, refused}
 use Rattle.hypoplactic.specs.WordOperations.{comparisonNumber}
 use Rattle.refusals.specs.declared.refusal.Refusal.{Refusal}
-use Rattle.refusals.specs.declared.refusal.Refusal.the-variants.{Rank, Length, Parts, Letter, Falling, Mark, Entry, Step, Index, Inversion, NoLetter, Full, Room, Line}
+use Rattle.refusals.specs.declared.refusal.Refusal.the-variants.{Rank, Length, Parts, Letter, Falling, Mark, Entry, Step, Index, Inversion, NoLetter, Full, Room, Line, Large, PastLast}
 use Rattle.refusals.specs.declared.answers.Verdict.the-variants as verdict
 use Rattle.refusals.specs.declared.answers.Fault.the-variants as fault
 use Rattle.refusals.specs.declared.answers.Move.the-variants as move
 use Rattle.refusals.specs.declared.answers.Repeat.the-variants as repeat
 use Rattle.refusals.specs.declared.answers.Junctions.the-variants as junctions
+use Rattle.refusals.specs.declared.answers.Numbered.the-variants as numbered
 use Rattle.refusals.specs.declared.answers.Class.the-variants as class
 use Rattle.refusals.specs.declared.answers.Weights.the-variants as weights
 use Rattle.refusals.specs.declared.answers.Written.the-variants as written
@@ -28,14 +29,15 @@ use Rattle.refusals.specs.declared.answers.Cell.the-variants as cell
 use Rattle.refusals.specs.declared.answers.WordLine.the-variants as wordLine
 use Rattle.refusals.specs.declared.answers.TableauLine.the-variants as tableauLine
 use Rattle.refusals.specs.declared.answers.RecordingLine.the-variants as recordingLine
-use Rattle.refusals.specs.Said.{saidRefusal, saidFault, saidVerdict, saidMove, saidRepeat, saidJunctions, saidClass, saidWeights, saidWritten, saidInserted, saidCell, saidWordLine, saidTableauLine, saidRecordingLine}
+use Rattle.refusals.specs.Said.{saidRefusal, saidFault, saidVerdict, saidMove, saidRepeat, saidJunctions, saidNumbered, saidClass, saidWeights, saidWritten, saidInserted, saidCell, saidWordLine, saidTableauLine, saidRecordingLine}
 
--- The rows of the table.
+-- The rows of the tables.
 pub refusal-table : (p : ℕ)
     → map saidRefusal
-    (Rank ∷ Length ∷ Parts ∷ Letter p ∷ Falling p ∷ Mark p ∷ Entry p ∷ Step p ∷ Index ∷ Inversion ∷ NoLetter ∷ Full ∷ Room p ∷ Line p ∷ [])
+    (Rank ∷ Length ∷ Parts ∷ Letter p ∷ Falling p ∷ Mark p ∷ Entry p ∷ Step p ∷ Index ∷ Inversion ∷ NoLetter ∷ Full ∷ Room p ∷ Line p
+    ∷ Large ∷ PastLast ∷ [])
     ≡ refused 1 0 ∷ refused 2 0 ∷ refused 3 0 ∷ refused 4 p ∷ refused 5 p ∷ refused 6 p ∷ refused 7 p ∷ refused 8 p ∷ refused 9 0 ∷ refused 10 0
-    ∷ refused 11 0 ∷ refused 12 1024 ∷ refused 13 p ∷ refused 14 p ∷ []
+    ∷ refused 11 0 ∷ refused 12 1024 ∷ refused 13 p ∷ refused 14 p ∷ refused 15 0 ∷ refused 16 0 ∷ []
 refusal-table p = refl
 
 -- A fault of a scan for refusal k.
@@ -45,9 +47,10 @@ fault-values k p = refl
 -- Verdicts give nothing; places and counts give themselves; set and rows, rank and length, letter, row and column in this order.
 pub answer-values : (a b c : ℕ)
     → saidVerdict verdict.Passed ∷ saidMove (move.Made a) ∷ saidRepeat (repeat.Times a) ∷ saidJunctions (junctions.Found a b)
+    ∷ saidNumbered (numbered.Number a)
     ∷ saidWritten (written.Elements a) ∷ saidInserted (inserted.Used a) ∷ saidCell (cell.Found a b c) ∷ saidCell cell.NoSuchCell
     ∷ saidWordLine (wordLine.Word a b) ∷ saidTableauLine (tableauLine.Tableau a b) ∷ saidRecordingLine (recordingLine.Recording a) ∷ []
-    ≡ gives [] ∷ gives (a ∷ []) ∷ gives (a ∷ []) ∷ gives (a ∷ b ∷ []) ∷ gives (a ∷ []) ∷ gives (a ∷ []) ∷ gives (a ∷ b ∷ c ∷ []) ∷ gives []
+    ≡ gives [] ∷ gives (a ∷ []) ∷ gives (a ∷ []) ∷ gives (a ∷ b ∷ []) ∷ gives (a ∷ []) ∷ gives (a ∷ []) ∷ gives (a ∷ []) ∷ gives (a ∷ b ∷ c ∷ []) ∷ gives []
     ∷ gives (a ∷ b ∷ []) ∷ gives (a ∷ b ∷ []) ∷ gives (a ∷ []) ∷ []
 answer-values a b c = refl
 
@@ -64,8 +67,9 @@ weights-numbers = refl
 -- A refusal is passed on as it is.
 pub passed-on : (r : Refusal)
     → saidVerdict (verdict.Refused r) ∷ saidMove (move.Refused r) ∷ saidRepeat (repeat.Refused r) ∷ saidJunctions (junctions.Refused r)
+    ∷ saidNumbered (numbered.Refused r)
     ∷ saidClass (class.Refused r) ∷ saidWeights (weights.Refused r) ∷ saidWritten (written.Refused r) ∷ saidInserted (inserted.Refused r)
     ∷ saidCell (cell.Refused r) ∷ saidWordLine (wordLine.Refused r) ∷ saidTableauLine (tableauLine.Refused r)
     ∷ saidRecordingLine (recordingLine.Refused r) ∷ []
-    ≡ replicate 12 (saidRefusal r)
+    ≡ replicate 13 (saidRefusal r)
 passed-on r = refl

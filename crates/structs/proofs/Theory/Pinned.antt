@@ -1,11 +1,11 @@
 -- What each struct of the C interface holds, field by field: after values are given, and after a refusal, where every other field is 0.
---     done-fields, move-fields, count-fields, class-fields, order-fields, junction-fields, line-fields, cell-fields
+--     done-fields, move-fields, count-fields, class-fields, order-fields, junction-fields, value-fields, line-fields, cell-fields
 -- Assumes nothing.
 use Prim.Native.Nat.{ℕ}
 use mathlib.Core.Path.{_≡_, refl}
 use mathlib.Core.List.{[], _∷_}
 use Rattle.hypoplactic.specs.Replies.{gives, refused}
-use Rattle.structs.specs.Replies.{doneOf, moveOf, countOf, classOf, orderOf, junctionOf, lineOf, cellOf}
+use Rattle.structs.specs.Replies.{doneOf, moveOf, countOf, classOf, orderOf, junctionOf, valueOf, lineOf, cellOf}
 
 module _ (a b c k p : ℕ) where
   -- Nothing but number and place.
@@ -33,6 +33,10 @@ module _ (a b c k p : ℕ) where
       (junctionOf (gives (a ∷ b ∷ [])) ≡ record { number = 0; place = 0; set = a; rows = b })
       × (junctionOf (refused k p) ≡ record { number = k; place = p; set = 0; rows = 0 })
   junction-fields = (refl, refl)
+
+  pub value-fields :
+      (valueOf (gives (a ∷ [])) ≡ record { number = 0; place = 0; value = a }) × (valueOf (refused k p) ≡ record { number = k; place = p; value = 0 })
+  value-fields = (refl, refl)
 
   pub line-fields :
       (lineOf (gives (a ∷ b ∷ [])) ≡ record { number = 0; place = 0; rank = a; count = b })

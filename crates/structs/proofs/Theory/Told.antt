@@ -1,16 +1,16 @@
 -- Nothing of an answer is lost at the C interface: a struct, read as the C header says, says what the answer says, so no two answers share a struct. By
 -- refusals' Theory/Apart what is said fixes the answer.
---     refusal-numbers                  a refusal's number is 1 to 14, never 0
---     verdict-told, move-told, written-told, inserted-told, repeat-told, recording-line-told, class-told, weights-told, junctions-told, word-line-told,
---     tableau-line-told, cell-told     the answers
+--     refusal-numbers                  a refusal's number is 1 to 16, never 0
+--     verdict-told, move-told, written-told, inserted-told, repeat-told, recording-line-told, class-told, weights-told, junctions-told, numbered-told,
+--     word-line-told, tableau-line-told, cell-told     the answers
 -- Assumes nothing.
 use Prim.Native.Nat.{ℕ, _≤_}
 use mathlib.Core.Path.{_≡_, refl}
 use mathlib.Core.List.{List}
 use native.Mathlib.Omega.{arith}
-use Rattle.refusals.specs.Said.{number, place, saidRefusal, saidVerdict, saidMove, saidWritten, saidInserted, saidRepeat, saidRecordingLine, saidClass, saidWeights, saidJunctions, saidWordLine, saidTableauLine, saidCell}
+use Rattle.refusals.specs.Said.{number, place, saidRefusal, saidVerdict, saidMove, saidWritten, saidInserted, saidRepeat, saidRecordingLine, saidClass, saidWeights, saidJunctions, saidNumbered, saidWordLine, saidTableauLine, saidCell}
 use Rattle.refusals.specs.declared.refusal.Refusal.{Refusal}
-use Rattle.refusals.specs.declared.refusal.Refusal.the-variants.{Rank, Length, Parts, Letter, Falling, Mark, Entry, Step, Index, Inversion, NoLetter, Full, Room, Line}
+use Rattle.refusals.specs.declared.refusal.Refusal.the-variants.{Rank, Length, Parts, Letter, Falling, Mark, Entry, Step, Index, Inversion, NoLetter, Full, Room, Line, Large, PastLast}
 use Rattle.refusals.specs.declared.answers.Verdict.{Verdict}
 use Rattle.refusals.specs.declared.answers.Verdict.the-variants as verdict
 use Rattle.refusals.specs.declared.answers.Move.{Move}
@@ -29,13 +29,15 @@ use Rattle.refusals.specs.declared.answers.Weights.{Weights}
 use Rattle.refusals.specs.declared.answers.Weights.the-variants as weights
 use Rattle.refusals.specs.declared.answers.Junctions.{Junctions}
 use Rattle.refusals.specs.declared.answers.Junctions.the-variants as junctions
+use Rattle.refusals.specs.declared.answers.Numbered.{Numbered}
+use Rattle.refusals.specs.declared.answers.Numbered.the-variants as numbered
 use Rattle.refusals.specs.declared.answers.WordLine.{WordLine}
 use Rattle.refusals.specs.declared.answers.WordLine.the-variants as wordLine
 use Rattle.refusals.specs.declared.answers.TableauLine.{TableauLine}
 use Rattle.refusals.specs.declared.answers.TableauLine.the-variants as tableauLine
 use Rattle.refusals.specs.declared.answers.Cell.{Cell}
 use Rattle.refusals.specs.declared.answers.Cell.the-variants as cell
-use Rattle.structs.specs.Replies.{doneOf, moveOf, countOf, classOf, orderOf, junctionOf, lineOf, cellOf, tells, doneTells, moveTells, countTells, classTells, orderTells, junctionTells, lineTells, cellTells}
+use Rattle.structs.specs.Replies.{doneOf, moveOf, countOf, classOf, orderOf, junctionOf, valueOf, lineOf, cellOf, tells, doneTells, moveTells, countTells, classTells, orderTells, junctionTells, valueTells, lineTells, cellTells}
 
 -- ---- refusals
 
@@ -54,8 +56,10 @@ refused-told NoLetter vs = refl
 refused-told Full vs = refl
 refused-told (Room p) vs = refl
 refused-told (Line p) vs = refl
+refused-told Large vs = refl
+refused-told PastLast vs = refl
 
-pub refusal-numbers : (r : Refusal) → (1 ≤ number r) × (number r ≤ 14)
+pub refusal-numbers : (r : Refusal) → (1 ≤ number r) × (number r ≤ 16)
 refusal-numbers Rank = (omega arith, omega arith)
 refusal-numbers Length = (omega arith, omega arith)
 refusal-numbers Parts = (omega arith, omega arith)
@@ -70,6 +74,8 @@ refusal-numbers NoLetter = (omega arith, omega arith)
 refusal-numbers Full = (omega arith, omega arith)
 refusal-numbers (Room p) = (omega arith, omega arith)
 refusal-numbers (Line p) = (omega arith, omega arith)
+refusal-numbers Large = (omega arith, omega arith)
+refusal-numbers PastLast = (omega arith, omega arith)
 
 -- ---- answers
 
@@ -112,6 +118,10 @@ weights-told (weights.Refused r) = refused-told r _
 pub junctions-told : (a : Junctions) → junctionTells (junctionOf (saidJunctions a)) ≡ saidJunctions a
 junctions-told (junctions.Found set rows) = refl
 junctions-told (junctions.Refused r) = refused-told r _
+
+pub numbered-told : (a : Numbered) → valueTells (valueOf (saidNumbered a)) ≡ saidNumbered a
+numbered-told (numbered.Number k) = refl
+numbered-told (numbered.Refused r) = refused-told r _
 
 pub word-line-told : (a : WordLine) → lineTells (lineOf (saidWordLine a)) ≡ saidWordLine a
 word-line-told (wordLine.Word n l) = refl
