@@ -2,6 +2,7 @@
 use crate::printing::print;
 use crate::printing::print_number;
 use refusals::answers::Move;
+use refusals::answers::Numbered;
 use refusals::answers::Repeat;
 use refusals::answers::Written;
 use refusals::refusal::Refusal;
@@ -32,6 +33,14 @@ pub fn print_move(answer: Move) {
     match answer {
         Move::Made(place) => print_gives(place),
         Move::Refused(refusal) => print_refusal(refusal),
+    }
+}
+
+// The size of a class, or the number of a word in it.
+pub fn print_numbered(answer: Numbered) {
+    match answer {
+        Numbered::Number(value) => print_gives(value as usize),
+        Numbered::Refused(refusal) => print_refusal(refusal),
     }
 }
 

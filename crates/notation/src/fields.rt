@@ -1,5 +1,5 @@
 // Lines, fields and numbers. Nothing here refuses: what is no digit counts as none. The expected output shows where a table line is not what it should be.
-ghost use Prim.Native.Nat.{_<_, _≤_};
+ghost use Prim.Native.Nat.{_≤_};
 ghost use mathlib.Core.Path.{_≡_};
 ghost use lib.ListN.{length};
 ghost use Rattle.notation.specs.Bounds.{Between};
@@ -75,10 +75,8 @@ pub fn field_of(line: &[u8], name: &[u8], most: usize) -> usize
     place
 }
 
-// The number whose digits begin at a place of a text. Of more than six digits the last count.
-pub(crate) fn number_at(text: &[u8], from: usize) -> usize
-    ensures { λ r. ⌜ r < 1000000 ⌝ }
-{
+// The number whose digits begin at a place of a text, up to the largest of 64 bits.
+pub(crate) fn number_at(text: &[u8], from: usize) -> usize {
     let mut value = 0;
     let mut at = from;
     while at < text.len() {
@@ -89,7 +87,8 @@ pub(crate) fn number_at(text: &[u8], from: usize) -> usize
         if b'9' < byte {
             return value;
         }
-        value = value % 100000 * 10 + wide(byte - b'0');
+        // One more than the largest number that fits ten times.
+        value = std::num::wrapping_add_usize(value % 1844674407370955162 * 10, wide(byte - b'0'));
         at += 1;
     }
     value
@@ -103,9 +102,7 @@ pub(crate) fn wide(byte: u8) -> usize
 }
 
 // A field that is a number.
-pub fn number(line: &[u8], place: usize) -> usize
-    ensures { λ r. ⌜ r < 1000000 ⌝ }
-{
+pub fn number(line: &[u8], place: usize) -> usize {
     number_at(field(line, place), 0)
 }
 
