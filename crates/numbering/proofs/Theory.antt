@@ -7,3 +7,4 @@ pub mod Choices
 pub mod Kept
 pub mod Taken
 pub mod ClassSize
+pub mod Numbers
