@@ -8,3 +8,6 @@ pub mod Kept
 pub mod Taken
 pub mod ClassSize
 pub mod Numbers
+pub mod DictionaryOrder
+pub mod ClassNumbers
+pub mod NumberCases

@@ -6,6 +6,7 @@
 --     classWord n xs ms k        the one at place k
 --     classNumber n w            the place of w among the words of its own class
 --     Earlier u v                u stands before v in a dictionary
+--     Listed n xs ms v           v is the word of some number
 -- That the list has exactly the words of the class, each once, the earlier first, is proved in proofs/Theory/ClassNumbers. Assumes nothing.
 use Prim.Native.Nat.{ℕ, zero, suc, _<_}
 use mathlib.Core.Path.{_≡_}
@@ -63,3 +64,9 @@ abbrev pub Earlier : List ℕ → List ℕ → Type 0
 Earlier u [] = ⊥
 Earlier [] (y ∷ v) = Unit {0}
 Earlier (x ∷ u) (y ∷ v) = (x < y) ⊎ ((x ≡ y) × Earlier u v)
+
+-- A word is listed in a class: it stands at some number below the size.
+pub record Listed (n : ℕ) (xs ms v : List ℕ) : Type 0 where
+  pub number : ℕ
+  pub below : number < classSize n xs ms
+  pub there : classWord n xs ms number ≡ v

@@ -2,3 +2,4 @@ pub mod Dictionary
 pub mod Operations
 pub mod Compositions
 pub mod Orders
+pub mod Cases

@@ -1,24 +1,27 @@
--- Theorem 8.2 of the paper: how many orders a ribbon has, by multinomial coefficients of the compositions coarser than its shape. Those made by an even
--- number of merges give as much as those made by an odd number and the orders together; the paper writes the difference.
+-- Theorem 8.2 of the paper: how many words a class has, by multinomial coefficients of the compositions coarser than its tableau's shape. Those made by an even
+-- number of merges give as much as those made by an odd number and the words together; the paper writes the difference.
 --     binomialSum k n xs    the sum of xs, its numbers multiplied by choose n k, choose (n + 1) k, ..
 --     sum-right             of a tally across a right step: it is that of the tally itself for k + 1, so rows of any length need no tally of their own
 --     sum-free              across a free step: those across a right and across a down step together
 --     sum-constant          and, the numbers of such a tally being equal, one binomial coefficient times the tally's sum
---     alternating           the theorem for marks 0 and 1
---     theorem-8-2           the theorem for a tableau
+--     alternating           the orders of a ribbon with marks 0 and 1
+--     theorem-8-2           the size of a tableau's class
 -- Assumes nothing.
 use Prim.Native.Nat.{ℕ, zero, suc, _+_, _*_, _≤_}
 use native.Mathlib.Nat.{add-suc, zero-add}
 use native.Mathlib.Numerals.{add-one}
 use native.Mathlib.Omega.{arith}
-use mathlib.Core.Path.{_≡_, refl, ap, ap₂, _∙_}
+use mathlib.Core.Path.{_≡_, refl, sym, ap, ap₂, _∙_}
 use mathlib.Core.Bool.{Bool, true, false, not}
 use mathlib.Core.List.{List, [], _∷_, _++_, map}
 use lib.ListN.{length}
-use Rattle.hypoplactic.specs.Words.{All}
+use Rattle.hypoplactic.specs.Words.{All, Within}
 use Rattle.hypoplactic.specs.Ribbons.{Along, LetterStep, Tableau}
+use Rattle.hypoplactic.proofs.Theory.Boundary.{along-of-tableau}
+use Rattle.numbering.specs.Dictionary.{classSize}
 use Rattle.numbering.specs.Compositions.{choose, coarser, multinomials, rowLengths, shapeOf, total}
 use Rattle.numbering.specs.Orders.{across, freed, headOf, orders, tally}
+use Rattle.numbering.proofs.Theory.ClassSize.{class-size}
 use Rattle.numbering.proofs.Theory.Counting.{across-free, length-tally}
 use Rattle.numbering.proofs.Theory.Multinomials.{choose-none, coarser-totals, multinomials-append, multinomials-before}
 
@@ -115,7 +118,7 @@ row-by-row k (suc zero ∷ ms) (l, h) =
     (row-by-row 0 ms h) (row-by-row (suc k) ms h) (down-and-right k (tally ms)))
 row-by-row k (suc (suc m) ∷ ms) (l, h) = let z : ⊥ = omega arith in absurd z
 
--- Theorem 8.2 for marks 0 and 1.
+-- The orders of a ribbon with marks 0 and 1.
 pub alternating : (ms : List ℕ) → All (λ (m : ℕ). m ≤ 1) ms
     → multinomials (coarser true (shapeOf ms)) ≡ orders (freed ms) + multinomials (coarser false (shapeOf ms))
 unfolding orders
@@ -131,13 +134,9 @@ steps-marks x (y ∷ ys) (zero ∷ ms) (s, h) = (omega arith, steps-marks y ys m
 steps-marks x (y ∷ ys) (suc zero ∷ ms) (s, h) = (omega arith, steps-marks y ys ms h)
 steps-marks x (y ∷ ys) (suc (suc m) ∷ ms) (s, h) = absurd s
 
-tableau-marks : (xs ms : List ℕ) → Tableau xs ms → All (λ (m : ℕ). m ≤ 1) ms
-tableau-marks [] [] h = tt
-tableau-marks [] (m ∷ ms) h = absurd h
-tableau-marks (x ∷ xs) [] h = absurd h
-tableau-marks (x ∷ xs) (m ∷ ms) (e, h) = (omega arith, steps-marks x xs ms h)
-
--- Theorem 8.2 for a tableau.
-pub theorem-8-2 : (xs ms : List ℕ) → Tableau xs ms
-    → multinomials (coarser true (shapeOf ms)) ≡ orders (freed ms) + multinomials (coarser false (shapeOf ms))
-theorem-8-2 xs ms h = alternating ms (tableau-marks xs ms h)
+-- Theorem 8.2: the size of a class.
+pub theorem-8-2 : (n : ℕ) (xs ms : List ℕ) → Within n xs → Tableau xs ms
+    → multinomials (coarser true (shapeOf ms)) ≡ classSize n xs ms + multinomials (coarser false (shapeOf ms))
+theorem-8-2 n xs ms w h =
+    alternating ms (steps-marks 0 xs ms (along-of-tableau xs ms h))
+    ∙ ap (λ (k : ℕ). k + multinomials (coarser false (shapeOf ms))) (sym (class-size n xs ms w h))

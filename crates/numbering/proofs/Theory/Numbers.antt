@@ -154,6 +154,10 @@ module _ (n : ℕ) (w : List ℕ) (h : Within n w) where
   pub class-number : classNumber n w ≡ placeOf w (lettersOf w) (freed (marksOf w))
   class-number = own-place .0
 
-  -- below the size of the class.
+  -- below the orders of its tableau,
+  pub place-below : placeOf w (lettersOf w) (freed (marksOf w)) < orders (freed (marksOf w))
+  place-below = own-place .1
+
+  -- and so below the size of the class.
   pub number-below : classNumber n w < classSize n (lettersOf w) (marksOf w)
   number-below = omega (arith, own-place .0, own-place .1, class-size n (lettersOf w) (marksOf w) (letters-within n w h) (tableau-of-word w))

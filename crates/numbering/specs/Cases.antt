@@ -1,0 +1,42 @@
+-- Cases for sizes and numbers of classes (document 02, N4), in the form of the starred ones.
+--     listed ws          words one after the other, a 0 behind each
+--     numberCases        the cases
+-- That the two sides of every case are equal is proved in proofs/Theory/NumberCases.antt. Assumes nothing.
+use Prim.Native.Nat.{ℕ}
+use mathlib.Core.List.{List, [], _∷_, _++_}
+use lib.ListN.{replicate}
+use Rattle.hypoplactic.specs.Starred.{Case, case, lent, numbers, outcome, w4323}
+use Rattle.numbering.specs.Dictionary.{classWords, words}
+use Rattle.numbering.specs.Operations.{classNumberSays, classSizeSays, classWordRun, classWordSays}
+
+abbrev pub listed : List (List ℕ) → List ℕ
+listed [] = []
+listed (w ∷ ws) = w ++ 0 ∷ listed ws
+
+unfoldable pub numberCases : List Case
+numberCases =
+    -- the words of two letters at rank 2, in dictionary order
+    case (listed (words 2 2)) (1 ∷ 1 ∷ 0 ∷ 1 ∷ 2 ∷ 0 ∷ 2 ∷ 1 ∷ 0 ∷ 2 ∷ 2 ∷ 0 ∷ [])
+    -- the class of 4323 has 5 words: 3243, 3423, 3432, 4323, 4332
+    ∷ case (listed (classWords 4 (2 ∷ 3 ∷ 3 ∷ 4 ∷ []) (0 ∷ 1 ∷ 0 ∷ 1 ∷ [])))
+    (3 ∷ 2 ∷ 4 ∷ 3 ∷ 0 ∷ 3 ∷ 4 ∷ 2 ∷ 3 ∷ 0 ∷ 3 ∷ 4 ∷ 3 ∷ 2 ∷ 0 ∷ 4 ∷ 3 ∷ 2 ∷ 3 ∷ 0 ∷ 4 ∷ 3 ∷ 3 ∷ 2 ∷ 0 ∷ [])
+    ∷ case (numbers (classSizeSays 4 (2 ∷ 3 ∷ 3 ∷ 4 ∷ []) (0 ∷ 1 ∷ 0 ∷ 1 ∷ []))) (0 ∷ 5 ∷ [])
+    ∷ case (outcome (classWordRun 4 (2 ∷ 3 ∷ 3 ∷ 4 ∷ []) (0 ∷ 1 ∷ 0 ∷ 1 ∷ []) 1 (lent 5))) (0 ∷ 4 ∷ 3 ∷ 4 ∷ 2 ∷ 3 ∷ 99 ∷ [])
+    ∷ case (numbers (classNumberSays 4 w4323)) (0 ∷ 3 ∷ [])
+    -- the empty tableau has one word, the empty one
+    ∷ case (numbers (classSizeSays 1 [] [])) (0 ∷ 1 ∷ [])
+    ∷ case (outcome (classWordRun 1 [] [] 0 (lent 1))) (0 ∷ 0 ∷ 99 ∷ [])
+    ∷ case (outcome (classWordRun 1 [] [] 1 (lent 1))) (16 ∷ 0 ∷ 99 ∷ [])
+    ∷ case (numbers (classNumberSays 1 [])) (0 ∷ 0 ∷ [])
+    -- 15: 21 cells or letters; 4 and 6 come before it
+    ∷ case (numbers (classSizeSays 1 (replicate 21 1) (replicate 21 0))) (15 ∷ 0 ∷ [])
+    ∷ case (numbers (classSizeSays 1 (replicate 21 1) (replicate 20 0 ++ 1 ∷ []))) (6 ∷ 20 ∷ [])
+    ∷ case (outcome (classWordRun 1 (replicate 21 1) (replicate 21 0) 1 (lent 1))) (15 ∷ 0 ∷ 99 ∷ [])
+    ∷ case (numbers (classNumberSays 1 (replicate 21 1))) (15 ∷ 0 ∷ [])
+    ∷ case (numbers (classNumberSays 1 (replicate 20 1 ++ 2 ∷ []))) (4 ∷ 20 ∷ [])
+    -- 16: the size is the first number that is none, and comes before 13
+    ∷ case (outcome (classWordRun 2 (1 ∷ 2 ∷ []) (0 ∷ 1 ∷ []) 0 (lent 3))) (0 ∷ 2 ∷ 2 ∷ 1 ∷ 99 ∷ [])
+    ∷ case (outcome (classWordRun 2 (1 ∷ 2 ∷ []) (0 ∷ 1 ∷ []) 1 (lent 1))) (16 ∷ 0 ∷ 99 ∷ [])
+    -- 13: a word too short
+    ∷ case (outcome (classWordRun 2 (1 ∷ 2 ∷ []) (0 ∷ 1 ∷ []) 0 (lent 1))) (13 ∷ 2 ∷ 99 ∷ [])
+    ∷ []
