@@ -11,3 +11,4 @@ pub mod Numbers
 pub mod DictionaryOrder
 pub mod ClassNumbers
 pub mod NumberCases
+pub mod ClassReplies

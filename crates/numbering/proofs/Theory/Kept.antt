@@ -177,16 +177,22 @@ choices-walked p (y ∷ ys) (m ∷ ms) h =
     every-choice (Walked p (y ∷ ys) (m ∷ ms)) (Walked y ys ms) y m ys ms here there (choices-walked y ys ms (h .1))
   where
     here : entered m ≡ true → left ms ≡ true → Walked p (y ∷ ys) (m ∷ ms) (record { letter = y; letters = ys; marks = freed ms })
-    here e f = (entered-rise m p y e (h .0), λ w part s.
-        let past : Along (KeptStep (y ∷ w)) y ys ms ↔ Along (KeptStep w) p ys (freed ms) = across-cell y w p ys ms part f (h .1) in
-        (λ k. past .0 (k .1), λ k. (into-cell y w m p ms e s, past .1 k)))
+    here e f = (
+      entered-rise m p y e (h .0),
+      λ w part s.
+          let past : Along (KeptStep (y ∷ w)) y ys ms ↔ Along (KeptStep w) p ys (freed ms) = across-cell y w p ys ms part f (h .1) in
+          (λ k. past .0 (k .1), λ k. (into-cell y w m p ms e s, past .1 k)),
+    )
 
     there : (c : Choice) → Walked y ys ms c → Walked p (y ∷ ys) (m ∷ ms) (behind y m c)
-    there c (l, t) = (omega (arith, link-le m p y (h .0)), λ w part s.
-        let step : KeptStep (c .letter ∷ w) m p y ↔ KeptStep w m p y = kept-skip (c .letter) w m p y (h .0) (λ r e. omega arith) in
-        let rest : Along (KeptStep (c .letter ∷ w)) y ys ms ↔ Along (KeptStep w) y (c .letters) (c .marks)
-            = t w (part-rest (c .letter) w y ys l part) (part-seen (c .letter) w y ys ms l part) in
-        (λ k. (step .0 (k .0), rest .0 (k .1)), λ k. (step .1 (k .0), rest .1 (k .1))))
+    there c (l, t) = (
+      omega (arith, link-le m p y (h .0)),
+      λ w part s.
+          let step : KeptStep (c .letter ∷ w) m p y ↔ KeptStep w m p y = kept-skip (c .letter) w m p y (h .0) (λ r e. omega arith) in
+          let rest : Along (KeptStep (c .letter ∷ w)) y ys ms ↔ Along (KeptStep w) y (c .letters) (c .marks)
+          = t w (part-rest (c .letter) w y ys l part) (part-seen (c .letter) w y ys ms l part) in
+          (λ k. (step .0 (k .0), rest .0 (k .1)), λ k. (step .1 (k .0), rest .1 (k .1))),
+    )
 
 tick-equal : (t : Bool) (m n : ℕ) → tick t m ≡ tick t n → m ≡ n
 tick-equal true m n e = omega arith

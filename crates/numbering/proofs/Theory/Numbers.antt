@@ -124,8 +124,8 @@ taken-place n (suc l) [] ms [] h k = absurd (omega (arith, h .cells))
 taken-place n (suc l) (y ∷ ys) ms [] h k = absurd (omega (arith, k .counts y, count-head y ys))
 taken-place n (suc l) ys ms (a ∷ w) h k =
     let walked = places-walk a w (takenWords l) (placeOf w) (choices ys ms) (every-both _ _ _ (choices ys ms)
-        (λ c o e. (taken-size n l (c .letters) (c .marks) o, λ q. taken-place n l (c .letters) (c .marks) w o (e w .0 (rw q k))))
-        (choices-open n l ys ms h) (kept-first n (suc l) ys ms h)) (kept-letter n (suc l) a ys ms w h k) in
+    (λ c o e. (taken-size n l (c .letters) (c .marks) o, λ q. taken-place n l (c .letters) (c .marks) w o (e w .0 (rw q k))))
+    (choices-open n l ys ms h) (kept-first n (suc l) ys ms h)) (kept-letter n (suc l) a ys ms w h k) in
     (walked .0, omega (arith, walked .1, taken-size n (suc l) ys ms h))
 
 -- ---- classes

@@ -93,7 +93,7 @@ module _ (test : List ℕ → Bool) (ws : List (List ℕ)) (f : List ℕ → Lis
       go (inl l) here there =
           let e : c .letter ≡ suc p = omega (arith, h .0) in
           let own : block (suc p) ≡ map (λ (w : List ℕ). c .letter ∷ w) (f (c .letters) (c .marks))
-              = rw (← e) (ap (map (λ (w : List ℕ). c .letter ∷ w)) (g .0)) in
+          = rw (← e) (ap (map (λ (w : List ℕ). c .letter ∷ w)) (g .0)) in
           ap₂ _++_ own (here e)
       go (inr l) here there =
           ap₂ _++_ (ap (map (λ (w : List ℕ). suc p ∷ w)) (keep-none (λ w. test (suc p ∷ w)) ws (λ w e. none (s (suc p) w (omega arith) e)))) (there l)
