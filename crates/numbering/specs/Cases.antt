@@ -7,7 +7,7 @@ use mathlib.Core.List.{List, [], _∷_, _++_}
 use lib.ListN.{replicate}
 use Rattle.hypoplactic.specs.Starred.{Case, case, lent, numbers, outcome, w4323}
 use Rattle.numbering.specs.Dictionary.{classWords, words}
-use Rattle.numbering.specs.Operations.{classNumberSays, classSizeSays, classWordRun, classWordSays}
+use Rattle.numbering.specs.Operations.{classNumberSays, classSizeSays, classWordRun}
 
 abbrev pub listed : List (List ℕ) → List ℕ
 listed [] = []

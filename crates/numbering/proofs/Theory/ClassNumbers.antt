@@ -8,12 +8,12 @@
 --     number-recording     the word of a number has a valid recording ribbon of the shape; recording-number: each of those is that of a number, recording-one:
 --                          of one only. So the size is the number of valid recording ribbons of the shape
 -- Assumes nothing.
-use Prim.Native.Nat.{ℕ, zero, suc, _≤_, _<_}
+use Prim.Native.Nat.{ℕ, zero, suc, _<_}
 use native.Mathlib.Omega.{arith}
 use mathlib.Core.Path.{_≡_, refl, sym, ap, ap₂, subst, _∙_}
 use mathlib.Core.Logic.{_↔_}
 use mathlib.Core.Bool.{true}
-use mathlib.Core.List.{List, [], _∷_}
+use mathlib.Core.List.{List, _∷_}
 use lib.ListN.{length}
 use Rattle.hypoplactic.specs.Words.{Within, count}
 use Rattle.hypoplactic.specs.Ribbons.{Recording, Tableau}

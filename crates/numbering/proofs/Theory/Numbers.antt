@@ -7,19 +7,18 @@
 use Prim.Native.Nat.{ℕ, zero, suc, _+_, _-_, _<_}
 use native.Mathlib.Omega.{arith}
 use mathlib.Core.Path.{_≡_, refl, sym, ap, ap₂, _∙_}
-use mathlib.Core.Logic.{_⊎_, inl, inr, _↔_}
-use mathlib.Core.Bool.{Bool, true, false, _&&_, cond}
+use mathlib.Core.Logic.{_⊎_, inl, inr}
+use mathlib.Core.Bool.{Bool, true, false, cond}
 use mathlib.Core.List.{List, [], _∷_, _++_, map}
-use lib.Dec.{eqb, leb, ltb, leb·suc-suc}
+use lib.Dec.{eqb, ltb, leb·suc-suc}
 use lib.ListN.{length, getD, length-append, length-map}
 use borrow.Author.Tests.{eq-eqb, eqb-false, eqb-true, le-ltb, lt-ltb}
-use Rattle.hypoplactic.specs.Words.{Within, count}
+use Rattle.hypoplactic.specs.Words.{Within}
 use Rattle.hypoplactic.specs.Ribbons.{Tableau}
 use Rattle.hypoplactic.specs.Insertion.{lettersOf, marksOf}
 use Rattle.hypoplactic.proofs.Theory.Boundary.{tableau-of-word}
 use Rattle.hypoplactic.proofs.Theory.Letters.{count-head}
 use Rattle.hypoplactic.proofs.Theory.Limits.{letters-within}
-use Rattle.hypoplactic.proofs.Theory.Pairs.{length-letters}
 use Rattle.numbering.specs.Dictionary.{classNumber, classSize, classWord, classWords, placeIn, sameList}
 use Rattle.numbering.specs.Orders.{Choice, choices, freed, orders, placeFrom, placeOf, takenFrom, takenWords, wordAt, wordFrom}
 use Rattle.numbering.proofs.Theory.Choices.{Every, OpenRibbon, Some, choices-open, every-both, every-map}

@@ -3,21 +3,18 @@
 --     taken-size        they are as many as the ribbon has orders
 -- Assumes nothing.
 use Prim.Native.Nat.{ℕ, zero, suc, _+_, _≤_, _<_}
-use native.Mathlib.Decide.{decLe}
 use native.Mathlib.Omega.{arith}
 use mathlib.Core.Path.{_≡_, refl, sym, ap, ap₂, _∙_}
 use mathlib.Core.Logic.{_⊎_, inl, inr, _↔_, Iff·trans}
 use mathlib.Core.Bool.{Bool, true, false, cond}
 use mathlib.Core.List.{List, [], _∷_, _++_, map}
 use lib.ListN.{length, length-append, length-map}
-use Rattle.hypoplactic.specs.Words.{Within, count}
-use Rattle.hypoplactic.specs.Ribbons.{Along}
-use Rattle.hypoplactic.proofs.Theory.Letters.{count-head}
+use Rattle.hypoplactic.specs.Words.{Within}
 use Rattle.hypoplactic.proofs.Theory.Pairs.{le-or-lt}
 use Rattle.numbering.specs.Dictionary.{keep, startings, words}
-use Rattle.numbering.specs.Orders.{Choice, behind, choices, orders, takenFrom, takenWords}
+use Rattle.numbering.specs.Orders.{Choice, choices, orders, takenFrom, takenWords}
 use Rattle.numbering.proofs.Theory.Counting.{ordersOf}
-use Rattle.numbering.proofs.Theory.Choices.{Climbing, Every, LinkStep, OpenRibbon, Some, choice-orders, choices-climb, choices-open, climb-above, every-both, every-choice, every-map}
+use Rattle.numbering.proofs.Theory.Choices.{Climbing, Every, OpenRibbon, Some, choice-orders, choices-climb, choices-open, climb-above, every-both, every-choice, every-map}
 use Rattle.numbering.proofs.Theory.Kept.{Kept, kept-first, kept-letter}
 
 -- ---- words that pass a test
