@@ -1,4 +1,4 @@
--- `ribbon_orders::orders::orders_of` meets its contract, by the laws of specs/Rows. The invariant: the row has the tally of the marks from i on. Assumes nothing.
+-- `ribbon_orders::orders::orders_of` meets its contract, by the laws of specs/Rows. The row has the tally of the marks from i on. Assumes nothing.
 use Rattle.ribbon_orders.specs.Rows.{rowing, Rowing}
 use Rattle.ribbon_orders.proofs.orders.orders_of.Statement.{statement}
 use Rattle.ribbon_orders.proofs.orders.orders_of.Tie as tie

@@ -1,0 +1,17 @@
+-- `taken_cells::removal::without` meets its contract, by the laws of specs/Removal. The invariant: the bytes before i are moved. Assumes nothing.
+use Prim.Native.Nat.{_-_}
+use Rattle.taken_cells.specs.Removal.{pulling, Pulling}
+use Rattle.taken_cells.proofs.removal.without.Statement.{statement}
+use Rattle.taken_cells.proofs.removal.without.Tie as tie
+
+abbrev Inv-loop : tie.InvT-loop
+Inv-loop place out₀ i₀ out i = Pulling place out₀ out i
+
+abbrev μ-loop : tie.MeasureT-loop
+μ-loop place out₀ i₀ out i = 19 - i
+
+pub without-spec : {M : Type 1} → statement M
+without-spec =
+    tie.close
+    (tie.spec Inv-loop μ-loop (λ c. search pulling) (λ c. search pulling) (λ c. search pulling)
+    (λ c. search pulling) (λ c. search pulling) (λ c. search pulling) (λ c. search pulling) (λ c. search pulling))

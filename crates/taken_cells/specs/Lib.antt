@@ -1,0 +1,4 @@
+pub mod Removal
+pub mod Choices
+pub mod Numbered
+pub mod Lettered
