@@ -1,2 +1,3 @@
+pub mod Bytes
 pub mod Letters
 pub mod Passed

@@ -1,30 +1,17 @@
 -- Letters narrowed to bytes.
---     narrowed                 a letter as a byte
 --     Narrowing n xs bytes i   the loop over letters: the first i are in the bytes, of which there are n
 --     narrowing                the ruleset of letters narrowed to bytes
 -- Assumes nothing.
-use Prim.Native.Nat.{ℕ, _+_, _%_, _≤_, _<_}
+use Prim.Native.Nat.{ℕ, _+_, _≤_, _<_}
 use mathlib.Core.Path.{_≡_, _∙_}
-use mathlib.Core.Bool.{cond}
 use mathlib.Core.List.{List, [], _∷_, map, map-append}
 use native.Mathlib.Numerals.{add-one}
 use native.Mathlib.Omega.{arith}
-use lib.Dec.{ltb}
 use lib.ListN.{length, getD, set, take, replicate, length-map, length-replicate, length-set}
 use lib.Seq.{length-take-le, take-all, take-suc}
 use borrow.Author.Needs.{needs}
-use borrow.Author.Tests.{le-ltb, lt-ltb}
+use Rattle.acceptance.specs.Bytes.{narrowed}
 use Rattle.scans.specs.Kept.{Agree, agree-more}
-
--- A letter as a byte, 0 where no byte holds it.
-abbrev pub narrowed : ℕ → ℕ
-narrowed x = cond (ltb x 256) x 0
-
-pub narrow-byte : (x : ℕ) → x < 256 → x % 256 ≡ narrowed x
-narrow-byte x l = rw (lt-ltb x 256 l) (omega arith)
-
-pub narrow-none : (x : ℕ) → 256 ≤ x → 0 ≡ narrowed x
-narrow-none x l = rw (le-ltb x 256 l)
 
 -- The first i letters are narrowed.
 pub record Narrowing (n : ℕ) (xs bytes : List ℕ) (i : ℕ) : Type 0 where
@@ -55,4 +42,4 @@ module _ {n : ℕ} {xs bytes : List ℕ} {i : ℕ} (h : Narrowing n xs bytes i) 
   pub narrow-end : length xs ≤ i → Agree (map narrowed xs) bytes
   narrow-end l = rw (take-all i xs l) at (h .kept)
 
-pub ruleset narrowing = (narrow-byte, narrow-none, narrow-start, narrow-turn, narrow-end, needs)
+pub ruleset narrowing = (narrow-start, narrow-turn, narrow-end, needs)

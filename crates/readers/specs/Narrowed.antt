@@ -13,7 +13,7 @@ use lib.Dec.{ltb}
 use borrow.Author.Tests.{ltb-false, lt-ltb}
 use Rattle.hypoplactic.specs.Judgements.{lettersFrom, lettersJudged, outside}
 use Rattle.hypoplactic.specs.Replies.{Said, first, gives, passed, ranTo, refused}
-use Rattle.readers.specs.Letters.{narrowed}
+use Rattle.acceptance.specs.Bytes.{narrowed}
 
 -- They are the letters, or 4 refuses both at one place.
 abbrev Alike : ℕ → ℕ → List ℕ → Type 0

@@ -27,7 +27,7 @@ use Rattle.refusals.specs.declared.answers.Verdict.{Verdict}
 use Rattle.refusals.specs.declared.answers.Verdict.the-variants.{Passed, Refused}
 use Rattle.numerals.specs.Numbers.{Told}
 use Rattle.scans.specs.Kept.{Agree, agree-take, kept-agrees, length-kept}
-use Rattle.readers.specs.Letters.{narrowed}
+use Rattle.acceptance.specs.Bytes.{narrowed}
 use Rattle.scans.specs.Items.{stepMarks}
 use Rattle.scans.specs.Kinds.{recording-whole, tableau-whole, word-whole}
 use Rattle.readers.specs.Narrowed.{narrowed-run}

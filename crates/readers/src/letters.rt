@@ -1,18 +1,10 @@
 // Letters that were read, narrowed to bytes.
+use acceptance::bytes::narrow;
 ghost use Prim.Native.Nat.{_≤_};
 ghost use mathlib.Core.List.{map};
-ghost use mathlib.Core.Path.{_≡_};
 ghost use lib.ListN.{length};
+ghost use Rattle.acceptance.specs.Bytes.{narrowed};
 ghost use Rattle.scans.specs.Kept.{Agree};
-ghost use Rattle.readers.specs.Letters.{narrowed};
-
-// A letter as a byte: one that no byte holds becomes 0, which is no letter either.
-fn narrow(letter: u16) -> u8
-    ensures { λ r. ⌜ r ≡ narrowed letter ⌝ }
-{
-    let low = (letter % 256) as u8;
-    if letter < 256 { low } else { 0 }
-}
 
 // Letters as bytes, at the beginning of an array that has room for them.
 pub(crate) fn narrow_letters(letters: &[u16]) -> [u8; 1024]
