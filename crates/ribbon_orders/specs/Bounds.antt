@@ -1,37 +1,21 @@
 -- How large the numbers of a tally grow.
---     factorial n        1 times 2 times .. times n
---     tally-bound        the numbers of the tally of n marks add up to at most (n + 1) factorial
---     tally-19           of at most 19 marks, to at most 20 factorial, which fits 64 bits
---     orders-19          at most 19 marks have at most 19 factorial orders
+--     tally-bound              the numbers of the tally of n marks add up to at most (n + 1) factorial
+--     tally-19                 of at most 19 marks, to at most 20 factorial, which fits 64 bits
+--     orders-19, orders-20     at most 19 marks have at most 19 factorial orders, at most 20 marks at most 20 factorial
 -- Assumes nothing.
 use Prim.Native.Nat.{ℕ, zero, suc, _+_, _*_, _≤_}
-use mathlib.Core.Path.{_≡_, refl, ap, _∙_}
 use mathlib.Core.List.{List, [], _∷_}
 use native.Mathlib.Decide.{le-ind}
 use native.Mathlib.Nat.{le-refl, le-trans, mul-le-mul, suc-mul}
 use native.Mathlib.Omega.{arith}
+use mathlib.Core.Path.{_≡_}
 use lib.ListN.{length}
-use Rattle.numbering.specs.Compositions.{total}
+use Rattle.numbering.specs.Compositions.{factorial, total}
 use Rattle.numbering.specs.Orders.{across, allowed, headOf, orders, tally}
-
-abbrev pub factorial : ℕ → ℕ
-factorial zero = 1
-factorial (suc n) = suc n * factorial n
-
-factorial-next : (n : ℕ) → factorial n ≤ factorial (suc n)
-factorial-next n = omega (arith, suc-mul n (factorial n))
+use Rattle.numbering.proofs.Theory.Counting.{length-tally}
 
 factorial-le : (n k : ℕ) → n ≤ k → factorial n ≤ factorial k
-factorial-le n k = le-ind (λ (k : ℕ). factorial n ≤ factorial k) (le-refl (factorial n)) (λ k l h. le-trans h (factorial-next k)) k
-
--- A tally has one number more than there are marks.
-length-across : (m before : ℕ) (xs : List ℕ) → length (across m before xs) ≡ suc (length xs)
-length-across m before [] = refl
-length-across m before (x ∷ xs) = ap suc (length-across m (before + x) xs)
-
-pub length-tally : (ms : List ℕ) → length (tally ms) ≡ suc (length ms)
-length-tally [] = refl
-length-tally (m ∷ ms) = length-across m 0 (tally ms) ∙ ap suc (length-tally ms)
+factorial-le n k = le-ind (λ (k : ℕ). factorial n ≤ factorial k) (le-refl (factorial n)) (λ k l h. omega (arith, h, suc-mul k (factorial k))) k
 
 -- No step allows more than all.
 allowed-le : (m before after : ℕ) → allowed m before after ≤ before + after
@@ -57,12 +41,17 @@ pub tally-19 : (ms : List ℕ) → length ms ≤ 19 → total (tally ms) ≤ 243
 tally-19 ms l = le-trans (tally-bound ms) (factorial-le (suc (length ms)) 20 (omega arith))
 
 -- The first number is at most all numbers of the tally before it.
-pub orders-19 : (ms : List ℕ) → length ms ≤ 19 → orders ms ≤ 121645100408832000
+orders-bound : (ms : List ℕ) → orders ms ≤ factorial (length ms)
 unfolding orders
-orders-19 [] l = omega arith
-orders-19 (m ∷ ms) l =
-    le-trans (head (tally ms)) (le-trans (tally-bound ms) (factorial-le (suc (length ms)) 19 (omega arith)))
+orders-bound [] = omega arith
+orders-bound (m ∷ ms) = le-trans (head (tally ms)) (tally-bound ms)
   where
     head : (xs : List ℕ) → headOf (across m 0 xs) ≤ total xs
     head [] = omega (arith, allowed-le m 0 0)
     head (x ∷ xs) = omega (arith, allowed-le m 0 (x + total xs))
+
+pub orders-19 : (ms : List ℕ) → length ms ≤ 19 → orders ms ≤ 121645100408832000
+orders-19 ms l = le-trans (orders-bound ms) (factorial-le (length ms) 19 l)
+
+pub orders-20 : (ms : List ℕ) → length ms ≤ 20 → orders ms ≤ 2432902008176640000
+orders-20 ms l = le-trans (orders-bound ms) (factorial-le (length ms) 20 l)

@@ -19,7 +19,8 @@ use borrow.Author.Tests.{le-ltb, lt-ltb}
 use borrow.Rule.Slice.PartMut.{midOf, putMid}
 use Rattle.numbering.specs.Compositions.{total}
 use Rattle.numbering.specs.Orders.{across, headOf, orders, tally}
-use Rattle.ribbon_orders.specs.Bounds.{length-tally, tally-19}
+use Rattle.numbering.proofs.Theory.Counting.{length-tally}
+use Rattle.ribbon_orders.specs.Bounds.{tally-19}
 use Rattle.ribbon_orders.specs.Sweeps.{swept, swept-across}
 
 unfoldable pub ordersGiven : List ℕ → ℕ
