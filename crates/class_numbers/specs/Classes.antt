@@ -1,0 +1,185 @@
+-- What the operations on the words of a class reply, from the verdicts of their checks on.
+--     size-refused, size-told          the size of a tableau's class
+--     word-stopped, word-refused, word-told      a word of it: the tableau, or the number or the room, is refused; the word is written
+--     number-refused, number-told      the number of a word
+--     sizing, writing, telling         the rulesets of the three operations
+-- Assumes nothing.
+use Prim.Native.Nat.{ℕ, _≤_}
+use mathlib.Core.Path.{_≡_, refl, sym, ap, ap₂, _∙_}
+use mathlib.Core.List.{List, [], _∷_, _++_}
+use native.Mathlib.Omega.{arith}
+use lib.ListN.{length, set, take}
+use borrow.Author.Needs.{needs}
+use Rattle.hypoplactic.specs.Words.{Accepted}
+use Rattle.hypoplactic.specs.Ribbons.{TableauAt}
+use Rattle.hypoplactic.specs.Insertion.{lettersOf, marksOf}
+use Rattle.hypoplactic.specs.Replies.{Said, first, gives, passed, ranTo, written}
+use Rattle.hypoplactic.specs.Judgements.{roomJudged, tableauJudgements, tableauRooms, wordJudgements}
+use Rattle.hypoplactic.specs.TableauOperations.{tableauRun, tableauSays}
+use Rattle.hypoplactic.proofs.Theory.Judged.{tableau-passing, word-passing}
+use Rattle.hypoplactic.proofs.Theory.Judgements.{alike-judged, room-judged}
+use Rattle.hypoplactic.proofs.Theory.Memory.{written-needed}
+use Rattle.hypoplactic.proofs.Theory.Pairs.{length-letters, length-marks}
+use Rattle.hypoplactic.proofs.Theory.Passing.{Passing, first-else, first-past, ran-answer}
+use Rattle.numbering.specs.Dictionary.{classNumber, classSize, classWord}
+use Rattle.numbering.specs.Operations.{classJudgements, classNumberSays, classSizeSays, classWordRun, classWordSays, numberJudged, smallJudged}
+use Rattle.numbering.specs.Orders.{freed, orders, placeOf, wordAt}
+use Rattle.numbering.proofs.Theory.ClassSize.{class-size}
+use Rattle.numbering.proofs.Theory.Numbers.{class-number, class-word, place-below}
+use Rattle.refusals.specs.Chains.{goes-on, stops}
+use Rattle.refusals.specs.Running.{all-passing, checksThen, run-stopped, then-passing}
+use Rattle.refusals.specs.Said.{saidRefusal, saidVerdict}
+use Rattle.refusals.specs.declared.refusal.Refusal.{Refusal}
+use Rattle.refusals.specs.declared.answers.Verdict.{Verdict}
+use Rattle.refusals.specs.declared.answers.Verdict.the-variants.{Passed, Refused}
+use Rattle.ribbon_orders.specs.Bounds.{orders-20}
+use Rattle.class_numbers.specs.Checks.{small-judged}
+use Rattle.class_numbers.specs.Held.{Holds, Opens, take-freed}
+use Rattle.class_numbers.specs.NumberFound.{Placed, placeIn}
+
+-- ---- tableaux
+
+-- 16 and 13 of a word of the class.
+abbrev asked : ℕ → List ℕ → List ℕ → ℕ → List ℕ → List Said
+asked n xs ms k old = numberJudged k (classSize n xs ms) ∷ roomJudged (length xs) (length old) ∷ []
+
+-- The verdict of 1 to 6 on the tableau and of 15.
+module _ {v : Verdict} (n : ℕ) (xs ms : List ℕ) (e : saidVerdict v ≡ checksThen (tableauJudgements n xs ms) (smallJudged (length xs) ∷ [])) where
+  -- Where it passes, the tableau is one of at most 20 cells.
+  module _ (q : v ≡ Passed) where
+    checks : Passing (tableauJudgements n xs ms) × Passing (smallJudged (length xs) ∷ [])
+    checks = then-passing _ _ e q
+
+    tableau : TableauAt n xs ms
+    tableau = tableau-passing n xs ms .0 (checks .0)
+
+    pub letters-few : length xs ≤ 20
+    letters-few = small-judged (length xs) (checks .1 .0)
+
+    alike : length ms ≡ length xs
+    alike = alike-judged _ _ .0 (checks .0 .1 .1 .0) .0
+
+    pub marks-few : length ms ≤ 20
+    marks-few = omega (arith, alike, letters-few)
+
+    size-is : classSize n xs ms ≡ orders (freed ms)
+    size-is = class-size n xs ms (tableau .word .letters) (tableau .tableau)
+
+    all : Passing (classJudgements n xs ms)
+    unfolding checksThen
+    all = all-passing (classJudgements n xs ms) e q
+
+  pub size-refused : (r : Refusal) → v ≡ Refused r → saidRefusal r ≡ classSizeSays n xs ms
+  unfolding classSizeSays checksThen
+  size-refused r q = stops r (first (classJudgements n xs ms) passed) (gives (classSize n xs ms ∷ [])) e q ∙ first-else (classJudgements n xs ms) _
+
+  pub size-told : (k : ℕ) → v ≡ Passed → k ≡ orders (freed ms) → gives (k ∷ []) ≡ classSizeSays n xs ms
+  unfolding classSizeSays checksThen
+  size-told k q h =
+      goes-on (first (classJudgements n xs ms) passed) (gives (classSize n xs ms ∷ [])) e q (ap (λ (j : ℕ). gives (j ∷ [])) (h ∙ sym (size-is q)))
+      ∙ first-else (classJudgements n xs ms) _
+
+  -- A word is asked for, and the tableau is refused.
+  pub word-stopped : (k : ℕ) (old : List ℕ) (r : Refusal) → v ≡ Refused r → (saidRefusal r, old) ≡ classWordRun n xs ms k old
+  unfolding classWordRun classWordSays checksThen
+  word-stopped k old r q =
+      run-stopped (classJudgements n xs ms) (asked n xs ms k old) (length xs ∷ []) (written (classWord n xs ms k) old) old r e q
+
+  -- It is not, and u is the verdict of 16 and 13,
+  module _ (u : Verdict) (q : v ≡ Passed) (k size : ℕ) (old : List ℕ) (h : size ≡ orders (freed ms))
+      (f : saidVerdict u ≡ first (numberJudged k size ∷ roomJudged (length xs) (length old) ∷ []) passed) where
+    said : saidVerdict u ≡ first (asked n xs ms k old) passed
+    said = f ∙ ap (λ (j : ℕ). first (numberJudged k j ∷ roomJudged (length xs) (length old) ∷ []) passed) (h ∙ sym (size-is q))
+
+    -- which refuses,
+    pub word-refused : (r : Refusal) → u ≡ Refused r → (saidRefusal r, old) ≡ classWordRun n xs ms k old
+    unfolding classWordRun classWordSays
+    word-refused r p =
+        run-stopped (asked n xs ms k old) [] (length xs ∷ []) (written (classWord n xs ms k) old) old r said p
+        ∙ ap (λ (t : Said). ranTo t (written (classWord n xs ms k) old) old)
+        (sym (first-past (classJudgements n xs ms) (asked n xs ms k old) (gives (length xs ∷ [])) (all q)))
+
+    -- or passes, so that the word has room,
+    pub word-room : u ≡ Passed → length xs ≤ length old
+    word-room p = room-judged _ _ .0 (all-passing (asked n xs ms k old) said p .1 .0)
+
+    -- and is written.
+    pub word-told : (ys ns now : List ℕ) → u ≡ Passed → Holds xs ys → Opens ms ns
+        → now ≡ written (wordAt (length xs) (take (length xs) ys) (take (length xs) ns) k) old
+        → (gives (length xs ∷ []), now) ≡ classWordRun n xs ms k old
+    unfolding classWordRun classWordSays
+    word-told ys ns now p a b g =
+        ap (λ (new : List ℕ). (gives (length xs ∷ []), new)) (g ∙ ap (λ (w : List ℕ). written w old) word)
+        ∙ sym (ran-answer (classJudgements n xs ms) (asked n xs ms k old) (length xs ∷ []) (written (classWord n xs ms k) old) old (all q)
+        (all-passing (asked n xs ms k old) said p))
+      where
+        marks : take (length xs) ns ≡ freed ms
+        marks = ap (λ (j : ℕ). take j ns) (sym (alike q)) ∙ b .is (marks-few q)
+
+        word : wordAt (length xs) (take (length xs) ys) (take (length xs) ns) k ≡ classWord n xs ms k
+        word =
+            ap₂ (λ (us vs : List ℕ). wordAt (length xs) us vs k) (a .is (letters-few q)) marks
+            ∙ sym (class-word n xs ms (tableau q .word .letters) (tableau q .tableau) k)
+
+pub ruleset sizing = (marks-few, size-refused, size-told, needs)
+
+pub ruleset writing = (letters-few, marks-few, word-stopped, word-refused, word-room, word-told, needs)
+
+-- ---- words
+
+abbrev judged : ℕ → List ℕ → List Said
+judged n w = wordJudgements n w ++ (smallJudged (length w) ∷ [])
+
+-- The verdict of 1, 2 and 4 on the word and of 15.
+module _ {v : Verdict} (n : ℕ) (w : List ℕ) (e : saidVerdict v ≡ checksThen (wordJudgements n w) (smallJudged (length w) ∷ [])) where
+  pub number-refused : (r : Refusal) → v ≡ Refused r → saidRefusal r ≡ classNumberSays n w
+  unfolding classNumberSays checksThen
+  number-refused r q = stops r (first (judged n w) passed) (gives (classNumber n w ∷ [])) e q ∙ first-else (judged n w) _
+
+  -- Where it passes, the tableau of the word stands in two lists of 20 elements.
+  module _ (q : v ≡ Passed) (ls ks us vs : List ℕ) (made : Said) (d : length ls ≡ 20) (c : length ks ≡ 20)
+      (t : (made, (us, vs)) ≡ tableauRun n w ls ks) where
+    accepted : Accepted n w
+    accepted = word-passing n w .0 (then-passing _ _ e q .0)
+
+    few : length w ≤ 20
+    few = small-judged (length w) (then-passing _ _ e q .1 .0)
+
+    ran : _≡_ {A = List ℕ × List ℕ} (us, vs) (written (lettersOf w) ls, written (marksOf w) ks)
+    unfolding tableauRun tableauSays
+    ran =
+        ap (λ (o : Said × (List ℕ × List ℕ)). o .1)
+        (t ∙ ran-answer (wordJudgements n w) (tableauRooms (length w) (length ls) (length ks)) _ _ _ (word-passing n w .1 accepted)
+        (room-judged _ _ .1 (omega (arith, few)), (room-judged _ _ .1 (omega (arith, few)), tt)))
+
+    letters-in : take (length w) us ≡ lettersOf w
+    letters-in =
+        ap₂ take (sym (length-letters w)) (ap (λ (o : List ℕ × List ℕ). o .0) ran) ∙ written-needed (lettersOf w) ls
+
+    marks-in : take (length w) (set vs 0 2) ≡ freed (marksOf w)
+    marks-in =
+        take-freed (length w) vs (marksOf w)
+        (ap₂ take (sym (length-marks w)) (ap (λ (o : List ℕ × List ℕ). o .1) ran) ∙ written-needed (marksOf w) ks)
+
+    place-is : placeIn w us (set vs 0 2) ≡ placeOf w (lettersOf w) (freed (marksOf w))
+    place-is = ap₂ (placeOf w) letters-in marks-in
+
+    -- Its number there fits 64 bits,
+    pub number-placed : Placed w us (set vs 0 2)
+    number-placed =
+        let size : length (freed (marksOf w)) ≤ 20 = omega (arith, few, freed-long (marksOf w), length-marks w) in
+        record { few = few; fits = record { fits = omega (arith, place-is, place-below n w (accepted .letters), orders-20 (freed (marksOf w)) size) } }
+      where
+        freed-long : (ms : List ℕ) → length (freed ms) ≡ length ms
+        freed-long [] = refl
+        freed-long (m ∷ ms) = refl
+
+    -- and is its number in its class.
+    pub number-told : (r : ℕ) → r ≡ placeIn w us (set vs 0 2) → gives (r ∷ []) ≡ classNumberSays n w
+    unfolding classNumberSays checksThen
+    number-told r h =
+        goes-on (first (judged n w) passed) (gives (classNumber n w ∷ [])) e q
+        (ap (λ (j : ℕ). gives (j ∷ [])) (h ∙ place-is ∙ sym (class-number n w (accepted .letters))))
+        ∙ first-else (judged n w) _
+
+pub ruleset telling = (number-refused, number-placed, number-told, needs)
