@@ -22,7 +22,7 @@ use borrow.Author.Tests.{ne-eqb}
 use Rattle.numbering.specs.Orders.{Choice, behind, choices, entered, freed, left, orders, withIf}
 use Rattle.ribbon_orders.specs.Bounds.{orders-19}
 use Rattle.ribbon_orders.specs.Rows.{orders-some, ordersGiven}
-use Rattle.taken_cells.specs.Removal.{PulledFree, marksWithout, without}
+use Rattle.taken_cells.specs.Removal.{free-told, marksWithout, pulledFree, without}
 
 -- ---- choices by places
 
@@ -106,13 +106,13 @@ unfolding ordersLeft
 left-none c i ms e q = sym (ap (λ (b : Bool). cond b (orders (marksWithout i (take c ms))) 0) (sym e ∙ q))
 
 -- It may, and the orders of the marks that it leaves are counted.
-pub left-some : {g : Bool} {r : ℕ} (c i : ℕ) (ms ns : List ℕ) → g ≡ mayGo (take c ms) i → g ≡ true → PulledFree i ms ns → i < c → c ≤ 20
+pub left-some : {g : Bool} {r : ℕ} (c i : ℕ) (ms ns : List ℕ) → g ≡ mayGo (take c ms) i → g ≡ true → length ms ≡ 20 → ns ≡ pulledFree i ms → i < c → c ≤ 20
     → r ≡ ordersGiven (midOf 0 (c - 1 - 0) ns) → r ≡ ordersLeft (take c ms) i
 unfolding ordersLeft
-left-some {g} {r} c i ms ns e q h l m o =
+left-some {g} {r} c i ms ns e q s h l m o =
     let part : c - 1 - 0 ≡ c - 1 = omega arith in
     let few : length (take (c - 1) ns) ≤ 20 = omega (arith, length-take (c - 1) ns) in
-    o ∙ ap (λ (k : ℕ). ordersGiven (take k ns)) part ∙ orders-some (take (c - 1) ns) few ∙ ap orders (h .is c l m)
+    o ∙ ap (λ (k : ℕ). ordersGiven (take k ns)) part ∙ orders-some (take (c - 1) ns) few ∙ ap orders (free-told i ms s h .is c l m)
     ∙ sym (ap (λ (b : Bool). cond b (orders (marksWithout i (take c ms))) 0) (sym e ∙ q))
 
 -- They are few enough to be added up over 20 cells.

@@ -1,19 +1,23 @@
 -- A cell taken out of lists and out of 20 bytes of which only the first count.
 --     without p xs              the list without the element at place p
 --     marksWithout p ms         the same of marks, with a free step across the gap
---     Pulled, PulledFree        the same of the first m of 20 bytes, for every m
+--     pulled p xs               20 bytes without the one at place p: those after it are one place back, and the last stays where it is
+--     pulledFree p ms           the same of marks, with a free step across the gap
+--     Pulled, PulledFree        what that means for the first m of them, for every m: pulled-told, free-told
 --     Pulling p xs now i        the loop that moves bytes one back: those before i are moved
 --     pulling                   the ruleset of both functions
 -- Assumes nothing.
 use Prim.Native.Nat.{ℕ, zero, suc, _+_, _-_, _≤_, _<_}
 use mathlib.Core.Path.{_≡_, refl, sym, ap, ap₂, _∙_}
-use mathlib.Core.List.{List, [], _∷_, _++_}
+use mathlib.Core.Logic.{_⊎_, inl, inr}
+use mathlib.Core.List.{List, [], _∷_, _++_, append-nil}
 use native.Mathlib.Nat.{add-zero}
 use native.Mathlib.Numerals.{add-one}
 use native.Mathlib.Omega.{arith}
-use lib.ListN.{length, getD, set, take, drop, length-append, length-drop, length-set}
-use lib.Seq.{drop-cons, drop-set-lt, getD-drop, length-take-le, take-suc, take-suc-set, take-take}
+use lib.ListN.{length, getD, set, take, drop, drop-of-length-le, length-append, length-drop, length-set, take-append-drop}
+use lib.Seq.{drop-cons, drop-set-lt, getD-drop, length-take-le, take-all, take-suc, take-suc-set, take-take}
 use borrow.Author.Needs.{needs}
+use Rattle.hypoplactic.proofs.Theory.Pairs.{le-or-lt}
 use Rattle.numbering.specs.Orders.{freed}
 
 abbrev pub without : ℕ → List ℕ → List ℕ
@@ -22,12 +26,12 @@ without p xs = take p xs ++ drop (suc p) xs
 abbrev pub marksWithout : ℕ → List ℕ → List ℕ
 marksWithout p ms = take p ms ++ freed (drop (suc p) ms)
 
--- Of every beginning that has the place.
-pub record Pulled (p : ℕ) (xs ys : List ℕ) : Type 0 where
-  pub is : (m : ℕ) → p < m → m ≤ 20 → take (m - 1) ys ≡ without p (take m xs)
+-- Past the last place nothing is taken out.
+abbrev pub pulled : ℕ → List ℕ → List ℕ
+pulled p xs = take 19 (without p xs) ++ drop 19 xs
 
-pub record PulledFree (p : ℕ) (ms ys : List ℕ) : Type 0 where
-  pub is : (m : ℕ) → p < m → m ≤ 20 → take (m - 1) ys ≡ marksWithout p (take m ms)
+abbrev pub pulledFree : ℕ → List ℕ → List ℕ
+pulledFree p ms = set (pulled p ms) p 2
 
 -- ---- lists without an element
 
@@ -49,6 +53,10 @@ getD-without (suc p) (suc i) (x ∷ xs) l = getD-without p i xs (omega arith)
 pub length-without : (p : ℕ) (xs : List ℕ) → p < length xs → suc (length (without p xs)) ≡ length xs
 length-without p xs l =
     omega (arith, length-append (take p xs) (drop (suc p) xs), length-take-le p xs (omega arith), length-drop (suc p) xs)
+
+-- There is nothing to take out past the last place.
+nothing : (p : ℕ) (xs : List ℕ) → length xs ≤ p → without p xs ≡ xs
+nothing p xs l = let past : length xs ≤ suc p = omega arith in ap₂ _++_ (take-all p xs l) (drop-of-length-le xs past) ∙ append-nil xs
 
 -- A beginning without an element of it.
 beginning : (p k : ℕ) (xs : List ℕ) → p ≤ k → take k (without p xs) ≡ without p (take (suc k) xs)
@@ -124,25 +132,65 @@ module _ {p : ℕ} {xs now : List ℕ} {i : ℕ} (h : Pulling p xs now i) where
       next : getD now (suc i) 0 ≡ getD xs (suc i) 0
       next = place now ∙ ap (λ (ys : List ℕ). getD ys 0 0) (later l) ∙ sym (place xs)
 
-  pub pulling-end : 19 ≤ i → Pulled p xs now
-  pulling-end l = record { is = λ m a b. go m a b }
+  -- All are moved, or there was none to be moved.
+  pub pulling-end : 19 ≤ i → now ≡ pulled p xs
+  pulling-end l = sym (take-append-drop i now) ∙ ap₂ _++_ (h .moved) (h .kept) ∙ go (le-or-lt 20 p)
     where
-      go : (m : ℕ) → p < m → m ≤ 20 → take (m - 1) now ≡ without p (take m xs)
-      go zero a b = let z : ⊥ = omega arith in absurd z
-      go (suc k) a b =
-          let fewer : suc k - 1 ≡ k = omega arith in
-          let inside : k ≤ i = omega arith in
-          ap (λ (j : ℕ). take j now) fewer ∙ sym (take-take k i now inside) ∙ ap (take k) (h .moved)
-          ∙ take-take k i (without p xs) inside ∙ beginning p k xs (omega arith)
+      go : (20 ≤ p) ⊎ (p < 20) → take i (without p xs) ++ drop i xs ≡ pulled p xs
+      go (inl m) =
+          let high : length xs ≤ i = omega (arith, h .size, h .begun) in
+          let all : without p xs ≡ xs = nothing p xs (omega (arith, h .size)) in
+          ap₂ _++_ (ap (take i) all ∙ take-all i xs high) (drop-of-length-le xs high) ∙ append-nil xs
+          ∙ sym (ap (λ (ys : List ℕ). take 19 ys ++ drop 19 xs) all ∙ take-append-drop 19 xs)
+      go (inr m) = let last : i ≡ 19 = omega (arith, h .reached m) in ap (λ (k : ℕ). take k (without p xs) ++ drop k xs) last
 
 -- ---- marks
 
--- No cell of a beginning is that far.
-pub free-past : (p : ℕ) (ms : List ℕ) → 20 ≤ p → PulledFree p ms ms
-free-past p ms l = record { is = λ m a b. let z : ⊥ = omega arith in absurd z }
+-- No byte is that far.
+pub free-past : (p : ℕ) (ms : List ℕ) → length ms ≡ 20 → 20 ≤ p → ms ≡ pulledFree p ms
+free-past p ms e l =
+    let all : pulled p ms ≡ ms = ap (λ (ys : List ℕ). take 19 ys ++ drop 19 ms) (nothing p ms (omega arith)) ∙ take-append-drop 19 ms in
+    sym (ap (λ (ys : List ℕ). set ys p 2) all ∙ beyond ms p (omega arith))
+  where
+    beyond : (xs : List ℕ) (q : ℕ) → length xs ≤ q → set xs q 2 ≡ xs
+    beyond [] q l = refl
+    beyond (x ∷ xs) zero l = let z : ⊥ = omega arith in absurd z
+    beyond (x ∷ xs) (suc q) l = ap (λ (ys : List ℕ). x ∷ ys) (beyond xs q (omega arith))
 
-pub free-pulled : (p : ℕ) (ms ys : List ℕ) → Pulled p ms ys → PulledFree p ms (set ys p 2)
-free-pulled p ms ys h =
-    record { is = λ m a b. take-set (m - 1) p 2 ys ∙ ap (λ (zs : List ℕ). set zs p 2) (h .is m a b) ∙ set-without p (take m ms) }
+pub free-pulled : {ys : List ℕ} (p : ℕ) (ms : List ℕ) → ys ≡ pulled p ms → set ys p 2 ≡ pulledFree p ms
+free-pulled p ms e = ap (λ (zs : List ℕ). set zs p 2) e
 
 pub ruleset pulling = (pulling-start, place-in, next-in, pulling-turn, pulling-end, free-past, free-pulled, needs)
+
+-- ---- what it means
+
+-- Of every beginning that has the place.
+pub record Pulled (p : ℕ) (xs ys : List ℕ) : Type 0 where
+  pub is : (m : ℕ) → p < m → m ≤ 20 → take (m - 1) ys ≡ without p (take m xs)
+
+pub record PulledFree (p : ℕ) (ms ys : List ℕ) : Type 0 where
+  pub is : (m : ℕ) → p < m → m ≤ 20 → take (m - 1) ys ≡ marksWithout p (take m ms)
+
+take-first : (k : ℕ) (us vs : List ℕ) → k ≤ length us → take k (us ++ vs) ≡ take k us
+take-first zero us vs l = refl
+take-first (suc k) [] vs l = let z : ⊥ = omega arith in absurd z
+take-first (suc k) (u ∷ us) vs l = ap (λ (ws : List ℕ). u ∷ ws) (take-first k us vs (omega arith))
+
+pub pulled-told : {ys : List ℕ} (p : ℕ) (xs : List ℕ) → length xs ≡ 20 → ys ≡ pulled p xs → Pulled p xs ys
+pulled-told {ys} p xs s e = record { is = λ m a b. ap (take (m - 1)) e ∙ go m a b }
+  where
+    go : (m : ℕ) → p < m → m ≤ 20 → take (m - 1) (pulled p xs) ≡ without p (take m xs)
+    go zero a b = let z : ⊥ = omega arith in absurd z
+    go (suc k) a b =
+        let fewer : suc k - 1 ≡ k = omega arith in
+        let small : p < length xs = omega arith in
+        let size : length (take 19 (without p xs)) ≡ 19 = length-take-le 19 (without p xs) (omega (arith, length-without p xs small)) in
+        ap (λ (j : ℕ). take j (pulled p xs)) fewer ∙ take-first k (take 19 (without p xs)) (drop 19 xs) (omega arith)
+        ∙ take-take k 19 (without p xs) (omega arith) ∙ beginning p k xs (omega arith)
+
+pub free-told : {ys : List ℕ} (p : ℕ) (ms : List ℕ) → length ms ≡ 20 → ys ≡ pulledFree p ms → PulledFree p ms ys
+free-told {ys} p ms s e = record {
+  is = λ m a b.
+      ap (take (m - 1)) e ∙ take-set (m - 1) p 2 (pulled p ms) ∙ ap (λ (zs : List ℕ). set zs p 2) (pulled-told p ms s refl .is m a b)
+      ∙ set-without p (take m ms);
+}

@@ -5,8 +5,8 @@ ghost use Prim.Native.Nat.{_≤_, _<_};
 ghost use mathlib.Core.Path.{_≡_};
 ghost use lib.ListN.{take};
 ghost use Rattle.taken_cells.specs.Choices.{mayGo, ordersLeft};
-ghost use Rattle.taken_cells.specs.Lettered.{Met, startsAt};
-ghost use Rattle.taken_cells.specs.Numbered.{Sought};
+ghost use Rattle.taken_cells.specs.Lettered.{cellOfLetter, startsAt};
+ghost use Rattle.taken_cells.specs.Numbered.{cellOfNumber};
 
 // Whether the cell at a place may go first: no right step leads into it, and no down step out of it.
 fn may_go(marks: [u8; 20], cells: usize, place: usize) -> bool
@@ -42,7 +42,7 @@ pub struct First {
 
 // The cell that goes first in the word with this number, and that word's number among those that begin so. Past the last cell where no word has the number.
 pub fn cell_of_number(marks: [u8; 20], cells: usize, number: u64) -> First
-    ensures { λ r. ⌜ Sought cells marks number (r .cell) (r .number) ⌝ }
+    ensures { λ r. ⌜ (r .cell, r .number) ≡ cellOfNumber cells marks number ⌝ }
 {
     if 20 < cells {
         return First {
@@ -82,7 +82,7 @@ fn starts_at(letters: [u8; 20], marks: [u8; 20], cells: usize, letter: u8, place
 
 // The cell that goes first in the words that begin with this letter, and how many words come before them. Past the last cell where there are none.
 pub fn cell_of_letter(letters: [u8; 20], marks: [u8; 20], cells: usize, letter: u8) -> First
-    ensures { λ r. ⌜ Met cells letters marks letter (r .cell) (r .number) ⌝ }
+    ensures { λ r. ⌜ (r .cell, r .number) ≡ cellOfLetter cells letters marks letter ⌝ }
 {
     if 20 < cells {
         return First {
