@@ -24,6 +24,7 @@ use Rattle.hypoplactic.proofs.Theory.Passing.{Passing, first-else, first-past, 
 use Rattle.numbering.specs.Dictionary.{classNumber, classSize, classWord}
 use Rattle.numbering.specs.Operations.{classJudgements, classNumberSays, classSizeSays, classWordRun, classWordSays, numberJudged, smallJudged}
 use Rattle.numbering.specs.Orders.{freed, orders, placeOf, wordAt}
+use Rattle.numbering.proofs.Theory.ClassReplies.{small-judged}
 use Rattle.numbering.proofs.Theory.ClassSize.{class-size}
 use Rattle.numbering.proofs.Theory.Numbers.{class-number, class-word, place-below}
 use Rattle.refusals.specs.Chains.{goes-on, stops}
@@ -32,10 +33,9 @@ use Rattle.refusals.specs.Said.{saidRefusal, saidVerdict}
 use Rattle.refusals.specs.declared.refusal.Refusal.{Refusal}
 use Rattle.refusals.specs.declared.answers.Verdict.{Verdict}
 use Rattle.refusals.specs.declared.answers.Verdict.the-variants.{Passed, Refused}
-use Rattle.ribbon_orders.specs.Bounds.{orders-20}
-use Rattle.class_numbers.specs.Checks.{small-judged}
+use Rattle.numbering.proofs.Theory.Bounds.{orders-20}
 use Rattle.class_numbers.specs.Held.{Holds, Opens, take-freed}
-use Rattle.class_numbers.specs.NumberFound.{Placed, placeIn}
+use Rattle.class_numbers.specs.NumberFound.{Placed, placeHeld}
 
 -- ---- tableaux
 
@@ -54,7 +54,7 @@ module _ {v : Verdict} (n : ℕ) (xs ms : List ℕ) (e : saidVerdict v ≡ check
     tableau = tableau-passing n xs ms .0 (checks .0)
 
     pub letters-few : length xs ≤ 20
-    letters-few = small-judged (length xs) (checks .1 .0)
+    letters-few = small-judged (length xs) .0 (checks .1 .0)
 
     alike : length ms ≡ length xs
     alike = alike-judged _ _ .0 (checks .0 .1 .1 .0) .0
@@ -143,7 +143,7 @@ module _ {v : Verdict} (n : ℕ) (w : List ℕ) (e : saidVerdict v ≡ checksThe
     accepted = word-passing n w .0 (then-passing _ _ e q .0)
 
     few : length w ≤ 20
-    few = small-judged (length w) (then-passing _ _ e q .1 .0)
+    few = small-judged (length w) .0 (then-passing _ _ e q .1 .0)
 
     ran : _≡_ {A = List ℕ × List ℕ} (us, vs) (written (lettersOf w) ls, written (marksOf w) ks)
     unfolding tableauRun tableauSays
@@ -161,7 +161,7 @@ module _ {v : Verdict} (n : ℕ) (w : List ℕ) (e : saidVerdict v ≡ checksThe
         take-freed (length w) vs (marksOf w)
         (ap₂ take (sym (length-marks w)) (ap (λ (o : List ℕ × List ℕ). o .1) ran) ∙ written-needed (marksOf w) ks)
 
-    place-is : placeIn w us (set vs 0 2) ≡ placeOf w (lettersOf w) (freed (marksOf w))
+    place-is : placeHeld w us (set vs 0 2) ≡ placeOf w (lettersOf w) (freed (marksOf w))
     place-is = ap₂ (placeOf w) letters-in marks-in
 
     -- Its number there fits 64 bits,
@@ -175,7 +175,7 @@ module _ {v : Verdict} (n : ℕ) (w : List ℕ) (e : saidVerdict v ≡ checksThe
         freed-long (m ∷ ms) = refl
 
     -- and is its number in its class.
-    pub number-told : (r : ℕ) → r ≡ placeIn w us (set vs 0 2) → gives (r ∷ []) ≡ classNumberSays n w
+    pub number-told : (r : ℕ) → r ≡ placeHeld w us (set vs 0 2) → gives (r ∷ []) ≡ classNumberSays n w
     unfolding classNumberSays checksThen
     number-told r h =
         goes-on (first (judged n w) passed) (gives (classNumber n w ∷ [])) e q

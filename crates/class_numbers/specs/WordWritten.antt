@@ -12,8 +12,8 @@ use borrow.Author.Needs.{needs}
 use Rattle.hypoplactic.specs.Replies.{written}
 use Rattle.numbering.specs.Orders.{choices, wordAt, wordFrom}
 use Rattle.refusals.specs.Running.{written-element}
-use Rattle.taken_cells.specs.Numbered.{Sought}
-use Rattle.taken_cells.specs.Removal.{Pulled, PulledFree}
+use Rattle.taken_cells.specs.Numbered.{Sought, cellOfNumber, sought-told}
+use Rattle.taken_cells.specs.Removal.{free-told, pulled, pulled-long, pulled-told, pulledFree}
 
 -- i letters are written.
 pub record Writing (c : ℕ) (xs ms : List ℕ) (k : ℕ) (old now ys ns : List ℕ) (left i n : ℕ) : Type 0 where
@@ -60,29 +60,35 @@ module _ {c : ℕ} {xs ms : List ℕ} {k : ℕ} {old now ys ns : List ℕ} {left
     opens : wordAt n (take n ys) (take n ns) left ≡ wordFrom (wordAt (n - 1)) (choices (take n ys) (take n ns)) left
     opens = let e : n ≡ suc (n - 1) = omega arith in ap (λ (j : ℕ). wordAt j (take n ys) (take n ns) left) e
 
+    small : n ≤ 20
+    small = omega (arith, h .cells, h .few)
+
     -- or no cell goes first,
-    module _ {cell next : ℕ} (s : Sought n ns left cell next) where
+    module _ {cell next : ℕ} (t : (cell, next) ≡ cellOfNumber n ns left) where
+      s : Sought n ns left cell next
+      s = sought-told n ns left (h .marks-long) small t
+
       pub writing-none : n ≤ cell → now ≡ written (wordAt c (take c xs) (take c ms) k) old
       writing-none m =
           let none : wordAt n (take n ys) (take n ns) left ≡ [] =
-          opens ∙ s .none (omega (arith, h .cells, h .few)) m ys (h .letters-long) (wordAt (n - 1)) in
+          opens ∙ s .none m ys (h .letters-long) (wordAt (n - 1)) in
           let all : wordAt c (take c xs) (take c ms) k ≡ h .sofar = h .whole ∙ ap (λ (w : List ℕ). h .sofar ++ w) none ∙ append-nil (h .sofar) in
           h .is ∙ sym (ap (λ (w : List ℕ). written w old) all)
 
       -- or one does, its letter is written, and it is taken out.
-      pub writing-turn : {ys′ ns′ : List ℕ} → cell < n → Pulled cell ys ys′ → PulledFree cell ns ns′ → length ys′ ≡ 20 → length ns′ ≡ 20
+      pub writing-turn : {ys′ ns′ : List ℕ} → cell < n → ys′ ≡ pulled cell ys → ns′ ≡ pulledFree cell ns
           → Writing c xs ms k old (set now i (getD ys cell 0)) ys′ ns′ next (i + 1) (n - 1)
-      writing-turn {ys′} {ns′} m p q d e =
-          let small : n ≤ 20 = omega (arith, h .cells, h .few) in
+      writing-turn {ys′} {ns′} m p q =
+          let below : cell < 20 = omega (arith, small) in
           let word : wordAt n (take n ys) (take n ns) left ≡ getD ys cell 0 ∷ wordAt (n - 1) (take (n - 1) ys′) (take (n - 1) ns′) next =
-          opens ∙ s .found small m ys (h .letters-long) (wordAt (n - 1))
-          ∙ ap₂ (λ (us vs : List ℕ). getD ys cell 0 ∷ wordAt (n - 1) us vs next) (sym (p .is n m small)) (sym (q .is n m small)) in
+          opens ∙ s .found m ys (h .letters-long) (wordAt (n - 1))
+          ∙ ap₂ (λ (us vs : List ℕ). getD ys cell 0 ∷ wordAt (n - 1) us vs next) (sym (pulled-told cell ys (h .letters-long) p .is n m small)) (sym (free-told cell ns (h .marks-long) q .is n m small)) in
           record {
             few = h .few;
             room = h .room;
             cells = omega (arith, h .cells);
-            letters-long = d;
-            marks-long = e;
+            letters-long = ap length p ∙ pulled-long cell ys below (h .letters-long);
+            marks-long = ap length q ∙ length-set (pulled cell ns) cell 2 ∙ pulled-long cell ns below (h .marks-long);
             size = length-set now i (getD ys cell 0) ∙ h .size;
             sofar = h .sofar ++ (getD ys cell 0 ∷ []);
             long = length-append (h .sofar) (getD ys cell 0 ∷ []) ∙ ap (λ (j : ℕ). j + 1) (h .long);

@@ -3,6 +3,7 @@ pub mod Multinomials
 pub mod Alternating
 pub mod CompositionCases
 pub mod Counting
+pub mod Bounds
 pub mod Choices
 pub mod Kept
 pub mod Taken

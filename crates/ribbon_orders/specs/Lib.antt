@@ -1,3 +1,2 @@
 pub mod Sweeps
-pub mod Bounds
 pub mod Rows

@@ -20,7 +20,7 @@ use borrow.Rule.Slice.PartMut.{midOf, putMid}
 use Rattle.numbering.specs.Compositions.{total}
 use Rattle.numbering.specs.Orders.{across, headOf, orders, tally}
 use Rattle.numbering.proofs.Theory.Counting.{length-tally}
-use Rattle.ribbon_orders.specs.Bounds.{tally-19}
+use Rattle.numbering.proofs.Theory.Bounds.{tally-19}
 use Rattle.ribbon_orders.specs.Sweeps.{swept, swept-across}
 
 unfoldable pub ordersGiven : List ℕ → ℕ

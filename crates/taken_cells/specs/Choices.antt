@@ -20,7 +20,7 @@ use borrow.Author.Needs.{needs}
 use borrow.Rule.Slice.PartMut.{midOf}
 use borrow.Author.Tests.{ne-eqb}
 use Rattle.numbering.specs.Orders.{Choice, behind, choices, entered, freed, left, orders, withIf}
-use Rattle.ribbon_orders.specs.Bounds.{orders-19}
+use Rattle.numbering.proofs.Theory.Bounds.{orders-19}
 use Rattle.ribbon_orders.specs.Rows.{orders-some, ordersGiven}
 use Rattle.taken_cells.specs.Removal.{free-told, marksWithout, pulledFree, without}
 

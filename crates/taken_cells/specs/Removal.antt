@@ -3,21 +3,21 @@
 --     marksWithout p ms         the same of marks, with a free step across the gap
 --     pulled p xs               20 bytes without the one at place p: those after it are one place back, and the last stays where it is
 --     pulledFree p ms           the same of marks, with a free step across the gap
---     Pulled, PulledFree        what that means for the first m of them, for every m: pulled-told, free-told
+--     Pulled, PulledFree        what that means for the first m of them, for every m: pulled-told, free-told; pulled-long: they are 20 again
 --     Pulling p xs now i        the loop that moves bytes one back: those before i are moved
 --     pulling                   the ruleset of both functions
 -- Assumes nothing.
 use Prim.Native.Nat.{ℕ, zero, suc, _+_, _-_, _≤_, _<_}
 use mathlib.Core.Path.{_≡_, refl, sym, ap, ap₂, _∙_}
-use mathlib.Core.Logic.{_⊎_, inl, inr}
+use mathlib.Core.Logic.{dite}
 use mathlib.Core.List.{List, [], _∷_, _++_, append-nil}
+use native.Mathlib.Decide.{decLe}
 use native.Mathlib.Nat.{add-zero}
 use native.Mathlib.Numerals.{add-one}
 use native.Mathlib.Omega.{arith}
 use lib.ListN.{length, getD, set, take, drop, drop-of-length-le, length-append, length-drop, length-set, take-append-drop}
 use lib.Seq.{drop-cons, drop-set-lt, getD-drop, length-take-le, take-all, take-suc, take-suc-set, take-take}
 use borrow.Author.Needs.{needs}
-use Rattle.hypoplactic.proofs.Theory.Pairs.{le-or-lt}
 use Rattle.numbering.specs.Orders.{freed}
 
 abbrev pub without : ℕ → List ℕ → List ℕ
@@ -134,15 +134,17 @@ module _ {p : ℕ} {xs now : List ℕ} {i : ℕ} (h : Pulling p xs now i) where
 
   -- All are moved, or there was none to be moved.
   pub pulling-end : 19 ≤ i → now ≡ pulled p xs
-  pulling-end l = sym (take-append-drop i now) ∙ ap₂ _++_ (h .moved) (h .kept) ∙ go (le-or-lt 20 p)
+  pulling-end l = sym (take-append-drop i now) ∙ ap₂ _++_ (h .moved) (h .kept) ∙ dite (decLe 20 p) past (λ (m : ¬ (20 ≤ p)). inside (omega arith))
     where
-      go : (20 ≤ p) ⊎ (p < 20) → take i (without p xs) ++ drop i xs ≡ pulled p xs
-      go (inl m) =
+      past : 20 ≤ p → take i (without p xs) ++ drop i xs ≡ pulled p xs
+      past m =
           let high : length xs ≤ i = omega (arith, h .size, h .begun) in
           let all : without p xs ≡ xs = nothing p xs (omega (arith, h .size)) in
           ap₂ _++_ (ap (take i) all ∙ take-all i xs high) (drop-of-length-le xs high) ∙ append-nil xs
           ∙ sym (ap (λ (ys : List ℕ). take 19 ys ++ drop 19 xs) all ∙ take-append-drop 19 xs)
-      go (inr m) = let last : i ≡ 19 = omega (arith, h .reached m) in ap (λ (k : ℕ). take k (without p xs) ++ drop k xs) last
+
+      inside : p < 20 → take i (without p xs) ++ drop i xs ≡ pulled p xs
+      inside m = let last : i ≡ 19 = omega (arith, h .reached m) in ap (λ (k : ℕ). take k (without p xs) ++ drop k xs) last
 
 -- ---- marks
 
@@ -187,6 +189,12 @@ pulled-told {ys} p xs s e = record { is = λ m a b. ap (take (m - 1)) e ∙ go m
         let size : length (take 19 (without p xs)) ≡ 19 = length-take-le 19 (without p xs) (omega (arith, length-without p xs small)) in
         ap (λ (j : ℕ). take j (pulled p xs)) fewer ∙ take-first k (take 19 (without p xs)) (drop 19 xs) (omega arith)
         ∙ take-take k 19 (without p xs) (omega arith) ∙ beginning p k xs (omega arith)
+
+-- There are 20 bytes again.
+pub pulled-long : (p : ℕ) (xs : List ℕ) → p < 20 → length xs ≡ 20 → length (pulled p xs) ≡ 20
+pulled-long p xs l e =
+    let fewer : suc (length (without p xs)) ≡ length xs = length-without p xs (omega arith) in
+    omega (arith, length-append (take 19 (without p xs)) (drop 19 xs), length-take-le 19 (without p xs) (omega (arith, fewer)), length-drop 19 xs)
 
 pub free-told : {ys : List ℕ} (p : ℕ) (ms : List ℕ) → length ms ≡ 20 → ys ≡ pulledFree p ms → PulledFree p ms ys
 free-told {ys} p ms s e = record {

@@ -1,4 +1,4 @@
--- How large the numbers of a tally grow.
+-- How large the numbers of a tally grow: every number that a count of orders comes by is below 2^63.
 --     tally-bound              the numbers of the tally of n marks add up to at most (n + 1) factorial
 --     tally-19                 of at most 19 marks, to at most 20 factorial, which fits 64 bits
 --     orders-19, orders-20     at most 19 marks have at most 19 factorial orders, at most 20 marks at most 20 factorial
