@@ -1,4 +1,4 @@
-"""The tables of the crates word_operations and ribbon_operations: one call to a line, its notation, and what each call must print.
+"""The tables of the crates word_operations, ribbon_operations and class_operations: one call to a line, its notation, and what each call must print.
 
 A line has the operation's name, its numbers, then its lists, parted by single spaces. A list is items parted by commas, an item a number, `v*k` for k
 times v, or `a-b` for the numbers from a to b; `-` is the empty list. A text stands as it is, with `$` for the line feed and `(t)*k` for k times t; `-`
@@ -6,6 +6,7 @@ is the empty text. What came of the call follows after ` = `, and each lent list
 """
 import re
 
+import class_numbers
 import lines
 import meaning
 from meaning import Refused
@@ -30,6 +31,9 @@ OPERATIONS = {
     "raise_count_tableau": ("nnll", lambda *a: meaning.count_tableau(True, *a)),
     "lower_count_tableau": ("nnll", lambda *a: meaning.count_tableau(False, *a)),
     "product": ("nllllLL", meaning.product),
+    "class_size": ("nll", class_numbers.class_size),
+    "class_word": ("nnllL", lambda n, k, letters, marks, word: class_numbers.class_word(n, letters, marks, k, word)),
+    "class_number": ("nl", class_numbers.class_number),
     "read_word_line": ("tL", lines.read_word_line),
     "read_tableau_line": ("tLL", lines.read_tableau_line),
     "read_recording_line": ("tL", lines.read_recording_line),

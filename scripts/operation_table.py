@@ -1,6 +1,7 @@
 """The tables of calls, by operation: the documents' checked words, one case at least for each refusal number of each operation, outputs longer than needed
 and too short by one, moves of a first, a middle and a last place, on words and on their tableaux, and the order of the checks. The program that makes the
 calls of a table knows its operations alone: at the end of each table it is asked for one that it does not know."""
+from class_table import CLASS_CALLS
 from line_table import RIBBON_LINES, WORD_LINES
 
 WORDS = """
@@ -465,6 +466,7 @@ no_such_operation 1 2 3
 TABLES = {
     "word_operations": (WORDS, COMPARISONS, WORD_LINES, NO_WORDS),
     "ribbon_operations": (RIBBONS, PAIRS, TABLEAUX, PRODUCTS, RIBBON_LINES, NO_RIBBONS),
+    "class_operations": CLASS_CALLS,
 }
 
 
