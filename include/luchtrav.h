@@ -1,9 +1,9 @@
 /* luchtrav.h: quasi-ribbon words, for C.
  *
  * The kernel takes words over 1..n and answers with quasi-ribbon tableaux and their products, recording ribbons, moves
- * of the quasi-crystal, classes and weights of the hypoplactic monoid. Every function of the library is proved: it
- * ends, reads and writes inside the memory that it is lent and nowhere else, and answers as this page says. (The
- * compiler is trusted.)
+ * of the quasi-crystal, classes of the hypoplactic monoid with their words by number, and weights. Every function of
+ * the library is proved: it ends, reads and writes inside the memory that it is lent and nowhere else, and answers as
+ * this page says. (The compiler is trusted.)
  *
  * WORDS, TABLEAUX, RIBBONS
  *   rank      1 to 64.
@@ -40,8 +40,8 @@
  *
  * REPLIES
  *   Every reply begins with a number and a place. Number 0 is success, with place 0, and the values follow. Any other
- *   number refuses the input; the values are 0 then. The checks run in rising number, except that 14 comes first, each
- *   over the whole input, and the first that fails is the reply:
+ *   number refuses the input; the values are 0 then. The checks run in rising number, except that 14 comes first, and
+ *   15 and 16 directly after 6, each over the whole input, and the first that fails is the reply:
  *
  *    number and name            place       what luchtrav_refusal_text says of it
  *     0 LUCHTRAV_OK             0           success
@@ -59,6 +59,8 @@
  *    12 LUCHTRAV_FULL           1024        insertion into 1,024 cells
  *    13 LUCHTRAV_NO_ROOM        needed      an output is too short
  *    14 LUCHTRAV_BAD_LINE       byte        byte that breaks the grammar of the line, or a line that ends early
+ *    15 LUCHTRAV_TOO_LARGE      0           more than 20 cells or letters, where a class is counted
+ *    16 LUCHTRAV_PAST_LAST      0           number not below the size of the class
  *
  *   Of two words or two tableaux each check searches the first, then the second, and places in the second count on from
  *   the first's length. 2 judges each word by itself, and the cells of two tableaux together. The letter to be inserted
@@ -102,12 +104,13 @@ extern "C" {
 
 /* The version; and the number at the end of the shared library's name, which goes one up whenever a program must be
  * compiled anew to run with the library. */
-#define LUCHTRAV_VERSION "0.4.0"
+#define LUCHTRAV_VERSION "0.5.0"
 #define LUCHTRAV_INTERFACE 1
 
-/* The limits. */
+/* The limits; the last is that of letters or cells where a class is counted. */
 #define LUCHTRAV_RANKS 64
 #define LUCHTRAV_LETTERS 1024
+#define LUCHTRAV_COUNTED 20
 
 /* Bytes that are always enough for one line, whatever its kind, and for an answer of luchtrav_answer. The longest
  * lines, line feed included: T 5,128 bytes and W 3,082 (1,024 letters of two digits), N 4,020 (1,024 entries), J 25
@@ -132,7 +135,9 @@ enum luchtrav_refusal {
     LUCHTRAV_NO_LETTER = 11,
     LUCHTRAV_FULL = 12,
     LUCHTRAV_NO_ROOM = 13,
-    LUCHTRAV_BAD_LINE = 14
+    LUCHTRAV_BAD_LINE = 14,
+    LUCHTRAV_TOO_LARGE = 15,
+    LUCHTRAV_PAST_LAST = 16
 };
 
 /* What the table says of a number, and "no such number" of one that is not in it; never NULL. It is C of this header
@@ -154,6 +159,8 @@ static inline const char *luchtrav_refusal_text(size_t number) {
     case LUCHTRAV_FULL: return "insertion into 1,024 cells";
     case LUCHTRAV_NO_ROOM: return "an output is too short";
     case LUCHTRAV_BAD_LINE: return "byte that breaks the grammar of the line, or a line that ends early";
+    case LUCHTRAV_TOO_LARGE: return "more than 20 cells or letters, where a class is counted";
+    case LUCHTRAV_PAST_LAST: return "number not below the size of the class";
     default: return "no such number";
     }
 }
@@ -197,6 +204,12 @@ typedef struct {
     uint64_t set;
     size_t rows;
 } luchtrav_junction;
+
+/* The size of a class, or the number of a word in it, which counts from 0. */
+typedef struct {
+    size_t number, place;
+    uint64_t value;
+} luchtrav_value;
 
 /* What a line says: its rank, and how many letters or cells were written into each output. */
 typedef struct {
@@ -325,6 +338,26 @@ luchtrav_count luchtrav_product(size_t rank, const uint8_t *first_letters, size_
                                 const uint8_t *second_marks, size_t second_marks_count,
                                 uint8_t *letters, size_t letters_count,
                                 uint8_t *marks, size_t marks_count);
+
+/* ---- classes ------------------------------------------------------------------------------------------------- */
+
+/* How many words have this tableau, of at most 20 cells; value is that size, 1 at least and below 2^63. The tableau
+ * without cells has one word, the empty one. The rank bounds the letters, and changes nothing else here.
+ * Refuses 1 2 3 4 5 6 15. */
+luchtrav_value luchtrav_class_size(size_t rank, const uint8_t *letters, size_t letters_count,
+                                   const uint8_t *marks, size_t marks_count);
+
+/* The word with a number, of those that have this tableau: number 0 is the first of them in dictionary order, the size
+ * less 1 the last; count is the letters written. A larger number is a later word.
+ * Needs letters_count elements in word. Refuses 1 2 3 4 5 6 15 16 13. */
+luchtrav_count luchtrav_class_word(size_t rank, const uint8_t *letters, size_t letters_count,
+                                   const uint8_t *marks, size_t marks_count, uint64_t number,
+                                   uint8_t *word, size_t word_count);
+
+/* The number of a word, of at most 20 letters, among the words that have its tableau; value is that number. It is the
+ * one by which luchtrav_class_word gives this word.
+ * Refuses 1 2 4 15. */
+luchtrav_value luchtrav_class_number(size_t rank, const uint8_t *word, size_t word_count);
 
 /* ---- pairs --------------------------------------------------------------------------------------------------- */
 

@@ -2,6 +2,7 @@
 
 A break may leave an input valid where there is nothing to break (no letter in an empty word); the plain Python says what the reply is in every case.
 """
+from class_numbers import size_of
 from drawn_values import FAR
 
 # What stands before the names of a tableau's parts: nothing, or which of two factors it is.
@@ -128,6 +129,22 @@ def break_index(draw, input):
     input["index"] = draw.one_of((0, input["rank"], input["rank"] + 1, 256 + input["index"], draw.one_of(FAR))) % 2**64
 
 
+def break_many(draw, input):
+    """More cells or letters than a class is counted of."""
+    rank, length = min(64, max(1, input["rank"])), draw.one_of((21, 21, 22, 21 + draw.below(60), 1024))
+    if "word" in input:
+        input["word"] = draw.word(rank, length)
+    else:
+        input["letters"], input["marks"] = draw.tableau(rank, length)
+
+
+def break_number(draw, input):
+    """A number that is not below the size of the class: the size, or one that a cut to 32 bits would leave below it."""
+    letters, marks = input["letters"], input["marks"]
+    size = size_of(letters, marks) if len(letters) == len(marks) <= 20 else 1
+    input["number"] = draw.one_of((size, size, size + 1, size + draw.below(1000), input["number"] + 2**63, 2**64 - 1))
+
+
 def break_full(draw, input):
     """Insertion into 1,024 cells."""
     rank = min(64, max(1, input["rank"]))
@@ -137,7 +154,8 @@ def break_full(draw, input):
 
 BREAKS = {
     "rank": break_rank, "length": break_length, "parts": break_parts, "letter": break_letter, "falling letter": break_rising, "mark": break_mark,
-    "both factors": break_both, "entry": break_entry, "step": break_step, "index": break_index, "full": break_full,
+    "both factors": break_both, "entry": break_entry, "step": break_step, "index": break_index, "many cells": break_many,
+    "number past the last": break_number, "full": break_full,
 }
 
 # ---- breaks of a text

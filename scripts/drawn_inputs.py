@@ -2,6 +2,7 @@
 
 Outputs are a little longer than needed, exactly as long, or (the break called "room") too short: what is needed says the plain Python's 13.
 """
+from class_numbers import size_of
 from drawn_breaks import BREAKS, BYTES, TEXT_BREAKS
 from drawn_values import FAR
 from lines import line, recording_line, word_line
@@ -49,6 +50,22 @@ def draw_factors(draw):
     return {
         "rank": rank, "first_letters": first_letters, "first_marks": first_marks, "second_letters": second_letters, "second_marks": second_marks,
     }
+
+
+def draw_class(draw):
+    rank = draw.rank()
+    letters, marks = draw.tableau(rank, draw.few())
+    return {"rank": rank, "letters": letters, "marks": marks}
+
+
+def draw_class_word(draw):
+    input = draw_class(draw)
+    return {"number": draw.number(size_of(input["letters"], input["marks"])), **input}
+
+
+def draw_few_letters(draw):
+    rank = draw.rank()
+    return {"rank": rank, "word": draw.word(rank, draw.few())}
 
 
 def draw_pair(draw):
@@ -114,6 +131,9 @@ INPUTS = {
     "look": (draw_look, TABLEAU),
     "cell_at": (draw_look, ["length", "letter", "parts", "falling letter", "mark"]),
     "product": (draw_factors, TABLEAU + ["both factors", "room"]),
+    "class_size": (draw_class, TABLEAU + ["many cells"]),
+    "class_word": (draw_class_word, TABLEAU + ["many cells", "number past the last", "room"]),
+    "class_number": (draw_few_letters, WORD + ["many cells"]),
     "check_pair": (draw_pair, PAIR),
     "insert_letter": (draw_insertion, PAIR + ["full", "room"]),
     "word_of_pair": (draw_pair, PAIR + ["room"]),

@@ -41,6 +41,14 @@ class Draw:
         first = self.one_of((0, 1, together - 1, together, self.below(together + 1), self.below(together + 1)))
         return first, together - first
 
+    def few(self):
+        """Cells or letters of a class that can be counted, at most 20; more often few."""
+        return self.one_of((self.below(7), self.below(13), self.below(21), 20))
+
+    def number(self, size):
+        """A number below a size, the first or the last among them."""
+        return self.one_of((0, size - 1, self.random.randrange(size), self.random.randrange(size)))
+
     def place(self, count):
         """A place, most often one of the first `count` or not far behind them."""
         return self.below(count + 3) if self.below(8) else self.one_of((count, count + self.below(2000), self.one_of(FAR)))

@@ -39,7 +39,7 @@ def parameters_of(text):
             assert parts.pop(0) == "size_t %s_count" % name, part
             parameters.append(Parameter(name, SIZES[element], not const))
         else:
-            parameters.append(Parameter(re.fullmatch(r"size_t (\w+)", part)[1], 0, False))
+            parameters.append(Parameter(re.fullmatch(r"(?:size_t|uint64_t) (\w+)", part)[1], 0, False))
     return parameters
 
 

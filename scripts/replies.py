@@ -1,7 +1,8 @@
-"""What each function of include/luchtrav.h replies, by the plain Python (meaning.py, lines.py).
+"""What each function of include/luchtrav.h replies, by the plain Python (meaning.py, lines.py, class_numbers.py).
 
 Arguments come as the header has them, buffers as lists; those that are lent for writing are changed in place.
 """
+import class_numbers
 import lines
 import meaning
 from meaning import Refused
@@ -27,6 +28,9 @@ OPERATIONS = {
     "look": lambda rank, letters, marks, place: found(meaning.look_once(rank, place, letters, marks)),
     "cell_at": lambda *a: found(meaning.cell_at(*a)),
     "product": meaning.product,
+    "class_size": class_numbers.class_size,
+    "class_word": class_numbers.class_word,
+    "class_number": class_numbers.class_number,
     "check_pair": meaning.check_pair,
     "insert_letter": meaning.insert_letter,
     "word_of_pair": meaning.word_of_pair,

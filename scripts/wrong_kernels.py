@@ -25,11 +25,11 @@ from wrong_edits import EDGES, EDITS, RIGHT
 MOST = 1000000
 MOST_RIGHT = 100000
 MOST_EDGES = 300
-MODULES = ("meaning", "lines", "replies")
+MODULES = ("meaning", "lines", "class_numbers", "replies")
 
 
 def edited(module, old, new):
-    """The module replies over meaning and lines, one of them with an edit at the one place where its text stands."""
+    """The module replies over those before it, one of them with an edit at the one place where its text stands."""
     right = {name: sys.modules[name] for name in MODULES}
     try:
         for name in MODULES:
