@@ -1,5 +1,5 @@
 /* What include/luchtrav.h says beside its functions: names and texts of the refusal numbers, the longest lines, the
- * places that moves change, NULL.
+ * places that moves change, words of a class by number, NULL.
  *
  * Prints the table of refusals as the names and luchtrav_refusal_text have it, for scripts/packages_c to hold against
  * the table of the header's opening comment. Fails where something else is not as the header says.
@@ -28,7 +28,8 @@ static const struct {
     NAMED(LUCHTRAV_OK), NAMED(LUCHTRAV_BAD_RANK), NAMED(LUCHTRAV_BAD_LENGTH), NAMED(LUCHTRAV_BAD_PARTS),
     NAMED(LUCHTRAV_BAD_LETTER), NAMED(LUCHTRAV_FALLS), NAMED(LUCHTRAV_BAD_MARK), NAMED(LUCHTRAV_BAD_ENTRY),
     NAMED(LUCHTRAV_BAD_RECORDING), NAMED(LUCHTRAV_BAD_INDEX), NAMED(LUCHTRAV_INVERSION), NAMED(LUCHTRAV_NO_LETTER),
-    NAMED(LUCHTRAV_FULL), NAMED(LUCHTRAV_NO_ROOM), NAMED(LUCHTRAV_BAD_LINE),
+    NAMED(LUCHTRAV_FULL), NAMED(LUCHTRAV_NO_ROOM), NAMED(LUCHTRAV_BAD_LINE), NAMED(LUCHTRAV_TOO_LARGE),
+    NAMED(LUCHTRAV_PAST_LAST),
 };
 
 static void texts(void) {
@@ -98,6 +99,47 @@ static void moves(void) {
     expect("the entry of the changed cell", entries[2], 2);
 }
 
+/* A size or a number, or the refusal in its stead. */
+static void valued(const char *what, luchtrav_value said, size_t number, uint64_t value) {
+    expect(what, said.number, number);
+    expect(what, said.place, 0);
+    expect(what, (size_t)said.value, (size_t)value);
+}
+
+/* A word, one digit a letter, and its number, there and back; with the size, and with the largest number, 16 falls. */
+static void numbered(const char *digits, uint64_t size, uint64_t number) {
+    uint8_t word[LUCHTRAV_COUNTED], letters[LUCHTRAV_COUNTED], marks[LUCHTRAV_COUNTED], back[LUCHTRAV_COUNTED] = {0};
+    size_t l = strlen(digits);
+    for (size_t i = 0; i < l; i++) word[i] = (uint8_t)(digits[i] - '0');
+    luchtrav_tableau_of_word(9, word, l, letters, l, marks, l);
+    valued(digits, luchtrav_class_size(9, letters, l, marks, l), LUCHTRAV_OK, size);
+    valued(digits, luchtrav_class_number(9, word, l), LUCHTRAV_OK, number);
+    expect(digits, luchtrav_class_word(9, letters, l, marks, l, number, back, l).count, l);
+    expect(digits, (size_t)memcmp(back, word, l), 0);
+    expect(digits, luchtrav_class_word(9, letters, l, marks, l, size, back, l).number, LUCHTRAV_PAST_LAST);
+    expect(digits, luchtrav_class_word(9, letters, l, marks, l, UINT64_MAX, back, 0).number, LUCHTRAV_PAST_LAST);
+    expect(digits, luchtrav_class_word(9, letters, l, marks, l, number, back, l - 1).place, l);
+}
+
+/* Words of a class, the largest class, and one cell more. */
+static void classes(void) {
+    uint8_t letters[LUCHTRAV_COUNTED + 1], marks[LUCHTRAV_COUNTED + 1], word[LUCHTRAV_COUNTED];
+    const size_t most = LUCHTRAV_COUNTED;
+    const uint64_t size = UINT64_C(370371188237525);
+    numbered("4323", 5, 3);
+    numbered("421323", 61, 45);
+    numbered("12446553275", 15399, 260);
+    for (size_t i = 0; i <= most; i++) letters[i] = (uint8_t)(i + 1), marks[i] = i % 2;
+    valued("the largest class", luchtrav_class_size(RANK, letters, most, marks, most), LUCHTRAV_OK, size);
+    expect("its last word", luchtrav_class_word(RANK, letters, most, marks, most, size - 1, word, most).count, most);
+    valued("its last number", luchtrav_class_number(RANK, word, most), LUCHTRAV_OK, size - 1);
+    valued("21 cells", luchtrav_class_size(RANK, letters, most + 1, marks, most + 1), LUCHTRAV_TOO_LARGE, 0);
+    valued("21 letters", luchtrav_class_number(RANK, letters, most + 1), LUCHTRAV_TOO_LARGE, 0);
+    valued("no cells", luchtrav_class_size(RANK, NULL, 0, NULL, 0), LUCHTRAV_OK, 1);
+    expect("the empty word", luchtrav_class_word(RANK, NULL, 0, NULL, 0, 0, NULL, 0).number, LUCHTRAV_OK);
+    expect("no second one", luchtrav_class_word(RANK, NULL, 0, NULL, 0, 1, NULL, 0).number, LUCHTRAV_PAST_LAST);
+}
+
 /* The factors of a product without memory, their letters and marks as many as told. */
 static size_t product_says(size_t first, size_t first_marks, size_t second, size_t second_marks) {
     luchtrav_count said =
@@ -127,6 +169,7 @@ int main(void) {
     texts();
     longest();
     moves();
+    classes();
     null();
     return wrong != 0;
 }

@@ -82,6 +82,7 @@ class Sequences(Case):
         for other in others:
             calls: List[Tuple[Any, ...]] = [
                 (lu.check_word, 4, other), (lu.same_class, 4, [1], 4, other), (lu.column_reading, 4, other, [0, 0]), (lu.write_recording_line, other),
+                (lu.class_number, 4, other), (lu.class_size, 4, [1], other), (lu.class_word, 4, other, [0], 0),
                 (lu.check_pair, 4, other, [0, 0], [1, 2]), (lu.Tableau, other, [0, 0]), (lu.Pair, [1, 2], [0, 0], other),
                 (lu.product, 4, ([1], [0]), (other, [0])), (lu.product, 4, ([1], [0]), ([1], other)),
             ]
@@ -187,7 +188,7 @@ class Values(Case):
         calls: List[Tuple[Any, ...]] = [
             (lu.check_tableau, (4,), ()), (lu.column_reading, (4,), ()), (lu.raise_tableau, (4, 1), ()), (lu.lower_tableau, (4, 2), ()),
             (lu.raise_count_tableau, (4, 1), ()), (lu.lower_count_tableau, (4, 1), ()), (lu.write_tableau_line, (4,), ()), (lu.look, (4,), (2,)),
-            (lu.cell_at, (), (2,)),
+            (lu.cell_at, (), (2,)), (lu.class_size, (4,), ()), (lu.class_word, (4,), (3,)), (lu.class_word, (4,), (5,)),
         ]
         for call, before, after in calls:
             try:
@@ -199,6 +200,7 @@ class Values(Case):
             for other in ((TABLEAU, MARKS), (LETTERS,), (TABLEAU, TABLEAU), (PAIR,), ((LETTERS, MARKS),)):
                 self.assertRaises(TypeError, call, *before, *other, *after)
         self.assertEqual(lu.look(4, TABLEAU, place=3), lu.Cell(4, 2, 1))
+        self.assertEqual(lu.class_word(4, TABLEAU, number=3), [4, 3, 2, 3])
         self.assertEqual(lu.cell_at(TABLEAU, place=3), lu.Cell(4, 2, 1))
         self.assertEqual(lu.look(4, letters=LETTERS, marks=MARKS, place=3), lu.Cell(4, 2, 1))
         self.assertIsNone(lu.look(4, TABLEAU, 4))

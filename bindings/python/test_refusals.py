@@ -31,6 +31,8 @@ class Numbers(Case):
         self.refuses(12, 1024, lu.insert_letter, 4, 1, [1] * 1024, [0] * 1024, list(range(1, 1025)))
         self.refuses(14, 0, lu.read_recording_line, b"")
         self.refuses(14, 3, lu.read_tableau_line, b"T,04")
+        self.refuses(15, 0, lu.class_number, 4, [1] * 21)
+        self.refuses(16, 0, lu.class_word, 4, [2, 3, 3, 4], [0, 1, 0, 1], 5)
 
     def test_insertion(self) -> None:
         self.refuses(4, 2, lu.insert_letter, 4, 5, [1, 2], [0, 0], [1, 2])
@@ -84,6 +86,10 @@ class Exceptions(Case):
             (2**16 + 1, lu.check_pair, (4, *shape, [1, 2**16 + 1])),
             (1, lu.word_of_pair, (4, lu.Pair(*shape, [2, 1]))),
             (3, lu.write_recording_line, ([1, 3],)),
+            (9, lu.class_number, (4, [1, 9])),
+            (2, lu.class_word, (4, [1, 2], [0, 2], 7)),
+            (None, lu.class_size, (4, [1] * 21, [0] * 21)),
+            (None, lu.class_word, (4, *shape, 7)),
             (0, lu.insert_letter, (4, 1, [1, 0], [0, 0], [1, 2])),
             (5, lu.insert_letter, (4, 5, *shape, [1, 2])),
             (-1, lu.insert_letter, (4, -1, lu.Pair(*shape, [1, 2]))),
@@ -138,7 +144,7 @@ class Meanings(Case):
         """MEANINGS, the docstring that help(luchtrav) shows, and the header have the same texts."""
         with open(HEADER) as file:
             header = texts_in(re.sub(r"/\*.*?\*/", "", file.read(), flags=re.S))
-        self.assertEqual(sorted(lu.MEANINGS), list(range(1, 15)))
+        self.assertEqual(sorted(lu.MEANINGS), list(range(1, 17)))
         self.assertEqual({0: "success", **lu.MEANINGS}, header)
         shown = {int(number): text for number, text in re.findall(r"^ {4,5}(\d+)  (.*)$", str(lu.__doc__), re.M)}
         self.assertEqual(shown, lu.MEANINGS)

@@ -8,7 +8,7 @@ one Tableau stands for letters and marks wherever these are taken, one Pair for 
 the place that it changed: `word, place = luchtrav.raise_word(..)`. What the caller hands over is never changed. Lines are bytes, in and out.
 
 A refusal of the kernel is the exception Refusal, a ValueError, with a number and a place. Places count from 0; the checks run in rising number,
-except that 14 comes first. MEANINGS has the numbers too:
+except that 14 comes first, and 15 and 16 directly after 6. MEANINGS has the numbers too:
 
      1  rank is not 1 to 64
      2  more than 1,024 letters, cells or entries
@@ -24,15 +24,18 @@ except that 14 comes first. MEANINGS has the numbers too:
     12  insertion into 1,024 cells
     13  an output is too short
     14  byte that breaks the grammar of the line, or a line that ends early
+    15  more than 20 cells or letters, where a class is counted
+    16  number not below the size of the class
 
 4 to 8 have the first such place, 12 the place 1024, 14 that of the byte or the line's length, all others 0. Of two words or tableaux the first is
 searched first, and places in the second count on from the first's length; 2 judges each word by itself, and the cells of two tableaux together. A
 letter to be inserted has the number of cells as its place. Memory for outputs is lent by the binding, so that 13 does not arise.
 
 A letter that fits no byte is handed on as 0, a mark as 255, an entry that does not fit 16 bits as 0, a rank, index or inserted letter that fits no
-size_t as 0: so the kernel refuses them (4, 6, 7, 1, 9, 4) at their place. A place that fits no size_t is one without a cell. What is no integer is a
-TypeError.
+size_t as 0: so the kernel refuses them (4, 6, 7, 1, 9, 4) at their place. A place that fits no size_t is one without a cell, and the number of a word
+that does not fit 64 bits is refused with 16. What is no integer is a TypeError.
 """
+from .classes import class_number, class_size, class_word
 from .lines import (
     answer, read_recording_line, read_tableau_line, read_word_line, tableau_line_of_word, write_junction_line, write_recording_line,
     write_refusal_line, write_tableau_line, write_word_line,
@@ -53,8 +56,8 @@ __version__ = _version_in(_HEADER)
 
 __all__ = [
     "Cell", "Junctions", "MEANINGS", "MovedTableau", "MovedWord", "Pair", "Refusal", "Tableau", "answer", "cell_at", "check_pair", "check_tableau",
-    "check_word", "column_reading", "compare_weights", "insert_letter", "junctions", "look", "lower_count_tableau", "lower_count_word",
-    "lower_tableau", "lower_word", "product", "raise_count_tableau", "raise_count_word", "raise_tableau", "raise_word", "read_recording_line",
-    "read_tableau_line", "read_word_line", "recording_of_word", "same_class", "tableau_line_of_word", "tableau_of_word", "word_of_pair",
-    "write_junction_line", "write_recording_line", "write_refusal_line", "write_tableau_line", "write_word_line",
+    "check_word", "class_number", "class_size", "class_word", "column_reading", "compare_weights", "insert_letter", "junctions", "look",
+    "lower_count_tableau", "lower_count_word", "lower_tableau", "lower_word", "product", "raise_count_tableau", "raise_count_word", "raise_tableau",
+    "raise_word", "read_recording_line", "read_tableau_line", "read_word_line", "recording_of_word", "same_class", "tableau_line_of_word",
+    "tableau_of_word", "word_of_pair", "write_junction_line", "write_recording_line", "write_refusal_line", "write_tableau_line", "write_word_line",
 ]

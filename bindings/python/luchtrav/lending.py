@@ -88,7 +88,7 @@ def as_number(value: int) -> int:
 
 
 def as_place(value: int) -> int:
-    """A place: the largest for one that fits no size_t, so that there is no such cell."""
+    """A place, or the number of a word: the largest for one that does not fit 64 bits, so that there is no such cell, or 16 falls."""
     place = index(value)
     return place if 0 <= place <= LARGEST else LARGEST
 

@@ -1,6 +1,6 @@
 """The shared library: its functions as include/luchtrav.h declares them, and the one way to call them."""
 from array import array
-from ctypes import CDLL, c_size_t, c_void_p
+from ctypes import CDLL, c_size_t, c_uint64, c_void_p
 from operator import index
 from typing import Any, Dict, List, Optional, Tuple, Union
 
@@ -8,14 +8,15 @@ from .buffers import Integers
 from .lending import elements
 from .places import LIBRARY
 from .refusal import Refusal
-from .replies import Cell, Class, Count, Done, Junction, Line, Move, Order
+from .replies import Cell, Class, Count, Done, Junction, Line, Move, Order, Value
 
 LETTERS = 1024
 LINE_BYTES = 8192
 ANSWER_BYTES = 16384
 
-# A number, and a buffer: its address and the number of its elements.
+# A number, one of 64 bits whatever the machine, and a buffer: its address and the number of its elements.
 N: List[Any] = [c_size_t]
+U: List[Any] = [c_uint64]
 B: List[Any] = [c_void_p, c_size_t]
 
 FUNCTIONS: Dict[str, Tuple[Any, List[Any]]] = {
@@ -38,6 +39,9 @@ FUNCTIONS: Dict[str, Tuple[Any, List[Any]]] = {
     "look": (Cell, N + B + B + N),
     "cell_at": (Cell, B + B + N),
     "product": (Count, N + B + B + B + B + B + B),
+    "class_size": (Value, N + B + B),
+    "class_word": (Count, N + B + B + U + B),
+    "class_number": (Value, N + B),
     "check_pair": (Done, N + B + B + B),
     "insert_letter": (Count, N + N + N + B + B + B),
     "word_of_pair": (Count, N + B + B + B + B),

@@ -17,6 +17,8 @@ MEANINGS: Dict[int, str] = {
     12: "insertion into 1,024 cells",
     13: "an output is too short",
     14: "byte that breaks the grammar of the line, or a line that ends early",
+    15: "more than 20 cells or letters, where a class is counted",
+    16: "number not below the size of the class",
 }
 
 

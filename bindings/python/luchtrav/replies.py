@@ -34,6 +34,11 @@ class Junction(Done):
     _fields_ = [("set", c_uint64), ("rows", c_uint64)]
 
 
+class Value(Done):
+    value: int
+    _fields_ = [("value", c_uint64)]
+
+
 class Line(Done):
     rank: int
     count: int

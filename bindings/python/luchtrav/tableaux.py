@@ -110,13 +110,13 @@ def lower_count_tableau(rank: int, index: int, letters: Letters, marks: Optional
     return repeated("lower_count_tableau", rank, index, letters, marks)
 
 
-def parts_and_place(letters: Letters, marks: Union[Integers, int, None], place: Optional[int]) -> Tuple[Integers, Integers, int]:
-    """Letters, marks and a place, however they were given: after a Tableau the place stands where the marks would."""
-    if isinstance(letters, Tableau) and place is None:
-        marks, place = None, cast(int, marks)
-    if place is None:
-        raise TypeError("letters, marks and a place are needed, or a Tableau and a place")
-    return (*parts_of(letters, cast(Optional[Integers], marks)), place)
+def parts_and(what: str, letters: Letters, marks: Union[Integers, int, None], number: Optional[int]) -> Tuple[Integers, Integers, int]:
+    """Letters, marks and a number, which is a place or whatever else, however they were given: after a Tableau the number stands where the marks would."""
+    if isinstance(letters, Tableau) and number is None:
+        marks, number = None, cast(int, marks)
+    if number is None:
+        raise TypeError("letters, marks and a %s are needed, or a Tableau and a %s" % (what, what))
+    return (*parts_of(letters, cast(Optional[Integers], marks)), number)
 
 
 def seen(said: replies.Cell) -> Optional[Cell]:
@@ -131,7 +131,7 @@ def look(rank: int, tableau: Tableau, /, *, place: int) -> Optional[Cell]: ...
 def look(rank: int, letters: Integers, marks: Integers, place: int) -> Optional[Cell]: ...
 def look(rank: int, letters: Letters, marks: Union[Integers, int, None] = None, place: Optional[int] = None) -> Optional[Cell]:
     """The cell at a place of letters and marks, or of a Tableau; None for "no such cell". The whole tableau is checked first. Refuses 1 to 6."""
-    letters, marks, place = parts_and_place(letters, marks, place)
+    letters, marks, place = parts_and("place", letters, marks, place)
     return seen(ask("look", as_number(rank), as_letters(letters), as_marks(marks), as_place(place), letters=(letters,), marks=(marks,)))
 
 
@@ -144,7 +144,7 @@ def cell_at(letters: Integers, marks: Integers, place: int) -> Optional[Cell]: .
 def cell_at(letters: Letters, marks: Union[Integers, int, None] = None, place: Optional[int] = None) -> Optional[Cell]:
     """The cell at a place of a tableau that check_tableau has passed, without checking it again; None for "no such cell". Of other letters and marks,
     however many, it gives the letter, and as row and column how many marks 1 and how many marks 0 stand from place 1 to the cell. Refuses nothing."""
-    letters, marks, place = parts_and_place(letters, marks, place)
+    letters, marks, place = parts_and("place", letters, marks, place)
     return seen(ask("cell_at", as_letters(letters, None), as_marks(marks, None), as_place(place)))
 
 
