@@ -27,14 +27,18 @@ SUFFIXES = (".antt", ".rt", ".py", ".md", ".h", ".txt")
 MADE = r"target/|PREFIX/|luchtrav/native/"  # built or installed
 # Programs, and what only they use: no promise of theirs has a row.
 PROGRAMS = {
-    "ribbon", "cases", "word_operations", "ribbon_operations", "brute", "brute_moves", "notation", "plain_words",
+    "ribbon", "cases", "word_operations", "ribbon_operations", "class_operations", "brute", "brute_moves", "notation", "plain_words",
 }
 # How a name stands in a text; a function with its contract, if it has one; a theorem with its type; how a definition is declared.
 STANDS = r"(?<![\w-])NAME(?![\w-])"
 FUNCTION = r"\bfn NAME\b(?:[^{]*?\bensures)?(.*?)(?:^ *| )\{$"
 THEOREM = r"^ *pub NAME :(.*?)^ *(?:unfolding|NAME) "
 DECLARED = r"\b(fn|struct|enum) NAME\b|^ *pub NAME:|^ *(abbrev |unfoldable )?(pub )?((record|data) )?NAME [:({]"
-REQUIRED = "classes written-classes word-of-pair pair-of-word word-reading read-back class-joined tableau-answer repeat-word starred outputs product-of-classes stepped-weights word-moved-at changed-cell move-together".split()
+REQUIRED = """
+    classes written-classes word-of-pair pair-of-word word-reading read-back class-joined tableau-answer repeat-word starred outputs
+    product-of-classes stepped-weights word-moved-at changed-cell move-together class-size class-word class-number class-members
+    class-complete class-later number-recording recording-number theorem-8-2
+""".split()
 EDITS = [(edit.stem, re.search(r"^file: (\w+)/", edit.read_text(), re.M).group(1).replace("proofs", "specs")) for edit in CRATES.glob("*/must-fail/*.edit")]
 HEADER = header.functions_of(None)
 EXPORTED = ["luchtrav_" + name for name in HEADER]
@@ -137,10 +141,11 @@ def numbers(text):
 
 
 def listed():
-    """The refusals that specs/ of hypoplactic and products list for definitions: in headers, for a reply with and without memory; in comments above
+    """The refusals that specs/ of hypoplactic, products and numbering list for definitions: in headers, for a reply with and without memory; in comments above
     judgements."""
     specs, found, told = CRATES / "hypoplactic/specs", {}, ""
-    for file in (*specs.glob("*Operations.antt"), specs / "LineReadings.antt", CRATES / "products/specs/Products.antt"):
+    others = [CRATES / "products/specs/Products.antt", CRATES / "numbering/specs/Operations.antt"]
+    for file in (*specs.glob("*Operations.antt"), specs / "LineReadings.antt", *others):
         for names, checks in re.findall(rf"^--     (\w+(?:, \w+)*) {{2,}}({NUMBERS})", file.read_text(), re.M):
             found.update((re.sub("(Says|Run)$", end, name), numbers(checks)) for name in names.split(", ") for end in ("Says", "Run"))
     for comment, name in re.findall(rf"^-- ({NUMBERS})|\bpub (\w+(?:Judged|Judgements)) :", (specs / "Judgements.antt").read_text(), re.M):
@@ -241,7 +246,8 @@ def check_links():
 
 def cases(*lists):
     """How many computed cases some lists have."""
-    text = "".join(file.read_text() for crate in ("hypoplactic", "examples", "products", "changed_places") for file in CRATES.glob(crate + "/specs/*.antt"))
+    crates = ("hypoplactic", "examples", "products", "changed_places", "numbering")
+    text = "".join(file.read_text() for crate in crates for file in CRATES.glob(crate + "/specs/*.antt"))
     bodies = [re.search(rf"^{name} =(.*?)(?=^\S|\Z)", text, re.M | re.S).group(1) for name in lists]
     return sum(len(re.findall(r"^ *(?:∷ )?case\b", body, re.M)) for body in bodies)
 
@@ -260,6 +266,7 @@ FIGURES = [
     ("# checked words", cases("refusalCases"), None),
     ("# of products", cases("productCases", "productRefusals", "productLimits"), [README, TESTS]),
     ("# of changed places", cases("placeCases"), [README, TESTS]),
+    ("# of sizes and numbers", cases("numberCases"), [README, TESTS]),
     ("# (?:more )?(?:cases|fix)", cases("orderCases", "valueCases", "lineCases", "sharedCases"), [README, TESTS]),
 ]
 
