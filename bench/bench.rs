@@ -19,6 +19,9 @@ use std::hint::black_box;
 const RANKS: [usize; 3] = [4, 16, 64];
 const LETTERS: [usize; 3] = [256, 512, 1024];
 
+/// The letters of a word whose class is counted.
+const FEW: [usize; 3] = [5, 10, 20];
+
 fn fail(message: &str) -> ! {
     eprintln!("{message}");
     std::process::exit(1)
@@ -80,6 +83,12 @@ fn count_all() {
         for letters in LETTERS {
             let input = Input::new(rank, letters);
             for operation in operations::all() {
+                count_operation(&operation, &input);
+            }
+        }
+        for letters in FEW {
+            let input = Input::new(rank, letters);
+            for operation in operations::of_classes() {
                 count_operation(&operation, &input);
             }
         }

@@ -1,6 +1,7 @@
 //! What is measured on: words drawn by a repeatable generator, with all that belongs to them, and the memory that is lent.
 
 use crate::plain::checks::Tableau;
+use crate::plain::classes::class_number;
 use crate::plain::insertion;
 use crate::plain::tableaux::column_reading;
 use crate::plain::writers::{write_recording_line, write_tableau_line, write_word_line};
@@ -76,6 +77,8 @@ pub struct Input {
     pub raising: Pair,
     /// Lowering is defined at 1 and changes the first letter, likewise.
     pub lowering: Pair,
+    /// The number of the word in its class, where it has at most 20 letters; else 0.
+    pub number: u64,
     pub word_line: Vec<u8>,
     pub tableau_line: Vec<u8>,
     pub recording_line: Vec<u8>,
@@ -115,6 +118,7 @@ impl Input {
             back: Pair::new(rank, word[count / 2..].to_vec()),
             raising: Pair::new(rank, raised),
             lowering: Pair::new(rank, lowered),
+            number: class_number(rank, &word).unwrap_or(0),
             word_line: line(|out| write_word_line(rank, &word, out).ok()),
             tableau_line: line(|out| write_tableau_line(rank, &letters, &marks, out).ok()),
             recording_line: line(|out| write_recording_line(&entries, out).ok()),

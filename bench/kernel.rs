@@ -82,6 +82,19 @@ impl From<Junction> for Reply {
 }
 
 #[repr(C)]
+pub struct Value {
+    number: usize,
+    place: usize,
+    value: u64,
+}
+
+impl From<Value> for Reply {
+    fn from(said: Value) -> Reply {
+        [said.number, said.place, said.value as usize, 0, 0, 0]
+    }
+}
+
+#[repr(C)]
 pub struct Line {
     number: usize,
     place: usize,
@@ -247,6 +260,24 @@ extern "C" {
         marks: *mut u8,
         marks_count: usize,
     ) -> Count;
+    pub fn luchtrav_class_size(
+        rank: usize,
+        letters: *const u8,
+        letters_count: usize,
+        marks: *const u8,
+        marks_count: usize,
+    ) -> Value;
+    pub fn luchtrav_class_word(
+        rank: usize,
+        letters: *const u8,
+        letters_count: usize,
+        marks: *const u8,
+        marks_count: usize,
+        number: u64,
+        word: *mut u8,
+        word_count: usize,
+    ) -> Count;
+    pub fn luchtrav_class_number(rank: usize, word: *const u8, word_count: usize) -> Value;
     pub fn luchtrav_check_pair(
         rank: usize,
         letters: *const u8,

@@ -21,6 +21,7 @@ FLAGS = ["--edition=2021", "-Copt-level=3", "-Ccodegen-units=1"]
 
 RANKS = (4, 16, 64)
 LETTERS = (256, 512, 1024)
+FEW = (5, 10, 20)
 TOLERANCE = 0.1
 LARGE = 1.2
 
@@ -77,29 +78,34 @@ def table(head, rows):
     print()
 
 
-def sizes(kind):
-    return [f"{kind} {letters:,}" for letters in LETTERS]
+def sizes(kind, numbers=LETTERS):
+    return [f"{kind} {letters:,}" for letters in numbers]
 
 
 class Counts:
-    """The counts of one run, in the order of the operations."""
+    """The counts of one run, in the order of the operations: those on many letters, and those on the words of a class."""
 
     def __init__(self, found, units):
         self.found = found
         self.units = units
-        self.operations = list(dict.fromkeys(key[0] for key in found))
+        self.operations = list(dict.fromkeys(key[0] for key in found if key[2] in LETTERS))
+        self.of_classes = list(dict.fromkeys(key[0] for key in found if key[2] in FEW))
 
     def has(self, operation, kind):
         return (operation, RANKS[0], LETTERS[0], kind) in self.found
 
+    def numbers(self, operation):
+        """How many letters an operation was measured on."""
+        return FEW if operation in self.of_classes else LETTERS
+
     def totals(self, operation, rank, kind):
-        return [self.found[operation, rank, n, kind] for n in LETTERS]
+        return [self.found[operation, rank, n, kind] for n in self.numbers(operation)]
 
     def costs(self, operation, rank, kind):
         """Instructions for each unit."""
         totals = self.totals(operation, rank, kind)
         return [
-            total / self.units[operation, n] for total, n in zip(totals, LETTERS)
+            total / self.units[operation, n] for total, n in zip(totals, self.numbers(operation))
         ]
 
     def ratios(self, operation, rank, kind, base):
@@ -111,27 +117,36 @@ def cells(values, digits=2):
     return [f"{value:,.{digits}f}" for value in values]
 
 
-def print_costs(counts):
+def print_ratios(counts, operations, numbers, digits):
     """Kernel and plain Rust, and the ratio."""
     rows = [
         [
             f"`{operation}`",
             rank,
-            *cells(counts.costs(operation, rank, "kernel")),
-            *cells(counts.costs(operation, rank, "plain")),
+            *cells(counts.costs(operation, rank, "kernel"), digits),
+            *cells(counts.costs(operation, rank, "plain"), digits),
             *cells(counts.ratios(operation, rank, "kernel", "plain")),
         ]
-        for operation in counts.operations
+        for operation in operations
         for rank in RANKS
     ]
-    print("## Instructions a letter\n")
-    head = [*sizes("kernel"), *sizes("Rust"), *sizes("ratio")]
+    head = [*sizes("kernel", numbers), *sizes("Rust", numbers), *sizes("ratio", numbers)]
     table(["operation", "rank", *head], rows)
+
+
+def print_costs(counts):
+    print("## Instructions a letter\n")
+    print_ratios(counts, counts.operations, LETTERS, 2)
     print(
         "`same_class` and `compare_weights`: for each letter of both words. `product`: for each cell of both factors"
         " together. `insert_letter`: for each cell of the pair before the insertion. `write_refusal_line`: for the whole"
         " call.\n"
     )
+
+
+def print_classes(counts):
+    print("## Words of a class: instructions a call\n")
+    print_ratios(counts, counts.of_classes, FEW, 0)
 
 
 def print_insertion(counts):
@@ -182,7 +197,7 @@ def print_large(counts):
             for rank in RANKS
             for ratio in counts.ratios(operation, rank, "kernel", "plain")
         )
-        for operation in counts.operations
+        for operation in counts.operations + counts.of_classes
     }
     large = {operation: ratio for operation, ratio in largest.items() if ratio > LARGE}
     for operation, ratio in large.items():
@@ -193,6 +208,7 @@ def print_large(counts):
 
 def print_all(counts):
     print_costs(counts)
+    print_classes(counts)
     print_insertion(counts)
     print_growth(counts)
     print_large(counts)

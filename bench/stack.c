@@ -9,12 +9,14 @@
 
 #include "luchtrav.h"
 
-enum { RANK = LUCHTRAV_RANKS, L = LUCHTRAV_LETTERS, H = L / 2, STACK = 1 << 18, PAINT = 0xA5, SAID = 40000 };
+enum { RANK = LUCHTRAV_RANKS, L = LUCHTRAV_LETTERS, H = L / 2, F = LUCHTRAV_COUNTED };
+enum { STACK = 1 << 18, PAINT = 0xA5, SAID = 40000 };
 
 /* A word with its pair, its lines, one tableau of equal letters for moves, a pair with one cell left for insertion, and
- * the tableaux of the word's two halves. */
+ * the tableaux of the word's two halves; the first letters of the word, as many as a class is counted of, with their
+ * tableau. */
 static uint8_t word[L], letters[L], marks[L], same[L], level[L], first[L], steps[L];
-static uint8_t front[H], front_marks[H], back[H], back_marks[H];
+static uint8_t front[H], front_marks[H], back[H], back_marks[H], few[F], few_marks[F];
 static uint16_t entries[L], places[L];
 static uint8_t w_line[LUCHTRAV_LINE_BYTES], t_line[LUCHTRAV_LINE_BYTES], n_line[LUCHTRAV_LINE_BYTES];
 static size_t w_count, t_count, n_count;
@@ -31,6 +33,7 @@ static void prepare(void) {
     luchtrav_recording_of_word(RANK, word, L - 1, places, L);
     luchtrav_tableau_of_word(RANK, word, H, front, H, front_marks, H);
     luchtrav_tableau_of_word(RANK, word + H, H, back, H, back_marks, H);
+    luchtrav_tableau_of_word(RANK, word, F, few, F, few_marks, F);
     w_count = luchtrav_write_word_line(RANK, word, L, w_line, sizeof w_line).count;
     t_count = luchtrav_write_tableau_line(RANK, letters, L, marks, L, t_line, sizeof t_line).count;
     n_count = luchtrav_write_recording_line(entries, L, n_line, sizeof n_line).count;
@@ -49,6 +52,8 @@ static void prepare(void) {
     call(raise_count_tableau, RANK, 1, letters, L, marks, L) call(lower_count_tableau, RANK, 1, letters, L, marks, L) \
     call(look, TABLEAU, L - 1) call(cell_at, letters, L, marks, L, L - 1) \
     call(product, RANK, front, H, front_marks, H, back, H, back_marks, H, bytes, L, more, L) \
+    call(class_size, RANK, few, F, few_marks, F) call(class_word, RANK, few, F, few_marks, F, 0, bytes, F) \
+    call(class_number, RANK, word, F) \
     call(check_pair, TABLEAU, entries, L) call(insert_letter, RANK, L - 1, 1, first, L, steps, L, places, L) \
     call(word_of_pair, TABLEAU, entries, L, OUT) call(tableau_line_of_word, WORD, OUT) \
     call(write_word_line, WORD, OUT) call(write_tableau_line, TABLEAU, OUT) \

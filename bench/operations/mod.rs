@@ -20,6 +20,7 @@ macro_rules! call {
     };
 }
 
+mod classes;
 mod lines;
 mod pairs;
 mod tableaux;
@@ -41,7 +42,7 @@ pub enum Unit {
     LetterOfBoth,
     /// A cell that stands there before an insertion.
     CellBefore,
-    /// The whole call, where no letters go in.
+    /// The whole call, where no letters go in, or few.
     Call,
 }
 
@@ -89,6 +90,10 @@ fn count(answer: Answer<usize>) -> Reply {
     said(answer, |count| [count])
 }
 
+fn value(answer: Answer<u64>) -> Reply {
+    said(answer, |value| [value as usize])
+}
+
 fn cell(answer: Answer<Option<Cell>>) -> Reply {
     said(answer, |found| {
         found.map_or([0; 4], |(letter, row, column)| {
@@ -109,11 +114,16 @@ const fn operation(name: &'static str, kernel: Call, plain: Call) -> Operation {
     }
 }
 
-/// All operations, in the order of the header.
+/// All operations on words and tableaux of any length, in the order of the header.
 pub fn all() -> impl Iterator<Item = Operation> {
     words::OPERATIONS
         .into_iter()
         .chain(tableaux::OPERATIONS)
         .chain(pairs::OPERATIONS)
         .chain(lines::OPERATIONS)
+}
+
+/// Those on the words of a class, which take at most 20 letters.
+pub fn of_classes() -> impl Iterator<Item = Operation> {
+    classes::OPERATIONS.into_iter()
 }

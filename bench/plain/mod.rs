@@ -2,6 +2,7 @@
 //! input once and makes each table once; `insertion` is the textbook way beside them.
 
 pub mod checks;
+pub mod classes;
 pub mod insertion;
 pub mod lines;
 pub mod pairs;
