@@ -5,8 +5,8 @@
     python3 scripts/class_sums.py RANK LENGTH..    # another rank from 1 to 64, each length from 0 to 20
 
 Each size is asked of the library, target/library/libluchtrav.so, through the Python binding. The tableaux are all ways to write rising letters and, wherever
-they rise, to step right or down; there are rank * (2 rank)^(length - 1) tries at most, so small ranks and lengths are meant. Beside the sum this prints how many
-classes there are and how large the largest is. The exit status is 1 where a sum is another.
+they rise, to step right or down; they grow fast in number with the rank. Beside the sum this prints how many classes there are and how large the largest
+is. The exit status is 1 where a sum is another.
 """
 import os
 import sys
