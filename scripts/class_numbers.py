@@ -96,14 +96,13 @@ def size_of(letters, marks):
 def counted_word(letters, marks, number):
     """The word with a number below the size: letter by letter, past the words that begin with a smaller one."""
     word = []
-    while len(word) < len(letters):
-        for letter in sorted(set(letters)):
-            if word.count(letter) < letters.count(letter):
-                ways = beginning_with(letters, marks, word + [letter])
-                if number < ways:
-                    word.append(letter)
-                    break
-                number -= ways
+    for _ in letters:
+        for letter in sorted({letter for letter in letters if word.count(letter) < letters.count(letter)}):
+            ways = beginning_with(letters, marks, word + [letter])
+            if number < ways:
+                break
+            number -= ways
+        word.append(letter)
     return word
 
 

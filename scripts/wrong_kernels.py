@@ -45,6 +45,10 @@ def edited(module, old, new):
         sys.modules.update(right)
 
 
+class Ended(Exception):
+    """A wrong kernel ended by an error."""
+
+
 class Elements:
     """Lent memory as a list whose elements are touched one by one where it stands, and outside of it too, as C would."""
 
@@ -97,7 +101,10 @@ def in_its_place(function, replies):
             lent.append((size, address, count, values))
             return values
 
-        reply = struct(*replies.plain_reply(function, arguments_of(function, passed, read)))
+        try:
+            reply = struct(*replies.plain_reply(function, arguments_of(function, passed, read)))
+        except Exception as error:
+            raise Ended from error
         for parameter, (size, address, count, values) in zip([p for p in function.parameters if p.size], lent):
             if parameter.lent:
                 ctypes.memmove(address, packed(size, [value % 256**size for value in values]), count * size)
@@ -119,7 +126,12 @@ def found_after(replies, seed, most=MOST):
     memory = Memory(draw)
     for at in range(most):
         function = functions[at % len(functions)]
-        if called(function, memory, drawn_input(draw, function)[1])[1]:
+        arguments = drawn_input(draw, function)[1]
+        try:
+            found = called(function, memory, arguments)[1]
+        except Ended:
+            found = True
+        if found:
             return function.name, at + 1
     return None
 
