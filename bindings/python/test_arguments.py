@@ -82,7 +82,7 @@ class Sequences(Case):
         for other in others:
             calls: List[Tuple[Any, ...]] = [
                 (lu.check_word, 4, other), (lu.same_class, 4, [1], 4, other), (lu.column_reading, 4, other, [0, 0]), (lu.write_recording_line, other),
-                (lu.class_number, 4, other), (lu.class_size, 4, [1], other), (lu.class_word, 4, other, [0], 0),
+                (lu.class_number, 4, other), (lu.class_size, 4, other, [0, 0]), (lu.class_word, 4, other, [0, 0], 0),
                 (lu.check_pair, 4, other, [0, 0], [1, 2]), (lu.Tableau, other, [0, 0]), (lu.Pair, [1, 2], [0, 0], other),
                 (lu.product, 4, ([1], [0]), (other, [0])), (lu.product, 4, ([1], [0]), ([1], other)),
             ]
