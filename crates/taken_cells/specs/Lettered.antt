@@ -21,7 +21,7 @@ use mir.Syntax.{w64}
 use mir.Val.{Fits}
 use borrow.Author.Needs.{needs}
 use borrow.Author.Tests.{eq-eqb, le-ltb, lt-ltb, ne-eqb}
-use Rattle.numbering.specs.Orders.{Choice, choices, orders, placeFrom, withIf}
+use Rattle.numbering.specs.Orders.{choices, orders, placeFrom, withIf}
 use Rattle.taken_cells.specs.Choices.{choiceAt, choices-places, choicesFrom, left-bound, mayGo, ordersLeft}
 use Rattle.taken_cells.specs.Removal.{marksWithout, without}
 
