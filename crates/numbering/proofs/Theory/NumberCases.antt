@@ -30,7 +30,7 @@ pub size-421323 : classSize 4 (lettersOf (4 ∷ 2 ∷ 1 ∷ 3 ∷ 2 ∷ 3 ∷ []
 unfolding pairOf insert orders
 size-421323 = class-size 4 (1 ∷ 2 ∷ 2 ∷ 3 ∷ 3 ∷ 4 ∷ []) (0 ∷ 1 ∷ 0 ∷ 1 ∷ 0 ∷ 1 ∷ []) (omega arith) (tableau-of-word (4 ∷ 2 ∷ 1 ∷ 3 ∷ 2 ∷ 3 ∷ []))
 
--- ---- the largest class of 20 cells: the ribbon of 20 different letters whose steps go down and right in turn
+-- ---- a ribbon of 20 different letters whose steps go down and right in turn
 
 abbrev turnLetters : List ℕ
 turnLetters = 1 ∷ 2 ∷ 3 ∷ 4 ∷ 5 ∷ 6 ∷ 7 ∷ 8 ∷ 9 ∷ 10 ∷ 11 ∷ 12 ∷ 13 ∷ 14 ∷ 15 ∷ 16 ∷ 17 ∷ 18 ∷ 19 ∷ 20 ∷ []
