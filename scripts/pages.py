@@ -144,13 +144,14 @@ def listed():
     """The refusals that specs/ of hypoplactic, products and numbering list for definitions: in headers, for a reply with and without memory; in comments above
     judgements."""
     specs, found, told = CRATES / "hypoplactic/specs", {}, ""
-    others = [CRATES / "products/specs/Products.antt", CRATES / "numbering/specs/Operations.antt"]
-    for file in (*specs.glob("*Operations.antt"), specs / "LineReadings.antt", *others):
+    products, classes = CRATES / "products/specs/Products.antt", CRATES / "numbering/specs/Operations.antt"
+    for file in (*specs.glob("*Operations.antt"), specs / "LineReadings.antt", products, classes):
         for names, checks in re.findall(rf"^--     (\w+(?:, \w+)*) {{2,}}({NUMBERS})", file.read_text(), re.M):
             found.update((re.sub("(Says|Run)$", end, name), numbers(checks)) for name in names.split(", ") for end in ("Says", "Run"))
-    for comment, name in re.findall(rf"^-- ({NUMBERS})|\bpub (\w+(?:Judged|Judgements)) :", (specs / "Judgements.antt").read_text(), re.M):
-        told = comment or told
-        found[name] = numbers(told)
+    for file in (specs / "Judgements.antt", classes):
+        for comment, name in re.findall(rf"^-- ({NUMBERS})|\bpub (\w+(?:Judged|Judgements)) :", file.read_text(), re.M):
+            told = comment or told
+            found[name] = numbers(told)
     found["readTRun"].remove(3)  # a T line has as many letters as marks
     return found
 
