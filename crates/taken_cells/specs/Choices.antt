@@ -106,13 +106,13 @@ unfolding ordersLeft
 left-none c i ms e q = sym (ap (λ (b : Bool). cond b (orders (marksWithout i (take c ms))) 0) (sym e ∙ q))
 
 -- It may, and the orders of the marks that it leaves are counted.
-pub left-some : {g : Bool} {r : ℕ} (c i : ℕ) (ms ns : List ℕ) → g ≡ mayGo (take c ms) i → g ≡ true → length ms ≡ 20 → ns ≡ pulledFree i ms → i < c → c ≤ 20
+pub left-some : {g : Bool} {r : ℕ} (c i : ℕ) (ms ns : List ℕ) → g ≡ mayGo (take c ms) i → g ≡ true → length ms ≡ 20 → ns ≡ pulledFree i (c - 1) ms → i < c → c ≤ 20
     → r ≡ ordersGiven (midOf 0 (c - 1 - 0) ns) → r ≡ ordersLeft (take c ms) i
 unfolding ordersLeft
 left-some {g} {r} c i ms ns e q s h l m o =
     let part : c - 1 - 0 ≡ c - 1 = omega arith in
     let few : length (take (c - 1) ns) ≤ 20 = omega (arith, length-take (c - 1) ns) in
-    o ∙ ap (λ (k : ℕ). ordersGiven (take k ns)) part ∙ orders-some (take (c - 1) ns) few ∙ ap orders (free-told i ms s h .is c l m)
+    o ∙ ap (λ (k : ℕ). ordersGiven (take k ns)) part ∙ orders-some (take (c - 1) ns) few ∙ ap orders (free-told i c ms l m s h)
     ∙ sym (ap (λ (b : Bool). cond b (orders (marksWithout i (take c ms))) 0) (sym e ∙ q))
 
 -- They are few enough to be added up over 20 cells.

@@ -1,23 +1,26 @@
 -- A cell taken out of lists and out of 20 bytes of which only the first count.
 --     without p xs              the list without the element at place p
 --     marksWithout p ms         the same of marks, with a free step across the gap
---     pulled p xs               20 bytes without the one at place p: those after it are one place back, and the last stays where it is
---     pulledFree p ms           the same of marks, with a free step across the gap
---     Pulled, PulledFree        what that means for the first m of them, for every m: pulled-told, free-told; pulled-long: they are 20 again
---     Pulling p xs now i        the loop that moves bytes one back: those before i are moved
+--     pulled p e xs             20 bytes with the one at place p taken out of those up to place e: those after it, up to e, are one place back
+--     pulledFree p e ms         the same of marks, with a free step across the gap
+--     Pulling p e xs now i      the loop that moves bytes one back: those before i are moved
 --     pulling                   the ruleset of both functions
+--     pulled-told, free-told    what they mean for a ribbon in the first c bytes; pulled-long: there are 20 again
 -- Assumes nothing.
 use Prim.Native.Nat.{ℕ, zero, suc, _+_, _-_, _≤_, _<_}
 use mathlib.Core.Path.{_≡_, refl, sym, ap, ap₂, _∙_}
 use mathlib.Core.Logic.{dite}
-use mathlib.Core.List.{List, [], _∷_, _++_, append-nil}
+use mathlib.Core.Bool.{cond}
+use mathlib.Core.List.{List, [], _∷_, _++_}
 use native.Mathlib.Decide.{decLe}
 use native.Mathlib.Nat.{add-zero}
 use native.Mathlib.Numerals.{add-one}
 use native.Mathlib.Omega.{arith}
-use lib.ListN.{length, getD, set, take, drop, drop-of-length-le, length-append, length-drop, length-set, take-append-drop}
-use lib.Seq.{drop-cons, drop-set-lt, getD-drop, length-take-le, take-all, take-suc, take-suc-set, take-take}
+use lib.Dec.{ltb}
+use lib.ListN.{length, getD, set, take, drop, length-append, length-drop, length-set, take-append-drop}
+use lib.Seq.{drop-cons, drop-set-lt, getD-drop, length-take-le, take-append-seam, take-suc, take-suc-set, take-take}
 use borrow.Author.Needs.{needs}
+use borrow.Author.Tests.{le-ltb, lt-ltb}
 use Rattle.numbering.specs.Orders.{freed}
 
 abbrev pub without : ℕ → List ℕ → List ℕ
@@ -26,12 +29,12 @@ without p xs = take p xs ++ drop (suc p) xs
 abbrev pub marksWithout : ℕ → List ℕ → List ℕ
 marksWithout p ms = take p ms ++ freed (drop (suc p) ms)
 
--- Past the last place nothing is taken out.
-abbrev pub pulled : ℕ → List ℕ → List ℕ
-pulled p xs = take 19 (without p xs) ++ drop 19 xs
+-- Nothing is taken out where the place is past the last one, or that is past 19.
+unfoldable pub pulled : ℕ → ℕ → List ℕ → List ℕ
+pulled p e xs = cond (ltb 19 e) xs (take e (without p xs) ++ drop e xs)
 
-abbrev pub pulledFree : ℕ → List ℕ → List ℕ
-pulledFree p ms = set (pulled p ms) p 2
+abbrev pub pulledFree : ℕ → ℕ → List ℕ → List ℕ
+pulledFree p e ms = set (pulled p e ms) p 2
 
 -- ---- lists without an element
 
@@ -53,10 +56,6 @@ getD-without (suc p) (suc i) (x ∷ xs) l = getD-without p i xs (omega arith)
 pub length-without : (p : ℕ) (xs : List ℕ) → p < length xs → suc (length (without p xs)) ≡ length xs
 length-without p xs l =
     omega (arith, length-append (take p xs) (drop (suc p) xs), length-take-le p xs (omega arith), length-drop (suc p) xs)
-
--- There is nothing to take out past the last place.
-nothing : (p : ℕ) (xs : List ℕ) → length xs ≤ p → without p xs ≡ xs
-nothing p xs l = let past : length xs ≤ suc p = omega arith in ap₂ _++_ (take-all p xs l) (drop-of-length-le xs past) ∙ append-nil xs
 
 -- A beginning without an element of it.
 beginning : (p k : ℕ) (xs : List ℕ) → p ≤ k → take k (without p xs) ≡ without p (take (suc k) xs)
@@ -84,41 +83,47 @@ take-set (suc k) (suc p) v (x ∷ xs) = ap (λ (ys : List ℕ). x ∷ ys) (take-
 -- ---- the loop
 
 -- Those before i are moved.
-pub record Pulling (p : ℕ) (xs now : List ℕ) (i : ℕ) : Type 0 where
+pub record Pulling (p e : ℕ) (xs now : List ℕ) (i : ℕ) : Type 0 where
+  pub small : e ≤ 19
   pub size : length xs ≡ 20
   pub long : length now ≡ 20
   pub begun : p ≤ i
-  pub reached : p < 20 → i ≤ 19
+  pub reached : i ≤ p + (e - p)
   pub moved : take i now ≡ take i (without p xs)
   pub kept : drop i now ≡ drop i xs
 
-pub pulling-start : (p : ℕ) (xs : List ℕ) → length xs ≡ 20 → Pulling p xs xs p
-pulling-start p xs e =
-    record { size = e; long = e; begun = omega arith; reached = λ l. omega arith; moved = take-without p xs; kept = refl }
+pub pulled-none : (p e : ℕ) (xs : List ℕ) → 19 < e → xs ≡ pulled p e xs
+unfolding pulled
+pulled-none p e xs l = rw (lt-ltb 19 e l)
 
-module _ {p : ℕ} {xs now : List ℕ} {i : ℕ} (h : Pulling p xs now i) where
-  pub place-in : i < 19 → i < length now
-  place-in l = omega (arith, h .long)
+pub pulling-start : (p e : ℕ) (xs : List ℕ) → length xs ≡ 20 → e ≤ 19 → Pulling p e xs xs p
+pulling-start p e xs d l =
+    record { small = l; size = d; long = d; begun = omega arith; reached = omega arith; moved = take-without p xs; kept = refl }
 
-  pub next-in : i < 19 → i + 1 < length now
-  next-in l = omega (arith, h .long)
+module _ {p e : ℕ} {xs now : List ℕ} {i : ℕ} (h : Pulling p e xs now i) where
+  pub place-in : i < e → i < length now
+  place-in l = omega (arith, h .long, h .small)
 
-  later : i < 19 → drop (suc i) now ≡ drop (suc i) xs
-  later l = ap tail (sym (drop-cons now i 0 (place-in l)) ∙ h .kept ∙ drop-cons xs i 0 (omega (arith, h .size)))
+  pub next-in : i < e → i + 1 < length now
+  next-in l = omega (arith, h .long, h .small)
+
+  later : i < e → drop (suc i) now ≡ drop (suc i) xs
+  later l = ap tail (sym (drop-cons now i 0 (place-in l)) ∙ h .kept ∙ drop-cons xs i 0 (omega (arith, h .size, h .small)))
     where
       tail : List ℕ → List ℕ
       tail [] = []
       tail (y ∷ ys) = ys
 
-  pub pulling-turn : i < 19 → Pulling p xs (set now i (getD now (i + 1) 0)) (i + 1)
+  pub pulling-turn : i < e → Pulling p e xs (set now i (getD now (i + 1) 0)) (i + 1)
   pulling-turn l =
-      let small : p < length xs = omega (arith, h .size, h .begun) in
-      let more : i < length (without p xs) = omega (arith, length-without p xs small, h .size) in
+      let inside : p < length xs = omega (arith, h .size, h .begun, h .small) in
+      let more : i < length (without p xs) = omega (arith, length-without p xs inside, h .size, h .small) in
       rw (add-one i) (record {
+        small = h .small;
         size = h .size;
         long = length-set now i _ ∙ h .long;
         begun = omega (arith, h .begun);
-        reached = λ m. l;
+        reached = omega arith;
         moved =
             take-suc-set now i _ (place-in l)
             ∙ ap₂ (λ (ys : List ℕ) (y : ℕ). ys ++ (y ∷ [])) (h .moved) (next ∙ sym (getD-without p i xs (h .begun)))
@@ -133,72 +138,67 @@ module _ {p : ℕ} {xs now : List ℕ} {i : ℕ} (h : Pulling p xs now i) where
       next = place now ∙ ap (λ (ys : List ℕ). getD ys 0 0) (later l) ∙ sym (place xs)
 
   -- All are moved, or there was none to be moved.
-  pub pulling-end : 19 ≤ i → now ≡ pulled p xs
-  pulling-end l = sym (take-append-drop i now) ∙ ap₂ _++_ (h .moved) (h .kept) ∙ dite (decLe 20 p) past (λ (m : ¬ (20 ≤ p)). inside (omega arith))
+  pub pulling-end : e ≤ i → now ≡ pulled p e xs
+  unfolding pulled
+  pulling-end l =
+      sym (take-append-drop i now) ∙ ap₂ _++_ (h .moved) (h .kept) ∙ dite (decLe p e) inside (λ (m : ¬ (p ≤ e)). past (omega arith))
+      ∙ sym (rw (le-ltb 19 e (h .small)))
     where
-      past : 20 ≤ p → take i (without p xs) ++ drop i xs ≡ pulled p xs
-      past m =
-          let high : length xs ≤ i = omega (arith, h .size, h .begun) in
-          let all : without p xs ≡ xs = nothing p xs (omega (arith, h .size)) in
-          ap₂ _++_ (ap (take i) all ∙ take-all i xs high) (drop-of-length-le xs high) ∙ append-nil xs
-          ∙ sym (ap (λ (ys : List ℕ). take 19 ys ++ drop 19 xs) all ∙ take-append-drop 19 xs)
+      inside : p ≤ e → take i (without p xs) ++ drop i xs ≡ take e (without p xs) ++ drop e xs
+      inside m = let last : i ≡ e = omega (arith, h .reached) in ap (λ (k : ℕ). take k (without p xs) ++ drop k xs) last
 
-      inside : p < 20 → take i (without p xs) ++ drop i xs ≡ pulled p xs
-      inside m = let last : i ≡ 19 = omega (arith, h .reached m) in ap (λ (k : ℕ). take k (without p xs) ++ drop k xs) last
+      past : e < p → take i (without p xs) ++ drop i xs ≡ take e (without p xs) ++ drop e xs
+      past m =
+          let still : i ≡ p = omega (arith, h .reached, h .begun) in
+          let front : take e (without p xs) ≡ take e xs =
+          sym (take-take e p (without p xs) (omega arith)) ∙ ap (take e) (sym (take-without p xs)) ∙ take-take e p xs (omega arith) in
+          ap (λ (k : ℕ). take k (without p xs) ++ drop k xs) still ∙ ap (λ (ys : List ℕ). ys ++ drop p xs) (sym (take-without p xs))
+          ∙ take-append-drop p xs ∙ sym (ap (λ (ys : List ℕ). ys ++ drop e xs) front ∙ take-append-drop e xs)
 
 -- ---- marks
 
--- No byte is that far.
-pub free-past : (p : ℕ) (ms : List ℕ) → length ms ≡ 20 → 20 ≤ p → ms ≡ pulledFree p ms
-free-past p ms e l =
-    let all : pulled p ms ≡ ms = ap (λ (ys : List ℕ). take 19 ys ++ drop 19 ms) (nothing p ms (omega arith)) ∙ take-append-drop 19 ms in
-    sym (ap (λ (ys : List ℕ). set ys p 2) all ∙ beyond ms p (omega arith))
+-- No mark is that far,
+pub free-past : {ys : List ℕ} (p e : ℕ) (ms : List ℕ) → length ms ≡ 20 → length ys ≡ 20 → ys ≡ pulled p e ms → 19 < p → ys ≡ pulledFree p e ms
+free-past {ys} p e ms d s q l = q ∙ sym (beyond (pulled p e ms) p (omega (arith, ap length (sym q))))
   where
-    beyond : (xs : List ℕ) (q : ℕ) → length xs ≤ q → set xs q 2 ≡ xs
-    beyond [] q l = refl
+    beyond : (xs : List ℕ) (k : ℕ) → length xs ≤ k → set xs k 2 ≡ xs
+    beyond [] k l = refl
     beyond (x ∷ xs) zero l = let z : ⊥ = omega arith in absurd z
-    beyond (x ∷ xs) (suc q) l = ap (λ (ys : List ℕ). x ∷ ys) (beyond xs q (omega arith))
+    beyond (x ∷ xs) (suc k) l = ap (λ (zs : List ℕ). x ∷ zs) (beyond xs k (omega arith))
 
-pub free-pulled : {ys : List ℕ} (p : ℕ) (ms : List ℕ) → ys ≡ pulled p ms → set ys p 2 ≡ pulledFree p ms
-free-pulled p ms e = ap (λ (zs : List ℕ). set zs p 2) e
+-- or the follower's becomes free.
+pub free-pulled : {ys : List ℕ} (p e : ℕ) (ms : List ℕ) → ys ≡ pulled p e ms → set ys p 2 ≡ pulledFree p e ms
+free-pulled p e ms q = ap (λ (zs : List ℕ). set zs p 2) q
 
-pub ruleset pulling = (pulling-start, place-in, next-in, pulling-turn, pulling-end, free-past, free-pulled, needs)
+pub ruleset pulling = (pulled-none, pulling-start, place-in, next-in, pulling-turn, pulling-end, free-past, free-pulled, needs)
 
--- ---- what it means
+-- ---- what it means for a ribbon in the first c of 20 bytes
 
--- Of every beginning that has the place.
-pub record Pulled (p : ℕ) (xs ys : List ℕ) : Type 0 where
-  pub is : (m : ℕ) → p < m → m ≤ 20 → take (m - 1) ys ≡ without p (take m xs)
+module _ (p c : ℕ) (xs : List ℕ) (l : p < c) (m : c ≤ 20) (s : length xs ≡ 20) where
+  moved : pulled p (c - 1) xs ≡ take (c - 1) (without p xs) ++ drop (c - 1) xs
+  unfolding pulled
+  moved = rw (le-ltb 19 (c - 1) (omega arith))
 
-pub record PulledFree (p : ℕ) (ms ys : List ℕ) : Type 0 where
-  pub is : (m : ℕ) → p < m → m ≤ 20 → take (m - 1) ys ≡ marksWithout p (take m ms)
+  inner : length (take (c - 1) (without p xs)) ≡ c - 1
+  inner = length-take-le (c - 1) (without p xs) (omega (arith, length-without p xs (omega arith)))
 
-take-first : (k : ℕ) (us vs : List ℕ) → k ≤ length us → take k (us ++ vs) ≡ take k us
-take-first zero us vs l = refl
-take-first (suc k) [] vs l = let z : ⊥ = omega arith in absurd z
-take-first (suc k) (u ∷ us) vs l = ap (λ (ws : List ℕ). u ∷ ws) (take-first k us vs (omega arith))
+  -- There are 20 bytes again.
+  pub pulled-long : length (pulled p (c - 1) xs) ≡ 20
+  pulled-long = ap length moved ∙ omega (arith, length-append (take (c - 1) (without p xs)) (drop (c - 1) xs), inner, length-drop (c - 1) xs)
 
-pub pulled-told : {ys : List ℕ} (p : ℕ) (xs : List ℕ) → length xs ≡ 20 → ys ≡ pulled p xs → Pulled p xs ys
-pulled-told {ys} p xs s e = record { is = λ m a b. ap (take (m - 1)) e ∙ go m a b }
-  where
-    go : (m : ℕ) → p < m → m ≤ 20 → take (m - 1) (pulled p xs) ≡ without p (take m xs)
-    go zero a b = let z : ⊥ = omega arith in absurd z
-    go (suc k) a b =
-        let fewer : suc k - 1 ≡ k = omega arith in
-        let small : p < length xs = omega arith in
-        let size : length (take 19 (without p xs)) ≡ 19 = length-take-le 19 (without p xs) (omega (arith, length-without p xs small)) in
-        ap (λ (j : ℕ). take j (pulled p xs)) fewer ∙ take-first k (take 19 (without p xs)) (drop 19 xs) (omega arith)
-        ∙ take-take k 19 (without p xs) (omega arith) ∙ beginning p k xs (omega arith)
+  -- The first are those of the ribbon without the cell at p,
+  pub pulled-told : {ys : List ℕ} → ys ≡ pulled p (c - 1) xs → take (c - 1) ys ≡ without p (take c xs)
+  pulled-told {ys} q = ap (take (c - 1)) (q ∙ moved) ∙ first ∙ beginning p (c - 1) xs (omega arith) ∙ ap (λ (k : ℕ). without p (take k xs)) whole
+    where
+      whole : suc (c - 1) ≡ c
+      whole = omega arith
 
--- There are 20 bytes again.
-pub pulled-long : (p : ℕ) (xs : List ℕ) → p < 20 → length xs ≡ 20 → length (pulled p xs) ≡ 20
-pulled-long p xs l e =
-    let fewer : suc (length (without p xs)) ≡ length xs = length-without p xs (omega arith) in
-    omega (arith, length-append (take 19 (without p xs)) (drop 19 xs), length-take-le 19 (without p xs) (omega (arith, fewer)), length-drop 19 xs)
+      first : take (c - 1) (take (c - 1) (without p xs) ++ drop (c - 1) xs) ≡ take (c - 1) (without p xs)
+      first =
+          ap (λ (k : ℕ). take k (take (c - 1) (without p xs) ++ drop (c - 1) xs)) (sym inner)
+          ∙ take-append-seam (take (c - 1) (without p xs)) (drop (c - 1) xs)
 
-pub free-told : {ys : List ℕ} (p : ℕ) (ms : List ℕ) → length ms ≡ 20 → ys ≡ pulledFree p ms → PulledFree p ms ys
-free-told {ys} p ms s e = record {
-  is = λ m a b.
-      ap (take (m - 1)) e ∙ take-set (m - 1) p 2 (pulled p ms) ∙ ap (λ (zs : List ℕ). set zs p 2) (pulled-told p ms s refl .is m a b)
-      ∙ set-without p (take m ms);
-}
+  -- and of marks those that the cell leaves.
+  pub free-told : {ys : List ℕ} → ys ≡ pulledFree p (c - 1) xs → take (c - 1) ys ≡ marksWithout p (take c xs)
+  free-told {ys} q =
+      ap (take (c - 1)) q ∙ take-set (c - 1) p 2 (pulled p (c - 1) xs) ∙ ap (λ (zs : List ℕ). set zs p 2) (pulled-told refl) ∙ set-without p (take c xs)

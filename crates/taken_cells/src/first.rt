@@ -28,8 +28,9 @@ fn orders_left(marks: [u8; 20], cells: usize, place: usize) -> u64
     ensures { λ r. ⌜ r ≡ ordersLeft (take cells marks) place ⌝ }
 {
     if may_go(marks, cells, place) {
-        let fewer = marks_without(marks, place);
-        return orders_of(&fewer[0..cells - 1]);
+        let last = cells - 1;
+        let fewer = marks_without(marks, place, last);
+        return orders_of(&fewer[0..last]);
     }
     0
 }

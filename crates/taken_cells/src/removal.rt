@@ -2,13 +2,16 @@
 ghost use mathlib.Core.Path.{_≡_};
 ghost use Rattle.taken_cells.specs.Removal.{pulled, pulledFree};
 
-// The bytes without the one at a place: those after it move one back.
-pub fn without(bytes: [u8; 20], place: usize) -> [u8; 20]
-    ensures { λ r. ⌜ r ≡ pulled place bytes ⌝ }
+// The bytes up to a last place without the one at a place: those after it move one back. Bytes past the last place do not count, so none is moved.
+pub fn without(bytes: [u8; 20], place: usize, last: usize) -> [u8; 20]
+    ensures { λ r. ⌜ r ≡ pulled place last bytes ⌝ }
 {
     let mut out = bytes;
+    if 19 < last {
+        return out;
+    }
     let mut i = place;
-    while i < 19 {
+    while i < last {
         out[i] = out[i + 1];
         i += 1;
     }
@@ -16,13 +19,13 @@ pub fn without(bytes: [u8; 20], place: usize) -> [u8; 20]
 }
 
 // The marks without the one at a place. What stood before and after that cell is joined freely.
-pub fn marks_without(marks: [u8; 20], place: usize) -> [u8; 20]
-    ensures { λ r. ⌜ r ≡ pulledFree place marks ⌝ }
+pub fn marks_without(marks: [u8; 20], place: usize, last: usize) -> [u8; 20]
+    ensures { λ r. ⌜ r ≡ pulledFree place last marks ⌝ }
 {
-    if 20 <= place {
-        return marks;
+    let mut out = without(marks, place, last);
+    if 19 < place {
+        return out;
     }
-    let mut out = without(marks, place);
     out[place] = 2;
     out
 }

@@ -6,6 +6,6 @@ use Rattle.taken_cells.proofs.first.orders_left.Tie as tie
 pub orders-left-spec : {M : Type 1} → statement M
 orders-left-spec =
     tie.close
-    (tie.spec (λ c κs. search choosing) (λ c κs. search choosing) (λ c. search choosing) (λ c. search choosing)
+    (tie.spec (λ c κs. search choosing) (λ c. search choosing) (λ c κs. search choosing) (λ c. search choosing)
     (λ c. search choosing) (λ c. search choosing) (λ c κs. search choosing) (λ c. search choosing)
     (λ c. search choosing))

@@ -5,4 +5,4 @@ use Rattle.taken_cells.proofs.removal.marks_without.Tie as tie
 
 pub marks-without-spec : {M : Type 1} → statement M
 marks-without-spec = tie.close
-    (tie.spec (λ c. search pulling) (λ c κs. search pulling) (λ c. search pulling) (λ c. search pulling))
+    (tie.spec (λ c κs. search pulling) (λ c. search pulling) (λ c. search pulling) (λ c. search pulling))

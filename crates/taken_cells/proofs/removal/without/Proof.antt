@@ -5,13 +5,14 @@ use Rattle.taken_cells.proofs.removal.without.Statement.{statement}
 use Rattle.taken_cells.proofs.removal.without.Tie as tie
 
 abbrev Inv-loop : tie.InvT-loop
-Inv-loop place out₀ i₀ out i = Pulling place out₀ out i
+Inv-loop place last out₀ i₀ out i = Pulling place last out₀ out i
 
 abbrev μ-loop : tie.MeasureT-loop
-μ-loop place out₀ i₀ out i = 19 - i
+μ-loop place last out₀ i₀ out i = last - i
 
 pub without-spec : {M : Type 1} → statement M
 without-spec =
     tie.close
     (tie.spec Inv-loop μ-loop (λ c. search pulling) (λ c. search pulling) (λ c. search pulling)
-    (λ c. search pulling) (λ c. search pulling) (λ c. search pulling) (λ c. search pulling) (λ c. search pulling))
+    (λ c. search pulling) (λ c. search pulling) (λ c. search pulling) (λ c. search pulling) (λ c. search pulling)
+    (λ c. search pulling))
