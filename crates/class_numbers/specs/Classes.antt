@@ -11,7 +11,7 @@ use native.Mathlib.Omega.{arith}
 use lib.ListN.{length, set, take}
 use borrow.Author.Needs.{needs}
 use Rattle.hypoplactic.specs.Words.{Accepted}
-use Rattle.hypoplactic.specs.Ribbons.{TableauAt}
+use Rattle.hypoplactic.specs.Ribbons.{Tableau, TableauAt}
 use Rattle.hypoplactic.specs.Insertion.{lettersOf, marksOf}
 use Rattle.hypoplactic.specs.Replies.{Said, first, gives, passed, ranTo, written}
 use Rattle.hypoplactic.specs.Judgements.{roomJudged, tableauJudgements, tableauRooms, wordJudgements}
@@ -23,7 +23,7 @@ use Rattle.hypoplactic.proofs.Theory.Pairs.{length-letters, length-marks}
 use Rattle.hypoplactic.proofs.Theory.Passing.{Passing, first-else, first-past, ran-answer}
 use Rattle.numbering.specs.Dictionary.{classNumber, classSize, classWord}
 use Rattle.numbering.specs.Operations.{classJudgements, classNumberSays, classSizeSays, classWordRun, classWordSays, numberJudged, smallJudged}
-use Rattle.numbering.specs.Orders.{freed, orders, placeOf, wordAt}
+use Rattle.numbering.specs.Orders.{across, freed, headOf, orders, placeOf, tally, wordAt}
 use Rattle.numbering.proofs.Theory.ClassReplies.{small-judged}
 use Rattle.numbering.proofs.Theory.ClassSize.{class-size}
 use Rattle.numbering.proofs.Theory.Numbers.{class-number, class-word, place-below}
@@ -34,7 +34,8 @@ use Rattle.refusals.specs.declared.refusal.Refusal.{Refusal}
 use Rattle.refusals.specs.declared.answers.Verdict.{Verdict}
 use Rattle.refusals.specs.declared.answers.Verdict.the-variants.{Passed, Refused}
 use Rattle.numbering.proofs.Theory.Bounds.{orders-20}
-use Rattle.class_numbers.specs.Held.{Holds, Opens, take-freed}
+use Rattle.ribbon_orders.specs.Rows.{orders-some, ordersGiven}
+use Rattle.class_numbers.specs.Held.{Holds, take-freed}
 use Rattle.class_numbers.specs.NumberFound.{Placed, placeHeld}
 
 -- ---- tableaux
@@ -59,11 +60,23 @@ module _ {v : Verdict} (n : ℕ) (xs ms : List ℕ) (e : saidVerdict v ≡ check
     alike : length ms ≡ length xs
     alike = alike-judged _ _ .0 (checks .0 .1 .1 .0) .0
 
-    pub marks-few : length ms ≤ 20
+    marks-few : length ms ≤ 20
     marks-few = omega (arith, alike, letters-few)
 
-    size-is : classSize n xs ms ≡ orders (freed ms)
-    size-is = class-size n xs ms (tableau .word .letters) (tableau .tableau)
+    -- The first step of a tableau is a right one, which leaves as many orders as a free one.
+    size-is : ordersGiven ms ≡ classSize n xs ms
+    unfolding orders
+    size-is = orders-some ms marks-few ∙ right xs ms (tableau .tableau) ∙ sym (class-size n xs ms (tableau .word .letters) (tableau .tableau))
+      where
+        head : (ns : List ℕ) → headOf (across 0 0 ns) ≡ headOf (across 2 0 ns)
+        head [] = refl
+        head (k ∷ ns) = omega arith
+
+        right : (xs ms : List ℕ) → Tableau xs ms → orders ms ≡ orders (freed ms)
+        right [] [] h = refl
+        right [] (m ∷ ms) h = absurd h
+        right (x ∷ xs) [] h = absurd h
+        right (x ∷ xs) (m ∷ ms) h = rw (h .0) (head (tally ms))
 
     all : Passing (classJudgements n xs ms)
     unfolding checksThen
@@ -73,10 +86,10 @@ module _ {v : Verdict} (n : ℕ) (xs ms : List ℕ) (e : saidVerdict v ≡ check
   unfolding classSizeSays checksThen
   size-refused r q = stops r (first (classJudgements n xs ms) passed) (gives (classSize n xs ms ∷ [])) e q ∙ first-else (classJudgements n xs ms) _
 
-  pub size-told : (k : ℕ) → v ≡ Passed → k ≡ orders (freed ms) → gives (k ∷ []) ≡ classSizeSays n xs ms
+  pub size-told : (k : ℕ) → v ≡ Passed → k ≡ ordersGiven ms → gives (k ∷ []) ≡ classSizeSays n xs ms
   unfolding classSizeSays checksThen
   size-told k q h =
-      goes-on (first (classJudgements n xs ms) passed) (gives (classSize n xs ms ∷ [])) e q (ap (λ (j : ℕ). gives (j ∷ [])) (h ∙ sym (size-is q)))
+      goes-on (first (classJudgements n xs ms) passed) (gives (classSize n xs ms ∷ [])) e q (ap (λ (j : ℕ). gives (j ∷ [])) (h ∙ size-is q))
       ∙ first-else (classJudgements n xs ms) _
 
   -- A word is asked for, and the tableau is refused.
@@ -86,10 +99,10 @@ module _ {v : Verdict} (n : ℕ) (xs ms : List ℕ) (e : saidVerdict v ≡ check
       run-stopped (classJudgements n xs ms) (asked n xs ms k old) (length xs ∷ []) (written (classWord n xs ms k) old) old r e q
 
   -- It is not, and u is the verdict of 16 and 13,
-  module _ (u : Verdict) (q : v ≡ Passed) (k size : ℕ) (old : List ℕ) (h : size ≡ orders (freed ms))
+  module _ (u : Verdict) (q : v ≡ Passed) (k size : ℕ) (old : List ℕ) (h : size ≡ ordersGiven ms)
       (f : saidVerdict u ≡ first (numberJudged k size ∷ roomJudged (length xs) (length old) ∷ []) passed) where
     said : saidVerdict u ≡ first (asked n xs ms k old) passed
-    said = f ∙ ap (λ (j : ℕ). first (numberJudged k j ∷ roomJudged (length xs) (length old) ∷ []) passed) (h ∙ sym (size-is q))
+    said = f ∙ ap (λ (j : ℕ). first (numberJudged k j ∷ roomJudged (length xs) (length old) ∷ []) passed) (h ∙ size-is q)
 
     -- which refuses,
     pub word-refused : (r : Refusal) → u ≡ Refused r → (saidRefusal r, old) ≡ classWordRun n xs ms k old
@@ -104,8 +117,8 @@ module _ {v : Verdict} (n : ℕ) (xs ms : List ℕ) (e : saidVerdict v ≡ check
     word-room p = room-judged _ _ .0 (all-passing (asked n xs ms k old) said p .1 .0)
 
     -- and is written.
-    pub word-told : (ys ns now : List ℕ) → u ≡ Passed → Holds xs ys → Opens ms ns
-        → now ≡ written (wordAt (length xs) (take (length xs) ys) (take (length xs) ns) k) old
+    pub word-told : (ys ns now : List ℕ) → u ≡ Passed → Holds xs ys → Holds ms ns
+        → now ≡ written (wordAt (length xs) (take (length xs) ys) (take (length xs) (set ns 0 2)) k) old
         → (gives (length xs ∷ []), now) ≡ classWordRun n xs ms k old
     unfolding classWordRun classWordSays
     word-told ys ns now p a b g =
@@ -113,17 +126,17 @@ module _ {v : Verdict} (n : ℕ) (xs ms : List ℕ) (e : saidVerdict v ≡ check
         ∙ sym (ran-answer (classJudgements n xs ms) (asked n xs ms k old) (length xs ∷ []) (written (classWord n xs ms k) old) old (all q)
         (all-passing (asked n xs ms k old) said p))
       where
-        marks : take (length xs) ns ≡ freed ms
-        marks = ap (λ (j : ℕ). take j ns) (sym (alike q)) ∙ b .is (marks-few q)
+        marks : take (length xs) (set ns 0 2) ≡ freed ms
+        marks = take-freed (length xs) ns ms (ap (λ (j : ℕ). take j ns) (sym (alike q)) ∙ b .is (marks-few q))
 
-        word : wordAt (length xs) (take (length xs) ys) (take (length xs) ns) k ≡ classWord n xs ms k
+        word : wordAt (length xs) (take (length xs) ys) (take (length xs) (set ns 0 2)) k ≡ classWord n xs ms k
         word =
             ap₂ (λ (us vs : List ℕ). wordAt (length xs) us vs k) (a .is (letters-few q)) marks
             ∙ sym (class-word n xs ms (tableau q .word .letters) (tableau q .tableau) k)
 
-pub ruleset sizing = (marks-few, size-refused, size-told, needs)
+pub ruleset sizing = (size-refused, size-told, needs)
 
-pub ruleset writing = (letters-few, marks-few, word-stopped, word-refused, word-room, word-told, needs)
+pub ruleset writing = (letters-few, word-stopped, word-refused, word-room, word-told, needs)
 
 -- ---- words
 

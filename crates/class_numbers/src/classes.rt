@@ -4,12 +4,11 @@ use crate::checks::check_class;
 use crate::checks::check_short;
 use crate::ribbon::held;
 use crate::ribbon::number_in;
-use crate::ribbon::opened;
-use crate::ribbon::size_of;
 use crate::ribbon::write_word;
 use refusals::answers::Numbered;
 use refusals::answers::Verdict;
 use refusals::answers::Written;
+use ribbon_orders::orders::orders_of;
 use ribbons::tableau::tableau_of_word;
 ghost use mathlib.Core.Path.{_≡_};
 ghost use Rattle.numbering.specs.Operations.{classNumberSays, classSizeSays, classWordRun};
@@ -22,7 +21,7 @@ pub fn class_size(rank: usize, letters: &[u8], marks: &[u8]) -> Numbered
     if let Verdict::Refused(refusal) = check_class(rank, letters, marks) {
         return Numbered::Refused(refusal);
     }
-    Numbered::Number(size_of(marks))
+    Numbered::Number(orders_of(marks))
 }
 
 // The word with a number of the class of a tableau, into a lent word, or the refusal of 1 to 6, 15, 16 or 13, which leaves the word as it was.
@@ -40,11 +39,13 @@ pub fn class_word(
     if let Verdict::Refused(refusal) = check_class(rank, letters, marks) {
         return Written::Refused(refusal);
     }
-    let size = size_of(marks);
+    let size = orders_of(marks);
     if let Verdict::Refused(refusal) = check_asked(number, size, letters.len(), word.len()) {
         return Written::Refused(refusal);
     }
-    write_word(held(letters), opened(marks), letters.len(), number, word);
+    let mut open = held(marks);
+    open[0] = 2;
+    write_word(held(letters), open, letters.len(), number, word);
     Written::Elements(letters.len())
 }
 

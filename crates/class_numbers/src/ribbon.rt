@@ -1,6 +1,5 @@
-// A tableau of at most 20 cells as a ribbon whose cells are taken out one by one: its orders, the word with a number, and the number of a word.
+// A tableau of at most 20 cells as a ribbon whose cells are taken out one by one: the word with a number, and the number of a word.
 use buffers::copies::copy_bytes;
-use ribbon_orders::orders::orders_of;
 use taken_cells::first::cell_of_letter;
 use taken_cells::first::cell_of_number;
 use taken_cells::removal::marks_without;
@@ -9,8 +8,8 @@ ghost use Prim.Native.Nat.{_≤_};
 ghost use mathlib.Core.Path.{_≡_};
 ghost use lib.ListN.{length, take};
 ghost use Rattle.hypoplactic.specs.Replies.{written};
-ghost use Rattle.numbering.specs.Orders.{freed, orders, placeOf, wordAt};
-ghost use Rattle.class_numbers.specs.Held.{Holds, Opens};
+ghost use Rattle.numbering.specs.Orders.{placeOf, wordAt};
+ghost use Rattle.class_numbers.specs.Held.{Holds};
 ghost use Rattle.class_numbers.specs.NumberFound.{Placed};
 
 // Bytes at the beginning of 20.
@@ -20,24 +19,6 @@ pub(crate) fn held(bytes: &[u8]) -> [u8; 20]
     let mut out = [0u8; 20];
     copy_bytes(bytes, &mut out);
     out
-}
-
-// Marks at the beginning of 20, the first step free. Without a mark the free step stands where nothing counts.
-pub(crate) fn opened(marks: &[u8]) -> [u8; 20]
-    ensures { λ r. ⌜ Opens (now (marks .entry)) r ⌝ }
-{
-    let mut out = held(marks);
-    out[0] = 2;
-    out
-}
-
-// How many orders a tableau with these marks has.
-pub(crate) fn size_of(marks: &[u8]) -> u64
-    requires { ⌜ length (now marks) ≤ 20 ⌝ }
-    ensures { λ r. ⌜ r ≡ orders (freed (now (marks .entry))) ⌝ }
-{
-    let open = opened(marks);
-    orders_of(&open[0..marks.len()])
 }
 
 // The word with a number of the ribbon in the first cells, into a lent word. Its letters are found one by one; where no word has the number, none is.

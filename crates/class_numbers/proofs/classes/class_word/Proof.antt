@@ -7,19 +7,19 @@ use Rattle.class_numbers.proofs.classes.class_word.Tie as tie
 returns-3 : tie.Need-returns-3
 returns-3 c =
     let wrote = c .before .before in
-    let opens = wrote .before .before in
-    let holds = opens .before in
-    let told2 = holds .before in
-    let asked = told2 .before .before in
+    let letters = wrote .before .before in
+    let marks = letters .before in
+    let room = marks .before in
+    let asked = room .before .before in
     let sized = asked .before in
     let told = sized .before in
-    word-told _ _ _ (told .before .before .check-class .ensures) _ (told .enum-told .given .1) _ _ _ (sized .size-of .ensures)
-    (asked .check-asked .ensures) _ _ _ (told2 .enum-told2 .given .1) (holds .held .ensures) (opens .opened .ensures) (wrote .write-word .ensures)
+    word-told _ _ _ (told .before .before .check-class .ensures) _ (told .enum-told .given .1) _ _ _ (sized .orders-of .ensures)
+    (asked .check-asked .ensures) _ _ _ (room .enum-told2 .given .1) (letters .held2 .ensures) (marks .held .ensures) (wrote .write-word .ensures)
 
 pub class-word-spec : {M : Type 1} → statement M
 class-word-spec =
     tie.close
     (tie.spec (λ c κs. search writing) (λ c. search writing) (λ c. search writing) (λ c. search writing)
     (λ c κs. search writing) (λ c κs. search writing) (λ c. search writing) (λ c. search writing)
-    (λ c. search writing) (λ c κs. search writing) (λ c κs. search writing) (λ c κs. search writing)
-    (λ c. search writing) returns-3)
+    (λ c. search writing) (λ c κs. search writing) (λ c. search writing) (λ c κs. search writing)
+    (λ c κs. search writing) (λ c. search writing) returns-3)
