@@ -71,19 +71,18 @@ module _ {w xs ms ys ns : List ℕ} {number i n : ℕ} (h : Finding w xs ms ys n
       finding-none q = omega (arith, h .is, opens, m .none q (placeOf (drop (suc i) w)))
 
       -- or one does, and is taken out.
-      pub finding-turn : {ys′ ns′ : List ℕ} → cell < n → ys′ ≡ pulled cell ys → ns′ ≡ pulledFree cell ns
+      pub finding-turn : {ys′ ns′ : List ℕ} → cell < n → ys′ ≡ pulled cell (n - 1) ys → ns′ ≡ pulledFree cell (n - 1) ns
           → Finding w xs ms ys′ ns′ (number + before) (i + 1) (n - 1)
       finding-turn {ys′} {ns′} q a b =
-          let below : cell < 20 = omega (arith, small) in
           let rest : placeOf (drop (suc i) w) (without cell (take n ys)) (marksWithout cell (take n ns))
           ≡ placeOf (drop (suc i) w) (take (n - 1) ys′) (take (n - 1) ns′) =
-          ap₂ (placeOf (drop (suc i) w)) (sym (pulled-told cell ys (h .letters-long) a .is n q small)) (sym (free-told cell ns (h .marks-long) b .is n q small)) in
+          ap₂ (placeOf (drop (suc i) w)) (sym (pulled-told cell n ys q small (h .letters-long) a)) (sym (free-told cell n ns q small (h .marks-long) b)) in
           let all : placeHeld w xs ms ≡ number + before + placeOf (drop (suc i) w) (take (n - 1) ys′) (take (n - 1) ns′) =
           omega (arith, h .is, opens, m .found q (placeOf (drop (suc i) w)), rest) in
           record {
             placed = h .placed;
-            letters-long = ap length a ∙ pulled-long cell ys below (h .letters-long);
-            marks-long = ap length b ∙ length-set (pulled cell ns) cell 2 ∙ pulled-long cell ns below (h .marks-long);
+            letters-long = ap length a ∙ pulled-long cell n ys q small (h .letters-long);
+            marks-long = ap length b ∙ length-set (pulled cell (n - 1) ns) cell 2 ∙ pulled-long cell n ns q small (h .marks-long);
             reached = omega (arith, h .reached);
             is = rw (add-one i) all;
           }

@@ -76,19 +76,18 @@ module _ {c : ℕ} {xs ms : List ℕ} {k : ℕ} {old now ys ns : List ℕ} {left
           h .is ∙ sym (ap (λ (w : List ℕ). written w old) all)
 
       -- or one does, its letter is written, and it is taken out.
-      pub writing-turn : {ys′ ns′ : List ℕ} → cell < n → ys′ ≡ pulled cell ys → ns′ ≡ pulledFree cell ns
+      pub writing-turn : {ys′ ns′ : List ℕ} → cell < n → ys′ ≡ pulled cell (n - 1) ys → ns′ ≡ pulledFree cell (n - 1) ns
           → Writing c xs ms k old (set now i (getD ys cell 0)) ys′ ns′ next (i + 1) (n - 1)
       writing-turn {ys′} {ns′} m p q =
-          let below : cell < 20 = omega (arith, small) in
           let word : wordAt n (take n ys) (take n ns) left ≡ getD ys cell 0 ∷ wordAt (n - 1) (take (n - 1) ys′) (take (n - 1) ns′) next =
           opens ∙ s .found m ys (h .letters-long) (wordAt (n - 1))
-          ∙ ap₂ (λ (us vs : List ℕ). getD ys cell 0 ∷ wordAt (n - 1) us vs next) (sym (pulled-told cell ys (h .letters-long) p .is n m small)) (sym (free-told cell ns (h .marks-long) q .is n m small)) in
+          ∙ ap₂ (λ (us vs : List ℕ). getD ys cell 0 ∷ wordAt (n - 1) us vs next) (sym (pulled-told cell n ys m small (h .letters-long) p)) (sym (free-told cell n ns m small (h .marks-long) q)) in
           record {
             few = h .few;
             room = h .room;
             cells = omega (arith, h .cells);
-            letters-long = ap length p ∙ pulled-long cell ys below (h .letters-long);
-            marks-long = ap length q ∙ length-set (pulled cell ns) cell 2 ∙ pulled-long cell ns below (h .marks-long);
+            letters-long = ap length p ∙ pulled-long cell n ys m small (h .letters-long);
+            marks-long = ap length q ∙ length-set (pulled cell (n - 1) ns) cell 2 ∙ pulled-long cell n ns m small (h .marks-long);
             size = length-set now i (getD ys cell 0) ∙ h .size;
             sofar = h .sofar ++ (getD ys cell 0 ∷ []);
             long = length-append (h .sofar) (getD ys cell 0 ∷ []) ∙ ap (λ (j : ℕ). j + 1) (h .long);

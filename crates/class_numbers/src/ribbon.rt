@@ -44,12 +44,12 @@ pub(crate) fn write_word(
             return;
         }
         word[i] = ys[cell];
-        let letters_left = without(ys, cell);
-        let marks_left = marks_without(ms, cell);
+        n -= 1;
+        let letters_left = without(ys, cell, n);
+        let marks_left = marks_without(ms, cell, n);
         ys = letters_left;
         ms = marks_left;
         left = next.number;
-        n -= 1;
         i += 1;
     }
 }
@@ -70,12 +70,12 @@ pub(crate) fn number_in(letters: [u8; 20], marks: [u8; 20], word: &[u8]) -> u64
         if n <= cell {
             return number + next.number;
         }
-        let letters_left = without(ys, cell);
-        let marks_left = marks_without(ms, cell);
+        n -= 1;
+        let letters_left = without(ys, cell, n);
+        let marks_left = marks_without(ms, cell, n);
         ys = letters_left;
         ms = marks_left;
         number += next.number;
-        n -= 1;
         i += 1;
     }
     number

@@ -25,6 +25,6 @@ pub number-in-spec : {M : Type 1} → statement M
 number-in-spec =
     tie.close
     (tie.spec Inv-loop μ-loop (λ c. search finding) (λ c. search finding) (λ c κs. search finding)
-    (λ c. search finding) (λ c. search finding) (λ c κs. search finding) (λ c κs. search finding)
-    (λ c. search finding) (λ c. search finding) (λ c. search finding) (λ c. search finding) loop-again
+    (λ c. search finding) (λ c. search finding) (λ c. search finding) (λ c κs. search finding) (λ c κs. search finding)
+    (λ c. search finding) (λ c. search finding) (λ c. search finding) loop-again
     (λ c. search finding))

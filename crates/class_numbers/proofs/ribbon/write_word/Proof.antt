@@ -13,6 +13,6 @@ pub write-word-spec : {M : Type 1} → statement M
 write-word-spec =
     tie.close
     (tie.spec Inv-loop μ-loop (λ c. search writing) (λ c κs. search writing) (λ c. search writing)
-    (λ c. search writing) (λ c. search writing) (λ c. search writing) (λ c κs. search writing)
-    (λ c κs. search writing) (λ c. search writing) (λ c. search writing) (λ c. search writing) (λ c. search writing)
+    (λ c. search writing) (λ c. search writing) (λ c. search writing) (λ c. search writing) (λ c κs. search writing)
+    (λ c κs. search writing) (λ c. search writing) (λ c. search writing) (λ c. search writing)
     (λ c. search writing) (λ c. search writing))
