@@ -43,6 +43,7 @@ pub fn class_word(
     if let Verdict::Refused(refusal) = check_asked(number, size, letters.len(), word.len()) {
         return Written::Refused(refusal);
     }
+    // Nothing stands before the first cell, so the step into it is free.
     let mut open = held(marks);
     open[0] = 2;
     write_word(held(letters), open, letters.len(), number, word);
@@ -59,6 +60,7 @@ pub fn class_number(rank: usize, word: &[u8]) -> Numbered
     let mut letters = [0u8; 20];
     let mut marks = [0u8; 20];
     tableau_of_word(rank, word, &mut letters, &mut marks);
+    // The step into the first cell is free.
     marks[0] = 2;
     Numbered::Number(number_in(letters, marks, word))
 }
