@@ -177,10 +177,6 @@ class_number 4 5*21
 class_number 4 5*3
 """
 
-NO_CLASSES = """
-class_sizes 4 - -
-"""
-
 NAMES = {
     "FIVE": FIVE, "PAPER": PAPER, "OTHER": OTHER, "LEVEL": LEVEL, "LONG": LONG, "EQUAL": EQUAL, "COLUMN": COLUMN, "ALTERNATING": ALTERNATING,
     "DOWN_FROM_20": DOWN_FROM_20,
@@ -190,4 +186,4 @@ NAMES = {
     "LAST": "20,18,19,16,17,14,15,12,13,10,11,8,9,6,7,4,5,2,3,1",
 }
 
-CLASS_CALLS = tuple(part.format(**NAMES) for part in (SIZES, BY_NUMBER, NUMBERS, NO_CLASSES))
+CLASS_CALLS = tuple(part.format(**NAMES) for part in (SIZES, BY_NUMBER, NUMBERS))

@@ -1,6 +1,6 @@
-"""Input files and expected output of the program crates cases, word_operations, ribbon_operations and class_operations.
+"""Input files and expected output of the program crates cases, word_operations and ribbon_operations.
 
-    python3 scripts/expected.py write    makes them: in crates/cases/ {data/*,args,stdout}, in the others {data/table,args,stdout}
+    python3 scripts/expected.py write    makes them: in crates/cases/ {data/*,args,stdout}, in the two others {data/table,args,stdout}
     python3 scripts/expected.py check    makes them in memory and says whether what stands in the repository is the same (exit status 1 if not)
 
 The output comes from the plain Python beside this file (meaning.py, lines.py, class_numbers.py), which follows the documents and their open points and calls no code of

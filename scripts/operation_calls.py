@@ -1,4 +1,4 @@
-"""The tables of the crates word_operations, ribbon_operations and class_operations: one call to a line, its notation, and what each call must print.
+"""The tables of the crates word_operations and ribbon_operations: one call to a line, its notation, and what each call must print.
 
 A line has the operation's name, its numbers, then its lists, parted by single spaces. A list is items parted by commas, an item a number, `v*k` for k
 times v, or `a-b` for the numbers from a to b; `-` is the empty list. A text stands as it is, with `$` for the line feed and `(t)*k` for k times t; `-`

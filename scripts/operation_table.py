@@ -464,9 +464,8 @@ no_such_operation 1 2 3
 """
 
 TABLES = {
-    "word_operations": (WORDS, COMPARISONS, WORD_LINES, NO_WORDS),
+    "word_operations": (WORDS, COMPARISONS, WORD_LINES, *CLASS_CALLS, NO_WORDS),
     "ribbon_operations": (RIBBONS, PAIRS, TABLEAUX, PRODUCTS, RIBBON_LINES, NO_RIBBONS),
-    "class_operations": CLASS_CALLS,
 }
 
 

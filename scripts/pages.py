@@ -27,7 +27,7 @@ SUFFIXES = (".antt", ".rt", ".py", ".md", ".h", ".txt")
 MADE = r"target/|PREFIX/|luchtrav/native/"  # built or installed
 # Programs, and what only they use: no promise of theirs has a row.
 PROGRAMS = {
-    "ribbon", "cases", "word_operations", "ribbon_operations", "class_operations", "brute", "brute_moves", "notation", "plain_words",
+    "ribbon", "cases", "word_operations", "ribbon_operations", "brute", "brute_moves", "notation", "plain_words",
 }
 # How a name stands in a text; a function with its contract, if it has one; a theorem with its type; how a definition is declared.
 STANDS = r"(?<![\w-])NAME(?![\w-])"

@@ -1,9 +1,13 @@
 // The calls, by the place of an operation in the list of names. Each takes the numbers of a line and its lists, and prints what came of it.
+use class_numbers::classes::class_number;
+use class_numbers::classes::class_size;
+use class_numbers::classes::class_word;
 use classes::two_words::same_class;
 use lines::tableau::tableau_line_of_word;
 use notation::answers::print_gives;
 use notation::answers::print_gives_two;
 use notation::answers::print_move;
+use notation::answers::print_numbered;
 use notation::answers::print_refusal;
 use notation::answers::print_repeat;
 use notation::answers::print_written;
@@ -78,6 +82,18 @@ fn ask(operation: usize, rank: usize, index: usize, a: &[u8], b: &[u8]) {
     print_junctions(junctions(rank, a))
 }
 
+// Words of a class by number, 11 to 13. The second number of a line is that of a word.
+fn call_on_class(operation: usize, line: &[u8], a: &[u8], b: &[u8], out: &mut [u8]) {
+    let rank = number(line, 1);
+    if operation == 11 {
+        return print_numbered(class_size(rank, a, b));
+    }
+    if operation == 12 {
+        return print_written(class_word(rank, a, b, number(line, 2) as u64, out));
+    }
+    print_numbered(class_number(rank, a))
+}
+
 // Any call. Moves, 0 and 1, and lines read and written, 7 to 10, have one list of bytes lent.
 fn call(operation: usize, line: &[u8], a: &[u8], b: &[u8], out: &mut [u8]) {
     let rank = number(line, 1);
@@ -100,7 +116,10 @@ fn call(operation: usize, line: &[u8], a: &[u8], b: &[u8], out: &mut [u8]) {
     if operation == 9 {
         return print_written(write_junction_line(rank, a, out));
     }
-    print_written(tableau_line_of_word(rank, a, out))
+    if operation == 10 {
+        return print_written(tableau_line_of_word(rank, a, out));
+    }
+    call_on_class(operation, line, a, b, out)
 }
 
 // Each list of a line in memory of its own that is given or lent to the call; a list that the operation does not have is empty.
@@ -125,6 +144,6 @@ fn lend(operation: usize, kinds: &[u8], line: &[u8]) {
 // The call of a line. The kinds of arguments, in the order of the calls: n is a number, t a text, a and b are lists of bytes, L is a list of bytes that is
 // lent, T one that a text is written into.
 pub(crate) fn make_call(operation: usize, line: &[u8]) {
-    let kinds = b"nnL nnL nna nna nnab nnab na tL naT naT naT";
+    let kinds = b"nnL nnL nna nna nnab nnab na tL naT naT naT nab nnabL na";
     lend(operation, field(kinds, operation), line);
 }

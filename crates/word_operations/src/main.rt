@@ -1,5 +1,5 @@
-// Makes every call of operations on words, and on lines of words, that a table names, and prints each line of the table with what came of its call
-// (notation).
+// Makes every call of operations on words, on lines of words and on the words of a class that a table names, and prints each line of the table with what
+// came of its call (notation).
 mod calls;
 
 use calls::make_call;
@@ -9,11 +9,11 @@ use notation::fields::place_of;
 use notation::printing::print;
 use notation::source::read_argument;
 
-// The place of a line's operation in the order of the calls; 11 where there is no such operation.
+// The place of a line's operation in the order of the calls; 14 where there is no such operation.
 fn operation_of(line: &[u8]) -> usize {
     let names =
-        b"raise_word lower_word raise_count_word lower_count_word same_class compare_weights junctions read_word_line write_word_line write_junction_line tableau_line_of_word";
-    field_of(names, field(line, 0), 11)
+        b"raise_word lower_word raise_count_word lower_count_word same_class compare_weights junctions read_word_line write_word_line write_junction_line tableau_line_of_word class_size class_word class_number";
+    field_of(names, field(line, 0), 14)
 }
 
 // A line, and what came of its call.
@@ -21,7 +21,7 @@ fn answer_line(line: &[u8]) {
     let operation = operation_of(line);
     print(line);
     print(b" = ");
-    if operation < 11 {
+    if operation < 14 {
         make_call(operation, line);
         return print(b"\n");
     }
