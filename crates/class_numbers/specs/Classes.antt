@@ -26,6 +26,7 @@ use Rattle.numbering.specs.Operations.{classJudgements, classNumberSays, classS
 use Rattle.numbering.specs.Orders.{across, freed, headOf, orders, placeOf, tally, wordAt}
 use Rattle.numbering.proofs.Theory.ClassReplies.{small-judged}
 use Rattle.numbering.proofs.Theory.ClassSize.{class-size}
+use Rattle.numbering.proofs.Theory.Counting.{length-freed}
 use Rattle.numbering.proofs.Theory.Numbers.{class-number, class-word, place-below}
 use Rattle.refusals.specs.Chains.{goes-on, stops}
 use Rattle.refusals.specs.Running.{all-passing, checksThen, run-stopped, then-passing}
@@ -180,12 +181,8 @@ module _ {v : Verdict} (n : ℕ) (w : List ℕ) (e : saidVerdict v ≡ checksThe
     -- Its number there fits 64 bits,
     pub number-placed : Placed w us (set vs 0 2)
     number-placed =
-        let size : length (freed (marksOf w)) ≤ 20 = omega (arith, few, freed-long (marksOf w), length-marks w) in
+        let size : length (freed (marksOf w)) ≤ 20 = omega (arith, few, length-freed (marksOf w), length-marks w) in
         record { few = few; fits = record { fits = omega (arith, place-is, place-below n w (accepted .letters), orders-20 (freed (marksOf w)) size) } }
-      where
-        freed-long : (ms : List ℕ) → length (freed ms) ≡ length ms
-        freed-long [] = refl
-        freed-long (m ∷ ms) = refl
 
     -- and is its number in its class.
     pub number-told : (r : ℕ) → r ≡ placeHeld w us (set vs 0 2) → gives (r ∷ []) ≡ classNumberSays n w

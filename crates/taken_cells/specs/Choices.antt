@@ -21,6 +21,7 @@ use borrow.Rule.Slice.PartMut.{midOf}
 use borrow.Author.Tests.{ne-eqb}
 use Rattle.numbering.specs.Orders.{Choice, behind, choices, entered, freed, left, orders, withIf}
 use Rattle.numbering.proofs.Theory.Bounds.{orders-19}
+use Rattle.numbering.proofs.Theory.Counting.{length-freed}
 use Rattle.ribbon_orders.specs.Rows.{orders-some, ordersGiven}
 use Rattle.taken_cells.specs.Removal.{free-told, marksWithout, pulledFree, without}
 
@@ -129,10 +130,6 @@ left-bound ms i l m = go (mayGo ms i)
           length-drop (suc i) ms,
           length-freed (drop (suc i) ms),
         )
-      where
-        length-freed : (ns : List ℕ) → length (freed ns) ≡ length ns
-        length-freed [] = refl
-        length-freed (n ∷ ns) = refl
 
     go : (b : Bool) → cond b (orders (marksWithout i ms)) 0 ≤ 121645100408832000
     go true = orders-19 (marksWithout i ms) few

@@ -2,17 +2,23 @@
 --     tally-bound              the numbers of the tally of n marks add up to at most (n + 1) factorial
 --     tally-19                 of at most 19 marks, to at most 20 factorial, which fits 64 bits
 --     orders-19, orders-20     at most 19 marks have at most 19 factorial orders, at most 20 marks at most 20 factorial
+--     class-bound              so the size of a class of at most 20 cells is below 2^63
 -- Assumes nothing.
-use Prim.Native.Nat.{ℕ, zero, suc, _+_, _*_, _≤_}
+use Prim.Native.Nat.{ℕ, zero, suc, _+_, _*_, _≤_, _<_}
 use mathlib.Core.List.{List, [], _∷_}
 use native.Mathlib.Decide.{le-ind}
 use native.Mathlib.Nat.{le-refl, le-trans, mul-le-mul, suc-mul}
 use native.Mathlib.Omega.{arith}
-use mathlib.Core.Path.{_≡_}
+use mathlib.Core.Path.{_≡_, _∙_}
 use lib.ListN.{length}
+use Rattle.hypoplactic.specs.Words.{Within}
+use Rattle.hypoplactic.specs.Ribbons.{LetterStep, Tableau}
+use Rattle.hypoplactic.proofs.Theory.StepJudgements.{ribbon-length}
+use Rattle.numbering.specs.Dictionary.{classSize}
 use Rattle.numbering.specs.Compositions.{factorial, total}
-use Rattle.numbering.specs.Orders.{across, allowed, headOf, orders, tally}
-use Rattle.numbering.proofs.Theory.Counting.{length-tally}
+use Rattle.numbering.specs.Orders.{across, allowed, freed, headOf, orders, tally}
+use Rattle.numbering.proofs.Theory.ClassSize.{class-size}
+use Rattle.numbering.proofs.Theory.Counting.{length-freed, length-tally}
 
 factorial-le : (n k : ℕ) → n ≤ k → factorial n ≤ factorial k
 factorial-le n k = le-ind (λ (k : ℕ). factorial n ≤ factorial k) (le-refl (factorial n)) (λ k l h. omega (arith, h, suc-mul k (factorial k))) k
@@ -55,3 +61,9 @@ orders-19 ms l = le-trans (orders-bound ms) (factorial-le (length ms) 19 l)
 
 pub orders-20 : (ms : List ℕ) → length ms ≤ 20 → orders ms ≤ 2432902008176640000
 orders-20 ms l = le-trans (orders-bound ms) (factorial-le (length ms) 20 l)
+
+-- The size of a class of at most 20 cells is below 2^63.
+pub class-bound : (n : ℕ) (xs ms : List ℕ) → Within n xs → Tableau xs ms → length xs ≤ 20 → classSize n xs ms < 9223372036854775808
+class-bound n xs ms w h l =
+    let cells : length (freed ms) ≡ length xs = length-freed ms ∙ ribbon-length LetterStep xs ms h in
+    omega (arith, class-size n xs ms w h, orders-20 (freed ms) (omega arith))

@@ -2,6 +2,7 @@
 -- So a reader need not trust how the list is made: it has these words, in this order, and no others.
 --     class-members        the word of a number has the tableau, and letters of the rank
 --     class-complete       a word that has the tableau stands at its number, below the size
+--     class-inhabited      no class is empty
 --     class-later          a larger number is a later word
 --     number-of-word       the number of word k is k; word-of-number: the word of a word's number is that word; number-one: one word, one number
 --     class-joined         a word is listed in another's class exactly when a chain joins them
@@ -19,12 +20,14 @@ use Rattle.hypoplactic.specs.Words.{Within, count}
 use Rattle.hypoplactic.specs.Ribbons.{Recording, Tableau}
 use Rattle.hypoplactic.specs.Rewriting.{Joined}
 use Rattle.hypoplactic.specs.Insertion.{lettersOf, marksOf, recordingOf, wordOf}
+use Rattle.hypoplactic.specs.Reading.{columnReading}
 use Rattle.hypoplactic.proofs.Theory.Contents.{within-counts}
 use Rattle.hypoplactic.proofs.Theory.Correspondence.{pair-of-word, word-unique}
 use Rattle.hypoplactic.proofs.Theory.Invariants.{joined-count}
 use Rattle.hypoplactic.proofs.Theory.Letters.{count-letters}
 use Rattle.hypoplactic.proofs.Theory.Limits.{and-both}
 use Rattle.hypoplactic.proofs.Theory.OneClass.{tableau-joined}
+use Rattle.hypoplactic.proofs.Theory.ReadBack.{read-back}
 use Rattle.hypoplactic.proofs.Theory.Recordings.{recording-of-word}
 use Rattle.numbering.specs.Dictionary.{Earlier, Listed, classNumber, classSize, classWord, classWords, inClass, placeIn, sameList, words}
 use Rattle.numbering.proofs.Theory.ClassSize.{same-equal}
@@ -74,6 +77,10 @@ module _ (n : ℕ) (xs ms : List ℕ) where
 pub word-of-number : (n : ℕ) (w : List ℕ) → Within n w → classWord n (lettersOf w) (marksOf w) (classNumber n w) ≡ w
 word-of-number n w h = word-of-place w (classWords n (lettersOf w) (marksOf w)) (number-below n w h)
 
+-- A word whose tableau has letters of the rank has such letters.
+letters-of : (n : ℕ) (w xs : List ℕ) → Within n xs → lettersOf w ≡ xs → Within n w
+letters-of n w xs h e = within-counts n w .1 (λ a c. within-counts n xs .0 h a (omega (arith, sym (count-letters a w) ∙ ap (count a) e)))
+
 -- A word that has the tableau is listed, at its number.
 pub class-complete : (n : ℕ) (xs ms w : List ℕ) → Within n w → lettersOf w ≡ xs → marksOf w ≡ ms
     → (classNumber n w < classSize n xs ms) × (classWord n xs ms (classNumber n w) ≡ w)
@@ -81,6 +88,13 @@ class-complete n xs ms w h e f = subst (λ (ys : List ℕ). Goal ys ms) e (subst
   where
     Goal : List ℕ → List ℕ → Type 0
     Goal ys ns = (classNumber n w < classSize n ys ns) × (classWord n ys ns (classNumber n w) ≡ w)
+
+-- The column reading of a tableau has it: no class is empty.
+pub class-inhabited : (n : ℕ) (xs ms : List ℕ) → Within n xs → Tableau xs ms → 0 < classSize n xs ms
+class-inhabited n xs ms h t =
+    let w : List ℕ = columnReading xs ms in
+    let back : (lettersOf w ≡ xs) × (marksOf w ≡ ms) = read-back xs ms t in
+    omega (arith, class-complete n xs ms w (letters-of n w xs h (back .0)) (back .0) (back .1) .0)
 
 -- ---- joined words
 
@@ -114,8 +128,7 @@ module _ (n : ℕ) (xs ms : List ℕ) where
   recording-number h t rs r =
       let w : List ℕ = wordOf xs rs in
       let pair : (lettersOf w ≡ xs) × (marksOf w ≡ ms) × (recordingOf w ≡ rs) = pair-of-word (record { tableau = t; recording = r }) in
-      let inside : Within n w = within-counts n w .1 (λ a c. within-counts n xs .0 h a (omega (arith, sym (count-letters a w) ∙ ap (count a) (pair .0)))) in
-      let listed = class-complete n xs ms w inside (pair .0) (pair .1) in
+      let listed = class-complete n xs ms w (letters-of n w xs h (pair .0)) (pair .0) (pair .1) in
       (classNumber n w, (listed .0, ap recordingOf (listed .1) ∙ pair .2))
 
   -- and of one only.

@@ -126,7 +126,7 @@ across-sum m k (o ∷ os) h =
     across-plus m 0 0 (tally o) (sumTallies k os) (length-tally o ∙ h .0 ∙ sym (length-sum k os (h .1)))
     ∙ ap (plus (across m 0 (tally o))) (across-sum m k os (h .1))
 
-length-freed : (ms : List ℕ) → length (freed ms) ≡ length ms
+pub length-freed : (ms : List ℕ) → length (freed ms) ≡ length ms
 length-freed [] = refl
 length-freed (m ∷ ms) = refl
 
