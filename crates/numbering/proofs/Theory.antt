@@ -4,6 +4,7 @@ pub mod Alternating
 pub mod CompositionCases
 pub mod Counting
 pub mod Bounds
+pub mod Each
 pub mod Choices
 pub mod Kept
 pub mod Taken

@@ -22,16 +22,16 @@ freed [] = []
 freed (m ∷ ms) = 2 ∷ ms
 
 -- Whether a step lets the cell after it go first: a right step does not.
-abbrev pub entered : ℕ → Bool
-entered zero = false
-entered (suc m) = true
+abbrev pub mayEnter : ℕ → Bool
+mayEnter zero = false
+mayEnter (suc m) = true
 
 -- Whether the step into the first of these cells lets the cell before it go first: a down step does not.
-abbrev pub left : List ℕ → Bool
-left [] = true
-left (zero ∷ ms) = true
-left (suc zero ∷ ms) = false
-left (suc (suc m) ∷ ms) = true
+abbrev pub mayLeave : List ℕ → Bool
+mayLeave [] = true
+mayLeave (zero ∷ ms) = true
+mayLeave (suc zero ∷ ms) = false
+mayLeave (suc (suc m) ∷ ms) = true
 
 -- A cell that may go first: its letter, and the letters and marks that it leaves.
 pub record Choice : Type 0 where
@@ -52,11 +52,11 @@ abbrev pub choices : List ℕ → List ℕ → List Choice
 choices [] ms = []
 choices (y ∷ ys) [] = []
 choices (y ∷ ys) (m ∷ ms) =
-    withIf (entered m && left ms) (record { letter = y; letters = ys; marks = freed ms }) (map (behind y m) (choices ys ms))
+    withIf (mayEnter m && mayLeave ms) (record { letter = y; letters = ys; marks = freed ms }) (map (behind y m) (choices ys ms))
 
 abbrev pub othersOf : List ℕ → List (List ℕ)
 othersOf [] = []
-othersOf (m ∷ ms) = withIf (entered m && left ms) (freed ms) (map (λ (o : List ℕ). m ∷ o) (othersOf ms))
+othersOf (m ∷ ms) = withIf (mayEnter m && mayLeave ms) (freed ms) (map (λ (o : List ℕ). m ∷ o) (othersOf ms))
 
 -- ---- counts
 

@@ -19,7 +19,7 @@ use lib.Seq.{drop-cons, drop-nil, getD-take, length-take-le}
 use borrow.Author.Needs.{needs}
 use borrow.Rule.Slice.PartMut.{midOf}
 use borrow.Author.Tests.{ne-eqb}
-use Rattle.numbering.specs.Orders.{Choice, behind, choices, entered, freed, left, orders, withIf}
+use Rattle.numbering.specs.Orders.{Choice, behind, choices, freed, mayEnter, mayLeave, orders, withIf}
 use Rattle.numbering.proofs.Theory.Bounds.{orders-19}
 use Rattle.numbering.proofs.Theory.Counting.{length-freed}
 use Rattle.ribbon_orders.specs.Rows.{orders-some, ordersGiven}
@@ -28,7 +28,7 @@ use Rattle.taken_cells.specs.Removal.{free-told, marksWithout, pulledFre
 -- ---- choices by places
 
 abbrev pub mayGo : List ℕ → ℕ → Bool
-mayGo ms i = entered (getD ms i 0) && left (drop (suc i) ms)
+mayGo ms i = mayEnter (getD ms i 0) && mayLeave (drop (suc i) ms)
 
 abbrev pub choiceAt : List ℕ → List ℕ → ℕ → Choice
 choiceAt ys ms i = record { letter = getD ys i 0; letters = without i ys; marks = marksWithout i ms }
@@ -52,7 +52,7 @@ pub choices-places : (ys ms : List ℕ) → length ys ≡ length ms → choices 
 choices-places [] ms e = refl
 choices-places (y ∷ ys) [] e = let z : ⊥ = omega arith in absurd z
 choices-places (y ∷ ys) (m ∷ ms) e =
-    ap (λ (cs : List Choice). withIf (entered m && left ms) (choiceAt (y ∷ ys) (m ∷ ms) 0) cs)
+    ap (λ (cs : List Choice). withIf (mayEnter m && mayLeave ms) (choiceAt (y ∷ ys) (m ∷ ms) 0) cs)
     (ap (map (behind y m)) (choices-places ys ms (omega arith)) ∙ behind-places y m ys ms 0 (length ys))
 
 -- ---- one cell
@@ -63,9 +63,9 @@ mark-at c i ms l = getD-take c ms i 0 l
 
 -- A right step leads into the cell.
 pub go-not : {c i : ℕ} (ms : List ℕ) → i < c → getD ms i 0 ≡ 0 → false ≡ mayGo (take c ms) i
-go-not {c} {i} ms l e = sym (ap (λ (m : ℕ). entered m && left (drop (suc i) (take c ms))) (mark-at c i ms l ∙ e))
+go-not {c} {i} ms l e = sym (ap (λ (m : ℕ). mayEnter m && mayLeave (drop (suc i) (take c ms))) (mark-at c i ms l ∙ e))
 
-other : (m : ℕ) → (m ≡ 0 → ⊥) → entered m ≡ true
+other : (m : ℕ) → (m ≡ 0 → ⊥) → mayEnter m ≡ true
 other zero e = absurd (e refl)
 other (suc m) e = refl
 
@@ -78,20 +78,20 @@ past (suc c) (suc k) (m ∷ ms) l = past c k ms (omega arith)
 -- Another step leads into it, and no cell comes after it,
 pub go-last : {c i : ℕ} (ms : List ℕ) → i < c → (getD ms i 0 ≡ 0 → ⊥) → c ≤ i + 1 → true ≡ mayGo (take c ms) i
 go-last {c} {i} ms l o h =
-    let e : entered (getD (take c ms) i 0) ≡ true = ap entered (mark-at c i ms l) ∙ other (getD ms i 0) o in
-    sym (ap₂ (λ (b : Bool) (ns : List ℕ). b && left ns) e (past c (suc i) ms (omega arith)))
+    let e : mayEnter (getD (take c ms) i 0) ≡ true = ap mayEnter (mark-at c i ms l) ∙ other (getD ms i 0) o in
+    sym (ap₂ (λ (b : Bool) (ns : List ℕ). b && mayLeave ns) e (past c (suc i) ms (omega arith)))
 
 -- or one does, and the step into it decides.
 pub go-next : {c : ℕ} (i : ℕ) (ms : List ℕ) → length ms ≡ 20 → c ≤ 20 → (getD ms i 0 ≡ 0 → ⊥) → i + 1 < c
     → not (eqb (getD ms (i + 1) 0) 1) ≡ mayGo (take c ms) i
 go-next {c} i ms s l o h =
-    let e : entered (getD (take c ms) i 0) ≡ true = ap entered (mark-at c i ms (omega arith)) ∙ other (getD ms i 0) o in
+    let e : mayEnter (getD (take c ms) i 0) ≡ true = ap mayEnter (mark-at c i ms (omega arith)) ∙ other (getD ms i 0) o in
     let size : length (take c ms) ≡ c = length-take-le c ms (omega arith) in
-    rw (add-one i) (sym (ap₂ (λ (b : Bool) (ns : List ℕ). b && left ns) e (drop-cons (take c ms) (suc i) 0 (omega arith))
-    ∙ ap (λ (m : ℕ). left (m ∷ drop (suc (suc i)) (take c ms))) (mark-at c (suc i) ms (omega arith))
+    rw (add-one i) (sym (ap₂ (λ (b : Bool) (ns : List ℕ). b && mayLeave ns) e (drop-cons (take c ms) (suc i) 0 (omega arith))
+    ∙ ap (λ (m : ℕ). mayLeave (m ∷ drop (suc (suc i)) (take c ms))) (mark-at c (suc i) ms (omega arith))
     ∙ decides (getD ms (suc i) 0) (drop (suc (suc i)) (take c ms))))
   where
-    decides : (m : ℕ) (ns : List ℕ) → left (m ∷ ns) ≡ not (eqb m 1)
+    decides : (m : ℕ) (ns : List ℕ) → mayLeave (m ∷ ns) ≡ not (eqb m 1)
     decides zero ns = refl
     decides (suc zero) ns = refl
     decides (suc (suc m)) ns = sym (ap not (ne-eqb (suc (suc m)) 1 (λ q. omega arith)))

@@ -1,6 +1,7 @@
--- How large the numbers of a tally grow: every number that a count of orders comes by is below 2^63.
---     tally-bound              the numbers of the tally of n marks add up to at most (n + 1) factorial
---     tally-19                 of at most 19 marks, to at most 20 factorial, which fits 64 bits
+-- How large the numbers of a tally grow. A count of orders sums up the tallies of at most 19 marks and makes that of 20: none of these numbers passes 20 factorial,
+-- which is 2,432,902,008,176,640,000 and below 2^63.
+--     tally-bound              the numbers of the tally of n marks add up to at most (n + 1) factorial; tally-19: of at most 19 marks, to at most 20 factorial
+--     tally-each               each of them is at most n factorial; tally-20: of at most 20 marks, at most 20 factorial
 --     orders-19, orders-20     at most 19 marks have at most 19 factorial orders, at most 20 marks at most 20 factorial
 --     class-bound              so the size of a class of at most 20 cells is below 2^63
 -- Assumes nothing.
@@ -17,6 +18,7 @@ use Rattle.hypoplactic.proofs.Theory.StepJudgements.{ribbon-length}
 use Rattle.numbering.specs.Dictionary.{classSize}
 use Rattle.numbering.specs.Compositions.{factorial, total}
 use Rattle.numbering.specs.Orders.{across, allowed, freed, headOf, orders, tally}
+use Rattle.numbering.proofs.Theory.Each.{Every, every-map}
 use Rattle.numbering.proofs.Theory.ClassSize.{class-size}
 use Rattle.numbering.proofs.Theory.Counting.{length-freed, length-tally}
 
@@ -46,15 +48,27 @@ tally-bound (m ∷ ms) =
 pub tally-19 : (ms : List ℕ) → length ms ≤ 19 → total (tally ms) ≤ 2432902008176640000
 tally-19 ms l = le-trans (tally-bound ms) (factorial-le (suc (length ms)) 20 (omega arith))
 
--- The first number is at most all numbers of the tally before it.
+-- Across a step each number is at most the sum before it.
+across-each : (m before : ℕ) (xs : List ℕ) → Every (λ (k : ℕ). k ≤ before + total xs) (across m before xs)
+across-each m before [] = (allowed-le m before 0, tt)
+across-each m before (x ∷ xs) =
+    (allowed-le m before (x + total xs), every-map _ _ (across m (before + x) xs) (λ k l. omega arith) (across-each m (before + x) xs))
+
+pub tally-each : (ms : List ℕ) → Every (λ (k : ℕ). k ≤ factorial (length ms)) (tally ms)
+tally-each [] = (omega arith, tt)
+tally-each (m ∷ ms) = every-map _ _ (across m 0 (tally ms)) (λ k l. omega (arith, tally-bound ms)) (across-each m 0 (tally ms))
+
+pub tally-20 : (ms : List ℕ) → length ms ≤ 20 → Every (λ (k : ℕ). k ≤ 2432902008176640000) (tally ms)
+tally-20 ms l = every-map _ _ (tally ms) (λ k h. le-trans h (factorial-le (length ms) 20 l)) (tally-each ms)
+
+-- The orders are the first of them.
 orders-bound : (ms : List ℕ) → orders ms ≤ factorial (length ms)
 unfolding orders
-orders-bound [] = omega arith
-orders-bound (m ∷ ms) = le-trans (head (tally ms)) (tally-bound ms)
+orders-bound ms = first (tally ms) (tally-each ms)
   where
-    head : (xs : List ℕ) → headOf (across m 0 xs) ≤ total xs
-    head [] = omega (arith, allowed-le m 0 0)
-    head (x ∷ xs) = omega (arith, allowed-le m 0 (x + total xs))
+    first : (xs : List ℕ) → Every (λ (k : ℕ). k ≤ factorial (length ms)) xs → headOf xs ≤ factorial (length ms)
+    first [] h = omega arith
+    first (x ∷ xs) h = h .0
 
 pub orders-19 : (ms : List ℕ) → length ms ≤ 19 → orders ms ≤ 121645100408832000
 orders-19 ms l = le-trans (orders-bound ms) (factorial-le (length ms) 19 l)

@@ -1,5 +1,6 @@
 -- The cells that may be taken out first, and what they leave.
---     Every P cs, Some P cs    each choice, or one of them, has the property
+--     Some P cs                one of the choices has the property
+--     every-choice             what holds of each choice of a ribbon, by its first cell
 --     LinkStep                 the letters of a step: a right step does not fall, any other rises
 --     OpenRibbon n l ys ms     l cells with letters up to n, each step so, the first step free
 --     choice-letters           a cell taken out leaves every other letter
@@ -18,12 +19,9 @@ use lib.ListN.{length}
 use Rattle.hypoplactic.specs.Words.{Within, count, tick}
 use Rattle.hypoplactic.specs.Ribbons.{Along}
 use Rattle.hypoplactic.proofs.Theory.Pairs.{Rising}
-use Rattle.numbering.specs.Orders.{Choice, behind, choices, entered, freed, left, orders, othersOf, withIf}
+use Rattle.numbering.specs.Orders.{Choice, behind, choices, freed, mayEnter, mayLeave, orders, othersOf, withIf}
+use Rattle.numbering.proofs.Theory.Each.{Every, every-both}
 use Rattle.numbering.proofs.Theory.Counting.{ordersOf, orders-step}
-
-abbrev pub Every : (Choice → Type 0) → List Choice → Type 0
-Every P [] = Unit {0}
-Every P (c ∷ cs) = P c × Every P cs
 
 abbrev pub Some : (Choice → Type 0) → List Choice → Type 0
 Some P [] = ⊥
@@ -39,20 +37,16 @@ every-with P false c cs f h = h
 
 -- What holds of each choice of a ribbon: of its first cell, if that may go first, and of the others behind it.
 pub every-choice : (P Q : Choice → Type 0) (y m : ℕ) (ys ms : List ℕ)
-    → (entered m ≡ true → left ms ≡ true → P (record { letter = y; letters = ys; marks = freed ms }))
+    → (mayEnter m ≡ true → mayLeave ms ≡ true → P (record { letter = y; letters = ys; marks = freed ms }))
     → ((c : Choice) → Q c → P (behind y m c)) → Every Q (choices ys ms) → Every P (choices (y ∷ ys) (m ∷ ms))
 every-choice P Q y m ys ms f g h =
-    every-with P (entered m && left ms) (record { letter = y; letters = ys; marks = freed ms }) (map (behind y m) (choices ys ms))
-    (go (entered m) (left ms) f) (every-behind Q P y m (choices ys ms) g h)
+    every-with P (mayEnter m && mayLeave ms) (record { letter = y; letters = ys; marks = freed ms }) (map (behind y m) (choices ys ms))
+    (go (mayEnter m) (mayLeave ms) f) (every-behind Q P y m (choices ys ms) g h)
   where
     go : (a b : Bool) → (a ≡ true → b ≡ true → P (record { letter = y; letters = ys; marks = freed ms }))
         → (a && b) ≡ true → P (record { letter = y; letters = ys; marks = freed ms })
     go true b f e = f refl e
     go false b f e = absurd (false≢true e)
-
-pub every-map : (P Q : Choice → Type 0) (cs : List Choice) → ((c : Choice) → P c → Q c) → Every P cs → Every Q cs
-every-map P Q [] f h = tt
-every-map P Q (c ∷ cs) f h = (f c (h .0), every-map P Q cs f (h .1))
 
 -- ---- ribbons with free steps
 
@@ -89,7 +83,7 @@ link-length p (y ∷ ys) (m ∷ ms) h = ap suc (link-length y ys ms (h .1))
 -- ---- what a choice leaves
 
 -- A step that lets the cell after it go first rises.
-pub entered-rise : (m p q : ℕ) → entered m ≡ true → LinkStep m p q → p < q
+pub entered-rise : (m p q : ℕ) → mayEnter m ≡ true → LinkStep m p q → p < q
 entered-rise zero p q e h = absurd (false≢true e)
 entered-rise (suc m) p q e h = h
 
@@ -151,10 +145,6 @@ choices-free (y ∷ ys) (m ∷ ms) h =
     every [] = tt
     every (c ∷ cs) = (tt, every cs)
 
-pub every-both : (P Q R : Choice → Type 0) (cs : List Choice) → ((c : Choice) → P c → Q c → R c) → Every P cs → Every Q cs → Every R cs
-every-both P Q R [] f h k = tt
-every-both P Q R (c ∷ cs) f h k = (f c (h .0) (k .0), every-both P Q R cs f (h .1) (k .1))
-
 -- A choice leaves a ribbon of the same kind, with one cell fewer.
 pub choices-open : (n l : ℕ) (ys ms : List ℕ) → OpenRibbon n (suc l) ys ms → Every (λ c. OpenRibbon n l (c .letters) (c .marks)) (choices ys ms)
 choices-open n l ys ms h =
@@ -188,9 +178,9 @@ climb-behind p y m (c ∷ cs) h = (h .0, climb-behind (c .letter) y m cs (h .1))
 pub choices-climb : (p : ℕ) (ys ms : List ℕ) → Along LinkStep p ys ms → Climbing p (choices ys ms)
 choices-climb p [] ms h = tt
 choices-climb p (y ∷ ys) [] h = tt
-choices-climb p (y ∷ ys) (m ∷ ms) h = go (entered m) refl (left ms) (climb-behind y y m (choices ys ms) (choices-climb y ys ms (h .1)))
+choices-climb p (y ∷ ys) (m ∷ ms) h = go (mayEnter m) refl (mayLeave ms) (climb-behind y y m (choices ys ms) (choices-climb y ys ms (h .1)))
   where
-    go : (a : Bool) → entered m ≡ a → (b : Bool) → Climbing y (map (behind y m) (choices ys ms))
+    go : (a : Bool) → mayEnter m ≡ a → (b : Bool) → Climbing y (map (behind y m) (choices ys ms))
         → Climbing p (withIf (a && b) (record { letter = y; letters = ys; marks = freed ms }) (map (behind y m) (choices ys ms)))
     go true e true k = (entered-rise m p y e (h .0), k)
     go true e false k = climb-lower p y (map (behind y m) (choices ys ms)) (link-le m p y (h .0)) k
@@ -203,7 +193,7 @@ choice-marks : (ys ms : List ℕ) → length ys ≡ length ms → map (λ (c : C
 choice-marks [] [] e = refl
 choice-marks [] (m ∷ ms) e = let z : ⊥ = omega arith in absurd z
 choice-marks (y ∷ ys) [] e = let z : ⊥ = omega arith in absurd z
-choice-marks (y ∷ ys) (m ∷ ms) e = go (entered m && left ms) (behind-marks (choices ys ms) ∙ ap (map (λ (o : List ℕ). m ∷ o)) (choice-marks ys ms (omega arith)))
+choice-marks (y ∷ ys) (m ∷ ms) e = go (mayEnter m && mayLeave ms) (behind-marks (choices ys ms) ∙ ap (map (λ (o : List ℕ). m ∷ o)) (choice-marks ys ms (omega arith)))
   where
     behind-marks : (cs : List Choice) → map (λ (c : Choice). c .marks) (map (behind y m) cs) ≡ map (λ (o : List ℕ). m ∷ o) (map (λ (c : Choice). c .marks) cs)
     behind-marks [] = refl

@@ -1,6 +1,6 @@
 -- The numbers of a class (document 02, N4): every word of the class has one number, every number below the size one word, and a larger number is a later word.
 -- So a reader need not trust how the list is made: it has these words, in this order, and no others.
---     class-members        the word of a number has the tableau, and letters of the rank
+--     class-members        the word of a number has the tableau; class-within: and letters of the rank
 --     class-complete       a word that has the tableau stands at its number, below the size
 --     class-inhabited      no class is empty
 --     class-later          a larger number is a later word
@@ -31,14 +31,15 @@ use Rattle.hypoplactic.proofs.Theory.ReadBack.{read-back}
 use Rattle.hypoplactic.proofs.Theory.Recordings.{recording-of-word}
 use Rattle.numbering.specs.Dictionary.{Earlier, Listed, classNumber, classSize, classWord, classWords, inClass, placeIn, sameList, words}
 use Rattle.numbering.proofs.Theory.ClassSize.{same-equal}
-use Rattle.numbering.proofs.Theory.DictionaryOrder.{Every, Ordered, every-at, every-implied, every-starting, keep-every, keep-ordered, keep-passes, ordered-later, place-of-word, word-of-place, words-ordered}
+use Rattle.numbering.proofs.Theory.Each.{Every, every-map}
+use Rattle.numbering.proofs.Theory.DictionaryOrder.{Ordered, every-at, every-starting, keep-every, keep-ordered, keep-passes, ordered-later, place-of-word, word-of-place, words-ordered}
 use Rattle.numbering.proofs.Theory.Numbers.{number-below}
 
 words-within : (n l : ℕ) → Every (Within n) (words n l)
 unfolding words
 words-within n zero = (tt, tt)
 words-within n (suc l) =
-    every-starting (Within n) n 1 (words n l) (λ a low high. every-implied (Within n) (λ w. Within n (a ∷ w)) (words n l) (λ w h. (omega arith, omega arith, h)) (words-within n l))
+    every-starting (Within n) n 1 (words n l) (λ a low high. every-map (Within n) (λ w. Within n (a ∷ w)) (words n l) (λ w h. (omega arith, omega arith, h)) (words-within n l))
 
 module _ (n : ℕ) (xs ms : List ℕ) where
   class-ordered : Ordered (classWords n xs ms)

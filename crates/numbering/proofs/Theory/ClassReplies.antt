@@ -1,5 +1,8 @@
 -- Sizes and numbers of classes over what the operations reply and leave in lent memory.
+--     small-judged, number-judged     15 and 16 pass exactly for at most 20, and for numbers below the size
+--     class-passing           1 to 6 and 15 pass exactly for a tableau within the limits, of at most 20 cells
 --     size-result, word-result, number-result      an input within the limits gets its result
+--     word-length             the word of a number has as many letters as the tableau cells
 --     Written, word-written   a word that was written keeps all limits, and is there
 --     number-of-written       the number of the word that class_word has written is the number asked for
 --     word-of-told            the word of the number that class_number told is the word

@@ -29,9 +29,9 @@ pub coarser-values : (coarser true (1 ∷ 2 ∷ 1 ∷ []) ≡ (1 ∷ 2 ∷ 1 ∷
     × (coarser false (1 ∷ 2 ∷ 1 ∷ []) ≡ (1 ∷ 3 ∷ []) ∷ (3 ∷ 1 ∷ []) ∷ [])
 coarser-values = (refl, refl)
 
--- Of no part: itself, with no merge.
-pub coarser-none : (coarser true [] ≡ [] ∷ []) × (coarser false [] ≡ [])
-coarser-none = (refl, refl)
+-- Of no part, the shape of no cell: itself, with no merge.
+pub coarser-none : (shapeOf [] ≡ []) × (coarser true [] ≡ [] ∷ []) × (coarser false [] ≡ [])
+coarser-none = (refl, refl, refl)
 
 -- ---- Theorem 8.2
 

@@ -11,7 +11,7 @@ use mathlib.Core.Bool.{Bool, true, false, _&&_, false≢true, true≢false}
 use mathlib.Core.List.{List, [], _∷_, map}
 use lib.ListN.{length, replicate, length-replicate}
 use Rattle.numbering.specs.Compositions.{total}
-use Rattle.numbering.specs.Orders.{across, allowed, entered, freed, headOf, left, orders, othersOf, tally, withIf}
+use Rattle.numbering.specs.Orders.{across, allowed, freed, headOf, mayEnter, mayLeave, orders, othersOf, tally, withIf}
 
 -- ---- lists of numbers added place by place
 
@@ -134,7 +134,7 @@ length-freed (m ∷ ms) = refl
 others-fewer : (ms : List ℕ) → Fewer (length ms) (othersOf ms)
 unfolding Fewer
 others-fewer [] = tt
-others-fewer (m ∷ ms) = go (entered m && left ms) (fewer-behind (length ms) m (othersOf ms) (others-fewer ms))
+others-fewer (m ∷ ms) = go (mayEnter m && mayLeave ms) (fewer-behind (length ms) m (othersOf ms) (others-fewer ms))
   where
     go : (b : Bool) → Fewer (suc (length ms)) (map (λ (o : List ℕ). m ∷ o) (othersOf ms))
         → Fewer (suc (length ms)) (withIf b (freed ms) (map (λ (o : List ℕ). m ∷ o) (othersOf ms)))
@@ -155,18 +155,18 @@ head-across m [] = refl
 head-across m (x ∷ xs) = refl
 
 -- Where the cell before may go first, the tally with its step freed is constant,
-freed-tally : (ms : List ℕ) → left ms ≡ true → tally (freed ms) ≡ replicate (suc (length ms)) (orders ms)
+freed-tally : (ms : List ℕ) → mayLeave ms ≡ true → tally (freed ms) ≡ replicate (suc (length ms)) (orders ms)
 unfolding orders
 freed-tally [] e = refl
 freed-tally (m ∷ ms) e = across-free 0 0 (tally ms) ∙ ap₂ (replicate {A = ℕ}) (ap suc (length-tally ms)) (sym (head-across m (tally ms) ∙ all m e))
   where
-    all : (m : ℕ) → left (m ∷ ms) ≡ true → allowed m 0 (total (tally ms)) ≡ 0 + total (tally ms)
+    all : (m : ℕ) → mayLeave (m ∷ ms) ≡ true → allowed m 0 (total (tally ms)) ≡ 0 + total (tally ms)
     all zero e = omega arith
     all (suc zero) e = absurd (false≢true e)
     all (suc (suc m)) e = refl
 
 -- and where it may not, no order has none of these cells before it.
-none-left : (ms : List ℕ) → left ms ≡ false → orders ms ≡ 0
+none-left : (ms : List ℕ) → mayLeave ms ≡ false → orders ms ≡ 0
 unfolding orders
 none-left [] e = absurd (true≢false e)
 none-left (zero ∷ ms) e = absurd (true≢false e)
@@ -176,21 +176,21 @@ none-left (suc (suc m) ∷ ms) e = absurd (true≢false e)
 -- What a cell that is or is not a choice adds to the sum.
 choice-sum : (m : ℕ) (ms : List ℕ) (os : List (List ℕ)) → Fewer (suc (length ms)) os
     → plus (replicate (suc (length ms)) (allowed m (orders ms) 0)) (sumTallies (suc (length ms)) os)
-    ≡ sumTallies (suc (length ms)) (withIf (entered m && left ms) (freed ms) os)
+    ≡ sumTallies (suc (length ms)) (withIf (mayEnter m && mayLeave ms) (freed ms) os)
 unfolding sumTallies
-choice-sum m ms os h = go m (left ms) refl
+choice-sum m ms os h = go m (mayLeave ms) refl
   where
     same : (x : ℕ) → x ≡ 0 → plus (replicate (suc (length ms)) x) (sumTallies (suc (length ms)) os) ≡ sumTallies (suc (length ms)) os
     same x e =
         ap₂ (λ (l y : ℕ). plus (replicate l y) (sumTallies (suc (length ms)) os)) (sym (length-sum (suc (length ms)) os h)) e ∙ plus-zeros (sumTallies (suc (length ms)) os)
 
-    more : (x : ℕ) → x ≡ orders ms → left ms ≡ true
+    more : (x : ℕ) → x ≡ orders ms → mayLeave ms ≡ true
         → plus (replicate (suc (length ms)) x) (sumTallies (suc (length ms)) os) ≡ plus (tally (freed ms)) (sumTallies (suc (length ms)) os)
     more x e l = ap (λ (r : List ℕ). plus r (sumTallies (suc (length ms)) os)) (ap (replicate (suc (length ms))) e ∙ sym (freed-tally ms l))
 
-    go : (m : ℕ) (b : Bool) → left ms ≡ b
+    go : (m : ℕ) (b : Bool) → mayLeave ms ≡ b
         → plus (replicate (suc (length ms)) (allowed m (orders ms) 0)) (sumTallies (suc (length ms)) os)
-        ≡ sumTallies (suc (length ms)) (withIf (entered m && b) (freed ms) os)
+        ≡ sumTallies (suc (length ms)) (withIf (mayEnter m && b) (freed ms) os)
     go zero b e = same 0 refl
     go (suc zero) true e = more (orders ms) refl e
     go (suc (suc m)) true e = more (orders ms + 0) (omega arith) e

@@ -1,9 +1,9 @@
 -- Lists of words in dictionary order.
---     Every P ws          each of the words has the property
 --     Ordered ws          each word stands in a dictionary before all words after it
 --     words-ordered       all words of a rank and a length are so listed; keep-ordered: so are those of them that pass a test
 --     ordered-later       at a later place of such a list stands a later word
---     place-of-word       the word at place k has the place k
+--     earlier-shorter     a word is earlier than a longer one that begins with it; earlier-longer: not the other way; never-earlier: no word than itself
+--     place-of-word       the word at place k has the place k; place-none: a word that is not listed has the place past the last
 --     word-of-place       a word that has a place stands there
 -- Assumes nothing.
 use Prim.Native.Nat.{ℕ, zero, suc, _+_, _<_}
@@ -14,29 +14,22 @@ use mathlib.Core.Bool.{Bool, true, false, cond}
 use mathlib.Core.List.{List, [], _∷_, _++_, map}
 use lib.ListN.{length, getD}
 use Rattle.numbering.specs.Dictionary.{Earlier, keep, placeIn, sameList, startings, words}
+use Rattle.numbering.proofs.Theory.Each.{Every, every-map}
 use Rattle.numbering.proofs.Theory.ClassSize.{same-equal, same-refl}
-
-abbrev pub Every : (List ℕ → Type 0) → List (List ℕ) → Type 0
-Every P [] = Unit {0}
-Every P (w ∷ ws) = P w × Every P ws
 
 every-append : (P : List ℕ → Type 0) (us vs : List (List ℕ)) → Every P us → Every P vs → Every P (us ++ vs)
 every-append P [] vs h k = k
 every-append P (u ∷ us) vs h k = (h .0, every-append P us vs (h .1) k)
 
-pub every-implied : (P Q : List ℕ → Type 0) (ws : List (List ℕ)) → ((w : List ℕ) → P w → Q w) → Every P ws → Every Q ws
-every-implied P Q [] f h = tt
-every-implied P Q (w ∷ ws) f h = (f w (h .0), every-implied P Q ws f (h .1))
-
-every-behind : (P : List ℕ → Type 0) (a : ℕ) (ws : List (List ℕ)) → Every (λ w. P (a ∷ w)) ws → Every P (map (λ (w : List ℕ). a ∷ w) ws)
-every-behind P a [] h = tt
-every-behind P a (w ∷ ws) h = (h .0, every-behind P a ws (h .1))
+every-after : (P : List ℕ → Type 0) (a : ℕ) (ws : List (List ℕ)) → Every (λ w. P (a ∷ w)) ws → Every P (map (λ (w : List ℕ). a ∷ w) ws)
+every-after P a [] h = tt
+every-after P a (w ∷ ws) h = (h .0, every-after P a ws (h .1))
 
 -- What holds of each word after each of these letters holds of all startings.
 pub every-starting : (P : List ℕ → Type 0) (m k : ℕ) (ws : List (List ℕ)) → ((a : ℕ) → k < suc a → a < k + m → Every (λ w. P (a ∷ w)) ws) → Every P (startings m k ws)
 every-starting P zero k ws h = tt
 every-starting P (suc m) k ws h =
-    every-append P (map (λ (w : List ℕ). k ∷ w) ws) (startings m (suc k) ws) (every-behind P k ws (h k (omega arith) (omega arith)))
+    every-append P (map (λ (w : List ℕ). k ∷ w) ws) (startings m (suc k) ws) (every-after P k ws (h k (omega arith) (omega arith)))
     (every-starting P m (suc k) ws (λ a l u. h a (omega arith) (omega arith)))
 
 pub every-at : (P : List ℕ → Type 0) (ws : List (List ℕ)) (k : ℕ) → Every P ws → k < length ws → P (getD ws k [])
@@ -74,7 +67,7 @@ ordered-append (u ∷ us) vs h k e = (every-append (Earlier u) us vs (h .0) (e .
 ordered-behind : (a : ℕ) (ws : List (List ℕ)) → Ordered ws → Ordered (map (λ (w : List ℕ). a ∷ w) ws)
 ordered-behind a [] h = tt
 ordered-behind a (w ∷ ws) h = (
-  every-behind (Earlier (a ∷ w)) a ws (every-implied (Earlier w) (λ v. Earlier (a ∷ w) (a ∷ v)) ws (λ v e. inr (refl, e)) (h .0)),
+  every-after (Earlier (a ∷ w)) a ws (every-map (Earlier w) (λ v. Earlier (a ∷ w) (a ∷ v)) ws (λ v e. inr (refl, e)) (h .0)),
   ordered-behind a ws (h .1),
 )
 
@@ -86,8 +79,8 @@ startings-ordered : (m k : ℕ) (ws : List (List ℕ)) → Ordered ws → Ordere
 startings-ordered zero k ws h = tt
 startings-ordered (suc m) k ws h =
     ordered-append (map (λ (w : List ℕ). k ∷ w) ws) (startings m (suc k) ws) (ordered-behind k ws h) (startings-ordered m (suc k) ws h)
-    (every-behind (λ u. Every (Earlier u) (startings m (suc k) ws)) k ws (every-implied (λ w. Unit {0}) (λ w. Every (Earlier (k ∷ w)) (startings m (suc k) ws)) ws
-    (λ u t. every-starting (Earlier (k ∷ u)) m (suc k) ws (λ a l b. every-implied (λ w. Unit {0}) (λ v. Earlier (k ∷ u) (a ∷ v)) ws (λ v s. inl (omega arith)) (anything ws)))
+    (every-after (λ u. Every (Earlier u) (startings m (suc k) ws)) k ws (every-map (λ w. Unit {0}) (λ w. Every (Earlier (k ∷ w)) (startings m (suc k) ws)) ws
+    (λ u t. every-starting (Earlier (k ∷ u)) m (suc k) ws (λ a l b. every-map (λ w. Unit {0}) (λ v. Earlier (k ∷ u) (a ∷ v)) ws (λ v s. inl (omega arith)) (anything ws)))
     (anything ws)))
 
 pub words-ordered : (n l : ℕ) → Ordered (words n l)
@@ -111,6 +104,16 @@ ordered-later (w ∷ ws) i zero h l b = absurd (omega arith)
 ordered-later (w ∷ ws) zero (suc j) h l b = every-at (Earlier w) ws j (h .0) (omega arith)
 ordered-later (w ∷ ws) (suc i) (suc j) h l b = ordered-later ws i j (h .1) (omega arith) (omega arith)
 
+-- A word is earlier than every longer one that begins with it, and that one is not the earlier.
+pub earlier-shorter : (u v : List ℕ) (y : ℕ) → Earlier u (u ++ y ∷ v)
+earlier-shorter [] v y = tt
+earlier-shorter (x ∷ u) v y = inr (refl, earlier-shorter u v y)
+
+pub earlier-longer : (u v : List ℕ) (y : ℕ) → Earlier (u ++ y ∷ v) u → ⊥
+earlier-longer [] v y h = h
+earlier-longer (x ∷ u) v y (inl l) = omega arith
+earlier-longer (x ∷ u) v y (inr e) = earlier-longer u v y (e .1)
+
 -- No word is earlier than itself.
 pub never-earlier : (w : List ℕ) → Earlier w w → ⊥
 never-earlier [] h = h
@@ -125,6 +128,11 @@ place-of-word (w ∷ ws) (suc k) h l = go (sameList w (getD ws k [])) refl (plac
     go : (b : Bool) → sameList w (getD ws k []) ≡ b → placeIn (getD ws k []) ws ≡ k → cond b 0 (suc (placeIn (getD ws k []) ws)) ≡ suc k
     go true e ih = absurd (never-earlier w (rw (← same-equal w (getD ws k []) e) at (every-at (Earlier w) ws k (h .0) (omega arith))))
     go false e ih = ap suc ih
+
+-- A word that is not listed has the place past the last.
+pub place-none : (w : List ℕ) (ws : List (List ℕ)) → Every (λ v. sameList v w ≡ false) ws → placeIn w ws ≡ length ws
+place-none w [] h = refl
+place-none w (v ∷ vs) h = rw (h .0) (ap suc (place-none w vs (h .1)))
 
 pub word-of-place : (w : List ℕ) (ws : List (List ℕ)) → placeIn w ws < length ws → getD ws (placeIn w ws) [] ≡ w
 word-of-place w [] l = absurd (omega arith)

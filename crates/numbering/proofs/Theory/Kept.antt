@@ -1,5 +1,5 @@
 -- The words that a ribbon with free steps tells, by the order of letters in the word, and what their first letter takes out of it.
---     KeptStep w m p q      the word w keeps a step with mark m from p to q: right, no q stands left of a p, unless they are equal; down, some q does; free, all do
+--     KeptStep w m p q      the word w keeps a step with mark m from p to q: right, no q stands left of a p, unless they are equal; down, some q does; free, it is always kept
 --     Kept ys ms w          w has the letters ys, each as often, and keeps every step
 --     kept-first            a choice: w after its letter is kept exactly when w is by what it leaves
 --     kept-letter           the first letter of a word that is kept is that of a choice
@@ -19,8 +19,9 @@ use Rattle.hypoplactic.proofs.Theory.Letters.{count-head, count-low}
 use Rattle.hypoplactic.proofs.Theory.Limits.{count-outside, occurs-none}
 use Rattle.hypoplactic.proofs.Theory.Occurrences.{count-tail, occurs-count}
 use Rattle.hypoplactic.proofs.Theory.Pairs.{le-or-lt}
-use Rattle.numbering.specs.Orders.{Choice, behind, choices, entered, freed, left, withIf}
-use Rattle.numbering.proofs.Theory.Choices.{Every, FirstFree, LinkStep, OpenRibbon, Some, choice-letters, entered-rise, every-both, every-choice, link-le, link-rising}
+use Rattle.numbering.specs.Orders.{Choice, behind, choices, freed, mayEnter, mayLeave, withIf}
+use Rattle.numbering.proofs.Theory.Each.{Every, every-both}
+use Rattle.numbering.proofs.Theory.Choices.{FirstFree, LinkStep, OpenRibbon, Some, choice-letters, entered-rise, every-choice, link-le, link-rising}
 
 abbrev pub KeptStep : List ℕ → ℕ → ℕ → ℕ → Type 0
 KeptStep w zero p q = p < q → before w p q ≡ false
@@ -92,7 +93,7 @@ module _ (a : ℕ) (w : List ℕ) where
       occurs-none a w (omega (arith, part .1, count-head a (z ∷ zs), count-head a w, count-low a z (z ∷ zs) l (omega arith, link-rising z zs ms h)))
 
   -- The steps past the cell of a: kept by w after a, with the step out of it, exactly as by w with that step freed.
-  across-cell : (p : ℕ) (ys ms : List ℕ) → Part (a ∷ ys) → left ms ≡ true → Along LinkStep a ys ms
+  across-cell : (p : ℕ) (ys ms : List ℕ) → Part (a ∷ ys) → mayLeave ms ≡ true → Along LinkStep a ys ms
       → Along (KeptStep (a ∷ w)) a ys ms ↔ Along (KeptStep w) p ys (freed ms)
   across-cell p [] [] part e h = (λ k. k, λ k. k)
   across-cell p [] (m ∷ ms) part e h = absurd h
@@ -101,13 +102,13 @@ module _ (a : ℕ) (w : List ℕ) where
       let rest : Along (KeptStep (a ∷ w)) z zs ms ↔ Along (KeptStep w) z zs ms = kept-past z zs ms (link-le m a z (h .0)) (h .1) in
       (λ k. (tt, rest .0 (k .1)), λ k. (out m e (h .0), rest .1 (k .1)))
     where
-      out : (m : ℕ) → left (m ∷ ms) ≡ true → LinkStep m a z → KeptStep (a ∷ w) m a z
+      out : (m : ℕ) → mayLeave (m ∷ ms) ≡ true → LinkStep m a z → KeptStep (a ∷ w) m a z
       out zero e k = λ l. before-skip a w a z (λ s. omega arith) ∙ before-gone w a z (last-gone z zs ms part l (h .1))
       out (suc zero) e k = absurd (false≢true e)
       out (suc (suc m)) e k = tt
 
   -- The step into it is kept by w after a.
-  into-cell : (m p : ℕ) (ms : List ℕ) → entered m ≡ true → Seen w p (m ∷ ms) → KeptStep (a ∷ w) m p a
+  into-cell : (m p : ℕ) (ms : List ℕ) → mayEnter m ≡ true → Seen w p (m ∷ ms) → KeptStep (a ∷ w) m p a
   into-cell zero p ms e s = absurd (false≢true e)
   into-cell (suc zero) p ms e s = before-first a w p (s (omega arith))
   into-cell (suc (suc m)) p ms e s = tt
@@ -124,12 +125,12 @@ module _ (a : ℕ) (w : List ℕ) where
   with-some false c cs h = h
 
   -- A step into the first a lets it go first,
-  may-enter : (m p : ℕ) (ms : List ℕ) → p < a → Seen w p (m ∷ ms) → KeptStep (a ∷ w) m p a → entered m ≡ true
+  may-enter : (m p : ℕ) (ms : List ℕ) → p < a → Seen w p (m ∷ ms) → KeptStep (a ∷ w) m p a → mayEnter m ≡ true
   may-enter zero p ms l s k = absurd (true≢false (sym (before-first a w p (s (omega arith))) ∙ k l))
   may-enter (suc m) p ms l s k = refl
 
   -- and so does the step out of it.
-  may-leave : (ys ms : List ℕ) → Part (a ∷ ys) → Along LinkStep a ys ms → Along (KeptStep (a ∷ w)) a ys ms → left ms ≡ true
+  may-leave : (ys ms : List ℕ) → Part (a ∷ ys) → Along LinkStep a ys ms → Along (KeptStep (a ∷ w)) a ys ms → mayLeave ms ≡ true
   may-leave ys [] part h k = refl
   may-leave ys (zero ∷ ms) part h k = refl
   may-leave [] (suc zero ∷ ms) part h k = absurd h
@@ -158,7 +159,7 @@ module _ (a : ℕ) (w : List ℕ) where
         where
           next : (a ≤ y) ⊎ (y < a) → Goal
           next (inl q) = here (omega arith) h part k
-          next (inr q) = with-some (entered m && left ms) (record { letter = y; letters = ys; marks = freed ms }) (map (behind y m) (choices ys ms)) (behind-some y m (choices ys ms) (rest q))
+          next (inr q) = with-some (mayEnter m && mayLeave ms) (record { letter = y; letters = ys; marks = freed ms }) (map (behind y m) (choices ys ms)) (behind-some y m (choices ys ms) (rest q))
       go (inr r) rest = absurd (omega (arith, part .1, count-head a w, count-low a y (y ∷ ys) r (omega arith, link-rising y ys ms (h .1))))
 
 -- ---- what holds of each choice
@@ -176,7 +177,7 @@ choices-walked p (y ∷ ys) [] h = tt
 choices-walked p (y ∷ ys) (m ∷ ms) h =
     every-choice (Walked p (y ∷ ys) (m ∷ ms)) (Walked y ys ms) y m ys ms here there (choices-walked y ys ms (h .1))
   where
-    here : entered m ≡ true → left ms ≡ true → Walked p (y ∷ ys) (m ∷ ms) (record { letter = y; letters = ys; marks = freed ms })
+    here : mayEnter m ≡ true → mayLeave ms ≡ true → Walked p (y ∷ ys) (m ∷ ms) (record { letter = y; letters = ys; marks = freed ms })
     here e f = (
       entered-rise m p y e (h .0),
       λ w part s.

@@ -1,4 +1,4 @@
--- Sizes and numbers of classes, pinned: the list of specs/Cases.antt, and larger values of the document and the paper, computed by the checker.
+-- Sizes and numbers of classes, pinned: the list of specs/Cases.antt, and larger values, computed by the checker through the laws.
 --     numbers-pinned                  the list
 --     size-421323                     the class of 421323 has 61 words
 --     size-20, word-20, number-20     a class that no list of words reaches: its size, a word and its number

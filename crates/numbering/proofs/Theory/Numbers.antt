@@ -21,7 +21,8 @@ use Rattle.hypoplactic.proofs.Theory.Letters.{count-head}
 use Rattle.hypoplactic.proofs.Theory.Limits.{letters-within}
 use Rattle.numbering.specs.Dictionary.{classNumber, classSize, classWord, classWords, placeIn, sameList}
 use Rattle.numbering.specs.Orders.{Choice, choices, freed, orders, placeFrom, placeOf, takenFrom, takenWords, wordAt, wordFrom}
-use Rattle.numbering.proofs.Theory.Choices.{Every, OpenRibbon, Some, choices-open, every-both, every-map}
+use Rattle.numbering.proofs.Theory.Each.{Every, every-both, every-map}
+use Rattle.numbering.proofs.Theory.Choices.{OpenRibbon, Some, choices-open}
 use Rattle.numbering.proofs.Theory.Kept.{Kept, kept-first, kept-letter}
 use Rattle.numbering.proofs.Theory.Taken.{taken-size}
 use Rattle.numbering.proofs.Theory.ClassSize.{class-kept, class-size, class-words, same-refl, tableau-open}
@@ -78,12 +79,12 @@ place-own a w (u ∷ us) vs l = rw (eq-eqb a a refl) (go (sameList u w) l (place
 
 module _ (a : ℕ) (w : List ℕ) (f : List ℕ → List ℕ → List (List ℕ)) (g : List ℕ → List ℕ → ℕ) where
   -- Where w stands among the words that f gives for a choice, and how many those are.
-  abbrev Placed : Choice → Type 0
-  Placed c =
+  abbrev Counted : Choice → Type 0
+  Counted c =
       (length (f (c .letters) (c .marks)) ≡ orders (c .marks))
       × (c .letter ≡ a → (placeIn w (f (c .letters) (c .marks)) ≡ g (c .letters) (c .marks)) × (g (c .letters) (c .marks) < orders (c .marks)))
 
-  places-walk : (cs : List Choice) → Every Placed cs → Some (λ c. c .letter ≡ a) cs
+  places-walk : (cs : List Choice) → Every Counted cs → Some (λ c. c .letter ≡ a) cs
       → (placeIn (a ∷ w) (takenFrom f cs) ≡ placeFrom a g cs) × (placeFrom a g cs < length (takenFrom f cs))
   places-walk [] h s = absurd s
   places-walk (c ∷ cs) h s = go (eqb (c .letter) a) refl s (places-walk cs (h .1))

@@ -14,7 +14,8 @@ use Rattle.hypoplactic.proofs.Theory.Pairs.{le-or-lt}
 use Rattle.numbering.specs.Dictionary.{keep, startings, words}
 use Rattle.numbering.specs.Orders.{Choice, choices, orders, takenFrom, takenWords}
 use Rattle.numbering.proofs.Theory.Counting.{ordersOf}
-use Rattle.numbering.proofs.Theory.Choices.{Climbing, Every, OpenRibbon, Some, choice-orders, choices-climb, choices-open, climb-above, every-both, every-choice, every-map}
+use Rattle.numbering.proofs.Theory.Each.{Every, every-both, every-map}
+use Rattle.numbering.proofs.Theory.Choices.{Climbing, OpenRibbon, Some, choice-orders, choices-climb, choices-open, climb-above, every-choice}
 use Rattle.numbering.proofs.Theory.Kept.{Kept, kept-first, kept-letter}
 
 -- ---- words that pass a test
