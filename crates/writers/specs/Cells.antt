@@ -16,7 +16,7 @@ use lib.ListN.{length, getD, set, length-append, length-set}
 use borrow.Author.Needs.{needs}
 use Rattle.grammar.specs.Lines.{cell, cells, field, firstCell, items, step}
 use Rattle.grammar.specs.Numbers.{decimal}
-use Rattle.writers.specs.Fields.{Counted}
+use Rattle.line_sizes.specs.Sizes.{Counted}
 use Rattle.writers.specs.Items.{Writing, count-room, item-room, joined, joined-first, length-listed, list-kept, listed, listed-begun, listed-written, write-turn}
 use Rattle.writers.specs.Laying.{Laid, laid-then}
 

@@ -1,73 +1,25 @@
--- The field of a number: how many bytes it has, and its bytes. A number of one digit or two is looked at alone; of any other the digits are counted by
--- dividing by ten, and stored from the last to the first.
---     Counted most vs r                          r is how many values vs there are, and at most so many
---     size-one, size-two                         the size for one digit and for two
---     Shrinking value size left                  the loop that counts: the digits of what is left are not counted yet
---     shrink-start, shrink-fits, shrink-turn, shrink-end     its laws
+-- The bytes of the field of a number. A number of one digit or two is looked at alone; of any other the digits are stored from the last to the first. How many
+-- bytes there are is counted in line_sizes.
 --     one-room, two-room, one-laid, two-laid     one digit or two stored after the comma
 --     Digiting value old at now i left           the loop that stores: the digits of what is left are not stored yet
 --     digits-start, digit-after, digit-there, digits-turn, first-there, comma-there, digits-end      its laws
---     sizing, fielding                           the rulesets of the functions on fields
+--     fielding                                   the ruleset of the functions on fields
 -- Assumes nothing.
 use Prim.Native.Nat.{ℕ, suc, _+_, _-_, _/_, _%_, _≤_, _<_}
 use mathlib.Core.Path.{_≡_, refl, sym, ap, _∙_}
 use mathlib.Core.List.{List, [], _∷_, _++_, append-assoc, append-nil}
-use native.Mathlib.Nat.{mod-lt, div-div-eq-div-mul, lt-of-lt-of-le}
+use native.Mathlib.Nat.{mod-lt}
 use native.Mathlib.Numerals.{add-one}
 use native.Mathlib.Omega.{arith}
 use lib.ListN.{length, set, length-append, length-set}
 use lib.Seq.{sets}
-use mir.Syntax.{w64}
-use mir.Val.{Fits}
 use borrow.Author.Needs.{needs}
 use Rattle.grammar.specs.Lines.{field}
 use Rattle.grammar.specs.Numbers.{decimal}
 use Rattle.grammar.proofs.Theory.Decimal.{decimal-digit, decimal-more}
+use Rattle.line_sizes.specs.Digits.{decimal-some, decimal-two, length-digit, length-more}
+use Rattle.line_sizes.specs.Sizes.{Counted}
 use Rattle.writers.specs.Laying.{Laid, sets-before}
-use Rattle.writers.specs.Digits.{decimal-short, decimal-some, decimal-two, length-digit, length-more}
-
--- How many values there are, and at most so many.
-pub record Counted (most : ℕ) (vs : List ℕ) (r : ℕ) : Type 0 where
-  pub is : r ≡ length vs
-  pub few : r ≤ most
-
--- ---- the size of a field
-
--- The digits of what is left are not counted yet.
-pub record Shrinking (value size left : ℕ) : Type 0 where
-  pub whole : 2 + length (decimal value) ≡ size + length (decimal left)
-  pub short : length (decimal value) ≤ 20
-
--- One digit, two,
-pub size-one : (value : ℕ) → value < 10 → Counted 21 (field value) 2
-size-one value l = record { is = omega (arith, length-digit value l); few = omega arith }
-
-pub size-two : (value : ℕ) → 10 ≤ value → value < 100 → Counted 21 (field value) 3
-size-two value l h = record { is = omega (arith, ap length (decimal-two value l h)); few = omega arith }
-
--- and more.
-pub shrink-start : (value : ℕ) → Fits w64 value → 100 ≤ value → Shrinking value 4 (value / 100)
-shrink-start value f l =
-    let tenth : value / 10 / 10 ≡ value / 100 = div-div-eq-div-mul value 10 10 in
-    record {
-      whole = omega (arith, length-more value (omega arith), length-more (value / 10) (omega arith), ap (λ (n : ℕ). length (decimal n)) tenth);
-      short = decimal-short 19 value (lt-of-lt-of-le (f .fits) (omega arith));
-    }
-
--- One digit more is counted, and at the last all are.
-module _ {value size left : ℕ} (h : Shrinking value size left) where
-  pub shrink-fits : 10 ≤ left → Fits w64 (size + 1)
-  shrink-fits l = record { fits = omega (arith, h .whole, h .short, length-more left l) }
-
-  pub shrink-turn : 10 ≤ left → Shrinking value (size + 1) (left / 10)
-  shrink-turn l = record { whole = omega (arith, h .whole, length-more left l); short = h .short }
-
-  pub shrink-end : left < 10 → Counted 21 (field value) size
-  shrink-end l = record { is = omega (arith, h .whole, length-digit left l); few = omega (arith, h .whole, h .short, length-digit left l) }
-
-pub ruleset sizing = (size-one, size-two, shrink-start, shrink-fits, shrink-turn, shrink-end, needs)
-
--- ---- its bytes
 
 -- The comma, then one digit or two.
 module _ (value : ℕ) (old : List ℕ) (at : ℕ) (h : at + length (field value) ≤ length old) where

@@ -18,7 +18,7 @@ use mir.Syntax.{w64}
 use mir.Val.{Fits}
 use borrow.Author.Needs.{needs}
 use Rattle.grammar.specs.Lines.{field, items}
-use Rattle.writers.specs.Fields.{Counted}
+use Rattle.line_sizes.specs.Sizes.{Counted}
 use Rattle.writers.specs.Laying.{Laid, laid-none, laid-then}
 
 -- ---- items one after the other

@@ -15,8 +15,8 @@ use Rattle.grammar.specs.Numbers.{decimal}
 use Rattle.hypoplactic.specs.Ribbons.{LetterStep, TableauAt}
 use Rattle.hypoplactic.specs.Words.{Accepted, Within}
 use Rattle.hypoplactic.proofs.Theory.StepJudgements.{ribbon-length}
+use Rattle.line_sizes.specs.Digits.{decimal-short}
 use Rattle.writers.specs.Cells.{cells-size}
-use Rattle.writers.specs.Digits.{decimal-short}
 use Rattle.writers.specs.Lines.{length-line, lineOf}
 use Rattle.writers.specs.Items.{length-listed, listed}
 

@@ -1,5 +1,4 @@
 pub mod Laying
-pub mod Digits
 pub mod Fields
 pub mod Items
 pub mod Cells

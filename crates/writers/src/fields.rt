@@ -1,9 +1,9 @@
 // A field: a comma and a decimal number. Every number of every line is written so.
+use line_sizes::sizes::field_size;
 ghost use Prim.Native.Nat.{_+_, _<_, _≤_};
 ghost use mathlib.Core.Path.{_≡_};
 ghost use lib.ListN.{length};
 ghost use Rattle.grammar.specs.Lines.{field};
-ghost use Rattle.writers.specs.Fields.{Counted};
 ghost use Rattle.writers.specs.Laying.{Laid};
 
 // The byte of a digit.
@@ -12,25 +12,6 @@ fn digit(value: usize) -> u8
     ensures { λ r. ⌜ r ≡ 48 + value ⌝ }
 {
     48 + value as u8
-}
-
-// How many bytes the field of a number takes: a comma, and one for each digit. Letters have at most two digits, so that no loop counts them.
-pub(crate) fn field_size(value: usize) -> usize
-    ensures { λ r. ⌜ Counted 21 (field value) r ⌝ }
-{
-    if value < 10 {
-        return 2;
-    }
-    if value < 100 {
-        return 3;
-    }
-    let mut size = 4;
-    let mut left = value / 100;
-    while 10 <= left {
-        left = left / 10;
-        size += 1;
-    }
-    size
 }
 
 // Writes the field of a number from a place on, and answers the place after it: one digit or two as they are, more from the last to the first.

@@ -1,12 +1,12 @@
 // The items of a line, one after the other: letters, recording entries, cells. How many bytes they take, and their bytes.
-use crate::fields::field_size;
 use crate::fields::write_field;
 use acceptance::letters::wide;
+use line_sizes::sizes::field_size;
 ghost use Prim.Native.Nat.{_+_, _<_, _≤_};
 ghost use mathlib.Core.Path.{_≡_};
 ghost use lib.ListN.{length};
 ghost use Rattle.grammar.specs.Lines.{cell, cells, field, firstCell, items, step};
-ghost use Rattle.writers.specs.Fields.{Counted};
+ghost use Rattle.line_sizes.specs.Sizes.{Counted};
 ghost use Rattle.writers.specs.Cells.{cellAt};
 ghost use Rattle.writers.specs.Items.{listed};
 ghost use Rattle.writers.specs.Laying.{Laid};

@@ -1,6 +1,5 @@
 // Whole lines, each of which begins with the letter of its kind and a field. The bytes needed are counted, the room is judged, and only then a byte is
 // written.
-use crate::fields::field_size;
 use crate::fields::write_field;
 use crate::items::entries_size;
 use crate::items::list_size;
@@ -8,6 +7,8 @@ use crate::items::ribbon_size;
 use crate::items::write_entries;
 use crate::items::write_list;
 use crate::items::write_ribbon;
+use line_sizes::sizes::field_size;
+use line_sizes::sizes::line_size;
 use refusals::answers::Verdict;
 use refusals::answers::Written;
 use refusals::numbers::check_room;
@@ -20,15 +21,7 @@ ghost use Rattle.hypoplactic.specs.LineOperations.{roomRun};
 ghost use Rattle.refusals.specs.Said.{saidWritten};
 ghost use Rattle.writers.specs.Items.{listed};
 ghost use Rattle.writers.specs.Laying.{Laid};
-ghost use Rattle.writers.specs.Lines.{lineOf, lineSize};
-
-// How many bytes a line takes whose first field is of this number, with so many bytes after it before the line feed.
-fn line_size(first: usize, rest: usize) -> usize
-    requires { ⌜ rest ≤ 65536 ⌝ }
-    ensures { λ r. ⌜ r ≡ lineSize first rest ⌝ }
-{
-    2 + field_size(first) + rest
-}
+ghost use Rattle.writers.specs.Lines.{lineOf};
 
 // Writes the letter of the kind and the first field.
 fn write_head(kind: u8, first: usize, out: &mut [u8]) -> usize

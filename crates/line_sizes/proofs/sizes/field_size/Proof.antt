@@ -1,7 +1,7 @@
--- `writers::fields::field_size` meets its contract, by the laws of specs/Fields. The invariant: the digits of what is left are not counted yet. Assumes nothing.
-use Rattle.writers.specs.Fields.{sizing, Shrinking}
-use Rattle.writers.proofs.fields.field_size.Statement.{statement}
-use Rattle.writers.proofs.fields.field_size.Tie as tie
+-- `line_sizes::sizes::field_size` meets its contract, by the laws of specs/Sizes. The invariant: the digits of what is left are not counted yet. Assumes nothing.
+use Rattle.line_sizes.specs.Sizes.{sizing, Shrinking}
+use Rattle.line_sizes.proofs.sizes.field_size.Statement.{statement}
+use Rattle.line_sizes.proofs.sizes.field_size.Tie as tie
 
 abbrev Inv-loop : tie.InvT-loop
 Inv-loop value size₀ left₀ size left = Shrinking value size left
