@@ -2,7 +2,7 @@
 --     size-refused, size-told          the size of a tableau's class
 --     word-stopped, word-refused, word-told      a word of it: the tableau, or the number or the room, is refused; the word is written
 --     number-refused, number-told      the number of a word
---     sizing, writing, telling         the rulesets of the three operations
+--     sizing, wording, telling         the rulesets of the three operations
 -- Assumes nothing.
 use Prim.Native.Nat.{ℕ, _≤_}
 use mathlib.Core.Path.{_≡_, refl, sym, ap, ap₂, _∙_}
@@ -137,7 +137,7 @@ module _ {v : Verdict} (n : ℕ) (xs ms : List ℕ) (e : saidVerdict v ≡ check
 
 pub ruleset sizing = (size-refused, size-told, needs)
 
-pub ruleset writing = (letters-few, word-stopped, word-refused, word-room, word-told, needs)
+pub ruleset wording = (letters-few, word-stopped, word-refused, word-room, word-told, needs)
 
 -- ---- words
 

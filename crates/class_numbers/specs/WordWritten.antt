@@ -81,7 +81,8 @@ module _ {c : ℕ} {xs ms : List ℕ} {k : ℕ} {old now ys ns : List ℕ} {left
       writing-turn {ys′} {ns′} m p q =
           let word : wordAt n (take n ys) (take n ns) left ≡ getD ys cell 0 ∷ wordAt (n - 1) (take (n - 1) ys′) (take (n - 1) ns′) next =
           opens ∙ s .found m ys (h .letters-long) (wordAt (n - 1))
-          ∙ ap₂ (λ (us vs : List ℕ). getD ys cell 0 ∷ wordAt (n - 1) us vs next) (sym (pulled-told cell n ys m small (h .letters-long) p)) (sym (free-told cell n ns m small (h .marks-long) q)) in
+          ∙ ap₂ (λ (us vs : List ℕ). getD ys cell 0 ∷ wordAt (n - 1) us vs next)
+          (sym (pulled-told cell n ys m small (h .letters-long) p)) (sym (free-told cell n ns m small (h .marks-long) q)) in
           record {
             few = h .few;
             room = h .room;

@@ -21,6 +21,7 @@ pub fn class_size(rank: usize, letters: &[u8], marks: &[u8]) -> Numbered
     if let Verdict::Refused(refusal) = check_class(rank, letters, marks) {
         return Numbered::Refused(refusal);
     }
+    // A right first step leaves as many orders as a free one.
     Numbered::Number(orders_of(marks))
 }
 

@@ -2,8 +2,8 @@
 use buffers::copies::copy_bytes;
 use taken_cells::first::cell_of_letter;
 use taken_cells::first::cell_of_number;
-use taken_cells::removal::marks_without;
-use taken_cells::removal::without;
+use taken_cells::removal::pulled;
+use taken_cells::removal::pulled_free;
 ghost use Prim.Native.Nat.{_≤_};
 ghost use mathlib.Core.Path.{_≡_};
 ghost use lib.ListN.{length, take};
@@ -45,8 +45,8 @@ pub(crate) fn write_word(
         }
         word[i] = ys[cell];
         n -= 1;
-        let letters_left = without(ys, cell, n);
-        let marks_left = marks_without(ms, cell, n);
+        let letters_left = pulled(ys, cell, n);
+        let marks_left = pulled_free(ms, cell, n);
         ys = letters_left;
         ms = marks_left;
         left = next.number;
@@ -71,8 +71,8 @@ pub(crate) fn number_in(letters: [u8; 20], marks: [u8; 20], word: &[u8]) -> u64
             return number + next.number;
         }
         n -= 1;
-        let letters_left = without(ys, cell, n);
-        let marks_left = marks_without(ms, cell, n);
+        let letters_left = pulled(ys, cell, n);
+        let marks_left = pulled_free(ms, cell, n);
         ys = letters_left;
         ms = marks_left;
         number += next.number;

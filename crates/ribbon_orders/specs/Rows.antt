@@ -21,7 +21,7 @@ use Rattle.numbering.specs.Compositions.{total}
 use Rattle.numbering.specs.Orders.{across, headOf, orders, tally}
 use Rattle.numbering.proofs.Theory.Counting.{length-tally}
 use Rattle.numbering.proofs.Theory.Bounds.{tally-19}
-use Rattle.ribbon_orders.specs.Sweeps.{swept, swept-across}
+use Rattle.ribbon_orders.specs.Sweeps.{swept, swept-across, total-zero}
 
 unfoldable pub ordersGiven : List ℕ → ℕ
 ordersGiven ms = cond (ltb 20 (length ms)) 0 (orders ms)
@@ -87,12 +87,8 @@ module _ {ms row : List ℕ} {numbers i : ℕ} (h : Rowing ms row numbers i) whe
     -- Its sum fits 64 bits.
     pub part-fits : Fits w64 (total (midOf 0 (numbers + 1 - 0) row))
     part-fits =
-        let sum : total (midOf 0 (numbers + 1 - 0) row) ≡ total (tally (drop i ms)) = ap total lent ∙ with-zero (tally (drop i ms)) in
+        let sum : total (midOf 0 (numbers + 1 - 0) row) ≡ total (tally (drop i ms)) = ap total lent ∙ total-zero (tally (drop i ms)) in
         record { fits = omega (arith, sum, tally-19 (drop i ms) (omega (arith, length-drop i ms, h .short))) }
-      where
-        with-zero : (xs : List ℕ) → total (xs ++ (0 ∷ [])) ≡ total xs
-        with-zero [] = refl
-        with-zero (x ∷ xs) = ap (λ (k : ℕ). x + k) (with-zero xs)
 
     -- Swept, it is the tally of one mark more.
     pub rowing-turn : {ys : List ℕ} → ys ≡ swept (getD ms (i - 1) 0) 0 (midOf 0 (numbers + 1 - 0) row)

@@ -1,5 +1,6 @@
 -- A row of numbers summed, and swept across a step.
 --     swept m before xs                    each number of a row replaced by what the step allows there, with so many before the row
+--     total-zero                           an unused 0 adds nothing
 --     swept-across                         of a tally and an unused 0 that is the tally across the step
 --     allowed-right, allowed-down, allowed-free      what a step allows, by cases of its mark
 --     Adding xs i sum                      the first i numbers are added up
@@ -13,7 +14,7 @@ use native.Mathlib.Nat.{add-zero}
 use native.Mathlib.Numerals.{add-one}
 use native.Mathlib.Omega.{arith}
 use lib.ListN.{length, getD, set, take, drop, length-set, drop-of-length-le}
-use lib.Seq.{append-snoc, drop-cons, drop-set-lt, getD-drop, take-all, take-suc-set}
+use lib.Seq.{append-snoc, drop-cons, drop-drop, drop-set-lt, getD-drop, take-all, take-suc-set}
 use mir.Syntax.{w64}
 use mir.Val.{Fits}
 use borrow.Author.Needs.{needs}
@@ -64,14 +65,14 @@ abbrev pub swept : ℕ → ℕ → List ℕ → List ℕ
 swept m before [] = []
 swept m before (x ∷ xs) = allowed m before (x + total xs) ∷ swept m (before + x) xs
 
+pub total-zero : (xs : List ℕ) → total (xs ++ (0 ∷ [])) ≡ total xs
+total-zero [] = refl
+total-zero (x ∷ xs) = ap (λ (k : ℕ). x + k) (total-zero xs)
+
 -- The unused 0 makes room for the last number.
 pub swept-across : (m before : ℕ) (xs : List ℕ) → swept m before (xs ++ (0 ∷ [])) ≡ across m before xs
 swept-across m before [] = refl
-swept-across m before (x ∷ xs) = ap₂ (λ (k : ℕ) (ys : List ℕ). allowed m before (x + k) ∷ ys) (same xs) (swept-across m (before + x) xs)
-  where
-    same : (xs : List ℕ) → total (xs ++ (0 ∷ [])) ≡ total xs
-    same [] = refl
-    same (y ∷ ys) = ap (λ (k : ℕ). y + k) (same ys)
+swept-across m before (x ∷ xs) = ap₂ (λ (k : ℕ) (ys : List ℕ). allowed m before (x + k) ∷ ys) (total-zero xs) (swept-across m (before + x) xs)
 
 -- The first i numbers are replaced.
 pub record Sweeping (m : ℕ) (xs now : List ℕ) (all i before : ℕ) : Type 0 where
@@ -124,11 +125,10 @@ module _ {m : ℕ} {xs now : List ℕ} {all i before : ℕ} (h : Sweeping m xs n
       })
     where
       later : i < length xs → drop (suc i) now ≡ drop (suc i) xs
-      later n = ap tail (sym (drop-cons now i 0 l) ∙ h .kept ∙ drop-cons xs i 0 n)
+      later n = sym (next now) ∙ ap (drop 1) (h .kept) ∙ next xs
         where
-          tail : List ℕ → List ℕ
-          tail [] = []
-          tail (y ∷ ys) = ys
+          next : (ys : List ℕ) → drop 1 (drop i ys) ≡ drop (suc i) ys
+          next ys = drop-drop 1 i ys ∙ ap (λ (k : ℕ). drop k ys) (add-one i)
 
   pub sweeping-end : length now ≤ i → now ≡ swept m 0 xs
   sweeping-end l =

@@ -8,7 +8,7 @@ ghost use Rattle.numbering.specs.Orders.{allowed};
 ghost use Rattle.ribbon_orders.specs.Sweeps.{swept};
 ghost use Rattle.ribbon_orders.specs.Rows.{ordersGiven};
 
-// Of all orders, those that a step allows at a place with so many before it: 0 right those after it, 1 down those before it, 2 free all.
+// Of all orders, those that a step allows at a place with so many before it: 0 right those after it, 1 down those before it, any other mark, free, all.
 fn allowed_by(mark: u8, before: u64, all: u64) -> u64
     requires { ⌜ before ≤ all ⌝ }
     ensures { λ r. ⌜ r ≡ allowed mark before (all - before) ⌝ }
@@ -52,7 +52,7 @@ fn sweep(mark: u8, row: &mut [u64])
     }
 }
 
-// How many orders at most 20 marks have, 0 for more marks. Rows are summed before a step and never after the last one: the last row of 20 marks may add up to
+// How many orders at most 20 marks have with none of their cells before the one left of them: all of them, unless the first step goes down. 0 for more marks. Rows are summed before a step and never after the last one: the last row of 20 marks may add up to
 // 21 factorial, which is past 64 bits.
 pub fn orders_of(marks: &[u8]) -> u64
     ensures { λ r. ⌜ r ≡ ordersGiven (now (marks .entry)) ⌝ }

@@ -141,7 +141,7 @@ pub fn junction_reply(answer: Junctions) -> JunctionReply
     }
 }
 
-// A refusal of a size or a number: the values are 0.
+// A refusal of a size or a number: the value is 0.
 fn value_refused(refusal: Refusal) -> ValueReply
     ensures { λ r. ⌜ r ≡ valueOf (saidRefusal refusal) ⌝ }
 {

@@ -119,6 +119,9 @@ unfolding Told ordersLeft
 told-from ys ms a f zero i b = (λ l. let z : ⊥ = omega arith in absurd z, λ l. omega arith)
 told-from ys ms a f (suc n) i b = go (mayGo ms i) (eqb (getD ys i 0) a) refl (λ j. told-from ys ms a f n (suc i) j)
   where
+    none : (x z : ℕ) → x + 0 + z ≡ x + z
+    none x z = omega arith
+
     further : (v w : ℕ) (p : ℕ × ℕ) → v ≡ w → Told ys ms f (suc i + n) v p → Told ys ms f (i + suc n) w p
     further v w p e t = (λ l. sym e ∙ t .0 (omega arith), λ l. sym e ∙ t .1 (omega arith))
 
@@ -139,13 +142,7 @@ told-from ys ms a f (suc n) i b = go (mayGo ms i) (eqb (getD ys i 0) a) refl (λ
         sum : (x y z : ℕ) → x + y + z ≡ x + (y + z)
         sum x y z = omega arith
     go false true e ih = further _ _ _ (none b (placeFrom a f (choicesFrom ys ms (suc i) n))) (ih (b + 0))
-      where
-        none : (x z : ℕ) → x + 0 + z ≡ x + z
-        none x z = omega arith
     go false false e ih = further _ _ _ (none b (placeFrom a f (choicesFrom ys ms (suc i) n))) (ih (b + 0))
-      where
-        none : (x z : ℕ) → x + 0 + z ≡ x + z
-        none x z = omega arith
 
 -- The cell that was found is that of the letter.
 pub met-told : {cell before : ℕ} (c : ℕ) (ys ms : List ℕ) (a : ℕ) → length ys ≡ 20 → length ms ≡ 20 → c ≤ 20 → (cell, before) ≡ cellOfLetter c ys ms a

@@ -18,7 +18,7 @@ use native.Mathlib.Numerals.{add-one}
 use native.Mathlib.Omega.{arith}
 use lib.Dec.{ltb}
 use lib.ListN.{length, getD, set, take, drop, length-append, length-drop, length-set, take-append-drop}
-use lib.Seq.{drop-cons, drop-set-lt, getD-drop, length-take-le, take-append-seam, take-suc, take-suc-set, take-take}
+use lib.Seq.{drop-drop, drop-set-lt, getD-drop, length-take-le, take-append-seam, take-suc, take-suc-set, take-take}
 use borrow.Author.Needs.{needs}
 use borrow.Author.Tests.{le-ltb, lt-ltb}
 use Rattle.numbering.specs.Orders.{freed}
@@ -29,7 +29,7 @@ without p xs = take p xs ++ drop (suc p) xs
 abbrev pub marksWithout : ℕ → List ℕ → List ℕ
 marksWithout p ms = take p ms ++ freed (drop (suc p) ms)
 
--- Nothing is taken out where the place is past the last one, or that is past 19.
+-- Nothing moves where the place is the last one or past it, or where that is past 19.
 unfoldable pub pulled : ℕ → ℕ → List ℕ → List ℕ
 pulled p e xs = cond (ltb 19 e) xs (take e (without p xs) ++ drop e xs)
 
@@ -107,12 +107,11 @@ module _ {p e : ℕ} {xs now : List ℕ} {i : ℕ} (h : Pulling p e xs now i) wh
   pub next-in : i < e → i + 1 < length now
   next-in l = omega (arith, h .long, h .small)
 
-  later : i < e → drop (suc i) now ≡ drop (suc i) xs
-  later l = ap tail (sym (drop-cons now i 0 (place-in l)) ∙ h .kept ∙ drop-cons xs i 0 (omega (arith, h .size, h .small)))
+  later : drop (suc i) now ≡ drop (suc i) xs
+  later = sym (step now) ∙ ap (drop 1) (h .kept) ∙ step xs
     where
-      tail : List ℕ → List ℕ
-      tail [] = []
-      tail (y ∷ ys) = ys
+      step : (ys : List ℕ) → drop 1 (drop i ys) ≡ drop (suc i) ys
+      step ys = drop-drop 1 i ys ∙ ap (λ (k : ℕ). drop k ys) (add-one i)
 
   pub pulling-turn : i < e → Pulling p e xs (set now i (getD now (i + 1) 0)) (i + 1)
   pulling-turn l =
@@ -128,14 +127,14 @@ module _ {p e : ℕ} {xs now : List ℕ} {i : ℕ} (h : Pulling p e xs now i) wh
             take-suc-set now i _ (place-in l)
             ∙ ap₂ (λ (ys : List ℕ) (y : ℕ). ys ++ (y ∷ [])) (h .moved) (next ∙ sym (getD-without p i xs (h .begun)))
             ∙ sym (take-suc (without p xs) i 0 more);
-        kept = drop-set-lt (suc i) now i _ (omega arith) ∙ later l;
+        kept = drop-set-lt (suc i) now i _ (omega arith) ∙ later;
       })
     where
       place : (ys : List ℕ) → getD ys (suc i) 0 ≡ getD (drop (suc i) ys) 0 0
       place ys = sym (getD-drop (suc i) ys 0 0 ∙ ap (λ (k : ℕ). getD ys k 0) (add-zero (suc i)))
 
       next : getD now (suc i) 0 ≡ getD xs (suc i) 0
-      next = place now ∙ ap (λ (ys : List ℕ). getD ys 0 0) (later l) ∙ sym (place xs)
+      next = place now ∙ ap (λ (ys : List ℕ). getD ys 0 0) later ∙ sym (place xs)
 
   -- All are moved, or there was none to be moved.
   pub pulling-end : e ≤ i → now ≡ pulled p e xs

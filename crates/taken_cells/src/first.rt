@@ -1,5 +1,5 @@
 // The cell that goes first: which cells may, how many orders each leaves, and the one with which a word goes on.
-use crate::removal::marks_without;
+use crate::removal::pulled_free;
 use ribbon_orders::orders::orders_of;
 ghost use Prim.Native.Nat.{_≤_, _<_};
 ghost use mathlib.Core.Path.{_≡_};
@@ -29,13 +29,13 @@ fn orders_left(marks: [u8; 20], cells: usize, place: usize) -> u64
 {
     if may_go(marks, cells, place) {
         let last = cells - 1;
-        let fewer = marks_without(marks, place, last);
+        let fewer = pulled_free(marks, place, last);
         return orders_of(&fewer[0..last]);
     }
     0
 }
 
-// A cell, and a number beside it.
+// The place of a cell that goes first, and a number beside it: what is left of a number, or how many words come before.
 pub struct First {
     pub cell: usize,
     pub number: u64,

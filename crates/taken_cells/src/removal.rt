@@ -3,7 +3,7 @@ ghost use mathlib.Core.Path.{_≡_};
 ghost use Rattle.taken_cells.specs.Removal.{pulled, pulledFree};
 
 // The bytes up to a last place without the one at a place: those after it move one back. Bytes past the last place do not count, so none is moved.
-pub fn without(bytes: [u8; 20], place: usize, last: usize) -> [u8; 20]
+pub fn pulled(bytes: [u8; 20], place: usize, last: usize) -> [u8; 20]
     ensures { λ r. ⌜ r ≡ pulled place last bytes ⌝ }
 {
     let mut out = bytes;
@@ -19,10 +19,10 @@ pub fn without(bytes: [u8; 20], place: usize, last: usize) -> [u8; 20]
 }
 
 // The marks without the one at a place. What stood before and after that cell is joined freely.
-pub fn marks_without(marks: [u8; 20], place: usize, last: usize) -> [u8; 20]
+pub fn pulled_free(marks: [u8; 20], place: usize, last: usize) -> [u8; 20]
     ensures { λ r. ⌜ r ≡ pulledFree place last marks ⌝ }
 {
-    let mut out = without(marks, place, last);
+    let mut out = pulled(marks, place, last);
     if 19 < place {
         return out;
     }

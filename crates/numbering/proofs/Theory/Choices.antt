@@ -193,7 +193,8 @@ choice-marks : (ys ms : List ℕ) → length ys ≡ length ms → map (λ (c : C
 choice-marks [] [] e = refl
 choice-marks [] (m ∷ ms) e = let z : ⊥ = omega arith in absurd z
 choice-marks (y ∷ ys) [] e = let z : ⊥ = omega arith in absurd z
-choice-marks (y ∷ ys) (m ∷ ms) e = go (mayEnter m && mayLeave ms) (behind-marks (choices ys ms) ∙ ap (map (λ (o : List ℕ). m ∷ o)) (choice-marks ys ms (omega arith)))
+choice-marks (y ∷ ys) (m ∷ ms) e =
+    go (mayEnter m && mayLeave ms) (behind-marks (choices ys ms) ∙ ap (map (λ (o : List ℕ). m ∷ o)) (choice-marks ys ms (omega arith)))
   where
     behind-marks : (cs : List Choice) → map (λ (c : Choice). c .marks) (map (behind y m) cs) ≡ map (λ (o : List ℕ). m ∷ o) (map (λ (c : Choice). c .marks) cs)
     behind-marks [] = refl

@@ -26,7 +26,8 @@ every-after P a [] h = tt
 every-after P a (w ∷ ws) h = (h .0, every-after P a ws (h .1))
 
 -- What holds of each word after each of these letters holds of all startings.
-pub every-starting : (P : List ℕ → Type 0) (m k : ℕ) (ws : List (List ℕ)) → ((a : ℕ) → k < suc a → a < k + m → Every (λ w. P (a ∷ w)) ws) → Every P (startings m k ws)
+pub every-starting : (P : List ℕ → Type 0) (m k : ℕ) (ws : List (List ℕ))
+    → ((a : ℕ) → k < suc a → a < k + m → Every (λ w. P (a ∷ w)) ws) → Every P (startings m k ws)
 every-starting P zero k ws h = tt
 every-starting P (suc m) k ws h =
     every-append P (map (λ (w : List ℕ). k ∷ w) ws) (startings m (suc k) ws) (every-after P k ws (h k (omega arith) (omega arith)))
@@ -80,7 +81,8 @@ startings-ordered zero k ws h = tt
 startings-ordered (suc m) k ws h =
     ordered-append (map (λ (w : List ℕ). k ∷ w) ws) (startings m (suc k) ws) (ordered-behind k ws h) (startings-ordered m (suc k) ws h)
     (every-after (λ u. Every (Earlier u) (startings m (suc k) ws)) k ws (every-map (λ w. Unit {0}) (λ w. Every (Earlier (k ∷ w)) (startings m (suc k) ws)) ws
-    (λ u t. every-starting (Earlier (k ∷ u)) m (suc k) ws (λ a l b. every-map (λ w. Unit {0}) (λ v. Earlier (k ∷ u) (a ∷ v)) ws (λ v s. inl (omega arith)) (anything ws)))
+    (λ u t. every-starting (Earlier (k ∷ u)) m (suc k) ws
+    (λ a l b. every-map (λ w. Unit {0}) (λ v. Earlier (k ∷ u) (a ∷ v)) ws (λ v s. inl (omega arith)) (anything ws)))
     (anything ws)))
 
 pub words-ordered : (n l : ℕ) → Ordered (words n l)

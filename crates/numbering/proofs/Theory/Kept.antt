@@ -159,7 +159,9 @@ module _ (a : ℕ) (w : List ℕ) where
         where
           next : (a ≤ y) ⊎ (y < a) → Goal
           next (inl q) = here (omega arith) h part k
-          next (inr q) = with-some (mayEnter m && mayLeave ms) (record { letter = y; letters = ys; marks = freed ms }) (map (behind y m) (choices ys ms)) (behind-some y m (choices ys ms) (rest q))
+          next (inr q) =
+              with-some (mayEnter m && mayLeave ms) (record { letter = y; letters = ys; marks = freed ms }) (map (behind y m) (choices ys ms))
+              (behind-some y m (choices ys ms) (rest q))
       go (inr r) rest = absurd (omega (arith, part .1, count-head a w, count-low a y (y ∷ ys) r (omega arith, link-rising y ys ms (h .1))))
 
 -- ---- what holds of each choice

@@ -61,7 +61,8 @@ taken-word n (suc l) ys ms h k =
 place-other : (a b : ℕ) (w : List ℕ) (us vs : List (List ℕ)) → eqb b a ≡ false
     → placeIn (a ∷ w) (map (λ (u : List ℕ). b ∷ u) us ++ vs) ≡ length us + placeIn (a ∷ w) vs
 place-other a b w [] vs e = omega arith
-place-other a b w (u ∷ us) vs e = let rest : placeIn (a ∷ w) (map (λ (u : List ℕ). b ∷ u) us ++ vs) ≡ length us + placeIn (a ∷ w) vs = place-other a b w us vs e in
+place-other a b w (u ∷ us) vs e =
+    let rest : placeIn (a ∷ w) (map (λ (u : List ℕ). b ∷ u) us ++ vs) ≡ length us + placeIn (a ∷ w) vs = place-other a b w us vs e in
     let one : suc (length us + placeIn (a ∷ w) vs) ≡ suc (length us) + placeIn (a ∷ w) vs = omega arith in
     rw e (ap suc rest ∙ one)
 
@@ -93,7 +94,9 @@ module _ (a : ℕ) (w : List ℕ) (f : List ℕ → List ℕ → List (List ℕ)
       own = f (c .letters) (c .marks)
 
       all : length (takenFrom f (c ∷ cs)) ≡ orders (c .marks) + length (takenFrom f cs)
-      all = length-append (map (λ (u : List ℕ). c .letter ∷ u) own) (takenFrom f cs) ∙ ap (λ (k : ℕ). k + length (takenFrom f cs)) (length-map own (λ (u : List ℕ). c .letter ∷ u) ∙ h .0 .0)
+      all =
+          length-append (map (λ (u : List ℕ). c .letter ∷ u) own) (takenFrom f cs)
+          ∙ ap (λ (k : ℕ). k + length (takenFrom f cs)) (length-map own (λ (u : List ℕ). c .letter ∷ u) ∙ h .0 .0)
 
       later : eqb (c .letter) a ≡ false → (c .letter ≡ a) ⊎ Some (λ c. c .letter ≡ a) cs → Some (λ c. c .letter ≡ a) cs
       later e (inl q) = absurd (eqb-false (c .letter) a e q)

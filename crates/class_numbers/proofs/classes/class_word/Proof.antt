@@ -1,6 +1,6 @@
 -- `class_numbers::classes::class_word` meets its contract, by the laws of specs/Classes. The last step
 -- goes back to every call, and to both verdicts. Assumes nothing.
-use Rattle.class_numbers.specs.Classes.{word-told, writing}
+use Rattle.class_numbers.specs.Classes.{word-told, wording}
 use Rattle.class_numbers.proofs.classes.class_word.Statement.{statement}
 use Rattle.class_numbers.proofs.classes.class_word.Tie as tie
 
@@ -19,7 +19,7 @@ returns-3 c =
 pub class-word-spec : {M : Type 1} → statement M
 class-word-spec =
     tie.close
-    (tie.spec (λ c κs. search writing) (λ c. search writing) (λ c. search writing) (λ c. search writing)
-    (λ c κs. search writing) (λ c κs. search writing) (λ c. search writing) (λ c. search writing)
-    (λ c. search writing) (λ c κs. search writing) (λ c. search writing) (λ c κs. search writing)
-    (λ c κs. search writing) (λ c. search writing) returns-3)
+    (tie.spec (λ c κs. search wording) (λ c. search wording) (λ c. search wording) (λ c. search wording)
+    (λ c κs. search wording) (λ c κs. search wording) (λ c. search wording) (λ c. search wording)
+    (λ c. search wording) (λ c κs. search wording) (λ c. search wording) (λ c κs. search wording)
+    (λ c κs. search wording) (λ c. search wording) returns-3)

@@ -18,8 +18,8 @@ loop-again c =
     let goes = pulled .before in
     let met = goes .before in
     let turn = met .before .before in
-    finding-turn (turn .before .loop .inv) (turn .loop-test .taken) (met .cell-of-letter .ensures) (goes .if1 .left) (pulled .without .ensures)
-    (freed .marks-without .ensures)
+    finding-turn (turn .before .loop .inv) (turn .loop-test .taken) (met .cell-of-letter .ensures) (goes .if1 .left) (pulled .pulled .ensures)
+    (freed .pulled-free .ensures)
 
 pub number-in-spec : {M : Type 1} → statement M
 number-in-spec =
