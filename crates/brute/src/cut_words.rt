@@ -58,7 +58,7 @@ pub(crate) fn compare_drawn() -> usize
 
 // How many of three answers that are spoilt for 31 times 2 the comparison finds: the count of cells, the letters and the marks.
 pub(crate) fn products_spoilt() -> usize {
-    let word = short_word(24);
+    let word = short_word(32);
     if word.length != 3 {
         return 0;
     }

@@ -8,7 +8,8 @@ ghost use Prim.Native.Nat.{_≤_};
 // How many words of at most 6 letters over 1 to 3 there are.
 pub(crate) const SHORT: usize = 1093;
 
-// Such a word by its number, whose digits to the base 3 it has, the lowest first, each from 1 to 3.
+// Such a word by its number, whose digits to the base 3 it has, the highest first, each from 1 to 3: shorter words come first, and words of one length in
+// dictionary order. The digits are found from the lowest up, and so written from the last of 6 places down.
 pub(crate) fn short_word(number: usize) -> Word
     ensures { λ r. ⌜ r .length ≤ 6 ⌝ }
 {
@@ -16,14 +17,14 @@ pub(crate) fn short_word(number: usize) -> Word
     let mut rest = number;
     let mut length = 0;
     while length < 6 && 0 < rest {
-        letters[length] = ((rest - 1) % 3) as u8 + 1;
+        letters[5 - length] = ((rest - 1) % 3) as u8 + 1;
         rest = (rest - 1) / 3;
         length += 1;
     }
     Word {
         rank: 3,
         length,
-        letters,
+        letters: letters_from(6 - length, letters),
         state: 0,
     }
 }

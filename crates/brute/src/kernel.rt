@@ -29,7 +29,7 @@ pub(crate) fn first_bytes(bytes: &[u8; 1024], count: usize) -> &[u8]
 }
 
 // 1 for a refusal and for a count of elements that is not the length, else 0.
-fn wrong_written(reply: Written, length: usize) -> usize
+pub(crate) fn wrong_written(reply: Written, length: usize) -> usize
     ensures { λ r. ⌜ r ≤ 1 ⌝ }
 {
     match reply {

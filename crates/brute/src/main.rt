@@ -1,5 +1,6 @@
 // A second implementation by plain insertion, run against the kernel: it prints how many words were compared and how many differences were found, and then
-// how many answers were spoilt on purpose and how many of these the same comparison found; then the same of products.
+// how many answers were spoilt on purpose and how many of these the same comparison found; then the same of products, and of sizes and numbers of classes.
+mod classes;
 mod comparing;
 mod cut_words;
 mod cutting;
@@ -9,11 +10,14 @@ mod multiplying;
 mod picture;
 mod plain;
 
+use crate::classes::classes_spoilt;
+use crate::classes::compare_classes;
 use crate::comparing::differences;
 use crate::comparing::spoilt;
 use crate::cut_words::compare_drawn;
 use crate::cut_words::compare_short;
 use crate::cut_words::products_spoilt;
+use crate::cutting::SHORT;
 use crate::kernel::answers_at_once;
 use crate::kernel::answers_by_letters;
 use crate::kernel::first_bytes;
@@ -79,15 +83,31 @@ fn print(name: &[u8], number: usize) {
     io::write_all(STDOUT_FILENO, b"\n");
 }
 
-// The eight lines.
+// Four lines: how many were compared and how many differences there were, how many answers were spoilt and how many of these were found.
+fn print_four(name: &[u8], compared: usize, differences: usize, spoilt: usize, found: usize) {
+    print(name, compared);
+    print(b"differences ", differences);
+    print(b"spoilt ", spoilt);
+    print(b"found ", found);
+}
+
+// The twelve lines.
 fn main() {
-    print(b"words ", WORDS);
-    print(b"differences ", compare_all());
-    print(b"spoilt ", comparing::PARTS);
-    print(b"found ", compare_spoilt());
+    print_four(
+        b"words ",
+        WORDS,
+        compare_all(),
+        comparing::PARTS,
+        compare_spoilt(),
+    );
     let short = compare_short();
-    print(b"products ", short.products + WORDS);
-    print(b"differences ", short.differences + compare_drawn());
-    print(b"spoilt ", 3);
-    print(b"found ", products_spoilt());
+    let differences = short.differences + compare_drawn();
+    print_four(
+        b"products ",
+        short.products + WORDS,
+        differences,
+        3,
+        products_spoilt(),
+    );
+    print_four(b"classes ", SHORT, compare_classes(), 4, classes_spoilt());
 }

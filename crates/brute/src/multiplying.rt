@@ -1,20 +1,9 @@
 // The kernel's product, held to an answer of the second implementation.
+use crate::kernel::wrong_written;
 use multiplication::product::product;
 use plain_words::comparing::unlike;
-use plain_words::one_if;
 use plain_words::tableau::Tableau;
-use refusals::answers::Written;
 ghost use Prim.Native.Nat.{_≤_};
-
-// 1 for a refusal and for a count of cells that is not the one given, else 0.
-fn wrong_written(reply: Written, cells: usize) -> usize
-    ensures { λ r. ⌜ r ≤ 1 ⌝ }
-{
-    match reply {
-        Written::Elements(count) => one_if(count != cells),
-        Written::Refused(_) => 1,
-    }
-}
 
 // In how many of reply, letters and marks the product of two tableaux, in so many cells of two arrays each, differs from an answer.
 pub(crate) fn compare(

@@ -1,0 +1,17 @@
+-- `brute::classes::count_before` is safe and ends. The invariant: no more words are counted than passed. Assumes nothing.
+use Prim.Native.Nat.{_-_, _≤_}
+use borrow.Author.Needs.{needs}
+use Rattle.brute.proofs.classes.count_before.Statement.{statement}
+use Rattle.brute.proofs.classes.count_before.Tie as tie
+
+abbrev Inv-loop : tie.InvT-loop
+Inv-loop end tableau all count₀ k₀ count k = (k ≤ end) × (count ≤ k)
+
+abbrev μ-loop : tie.MeasureT-loop
+μ-loop end tableau all count₀ k₀ count k = end - k
+
+pub count-before-spec : {M : Type 1} → statement M
+count-before-spec =
+    tie.close
+    (tie.spec Inv-loop μ-loop (λ c. search needs) (λ c. search needs) (λ c. search needs) (λ c κs. search needs)
+    (λ c. search needs) (λ c. search needs) (λ c. search needs) (λ c. search needs) (λ c. search needs))
