@@ -1,4 +1,4 @@
--- `brute::classes::compare_classes` meets its contract. The invariant: at most four differences for each word that is passed. Assumes nothing.
+-- `brute::classes::compare_classes` is safe and ends. The invariant: at most four differences for each word that is passed. Assumes nothing.
 use Prim.Native.Nat.{_*_, _-_, _≤_}
 use borrow.Author.Needs.{needs}
 use Rattle.brute.proofs.classes.compare_classes.Statement.{statement}

@@ -1,4 +1,4 @@
--- `brute::classes::tableau_number` is safe and ends. No invariant is needed. Assumes nothing.
+-- `brute::classes::tableau_number` is safe and ends. The invariant: the place is at most 6. Assumes nothing.
 use Prim.Native.Nat.{_-_, _≤_}
 use borrow.Author.Needs.{needs}
 use Rattle.brute.proofs.classes.tableau_number.Statement.{statement}
