@@ -1,2 +1,3 @@
 -- What the contracts of the table's notation cite. Assumes nothing.
 pub mod Bounds
+pub mod Digits

@@ -1,8 +1,9 @@
 // Lines, fields and numbers. Nothing here refuses: what is no digit counts as none. The expected output shows where a table line is not what it should be.
-ghost use Prim.Native.Nat.{_≤_};
+ghost use Prim.Native.Nat.{_<_, _≤_};
 ghost use mathlib.Core.Path.{_≡_};
 ghost use lib.ListN.{length};
 ghost use Rattle.notation.specs.Bounds.{Between};
+ghost use Rattle.notation.specs.Digits.{digitsFrom};
 
 // Whether two texts are the same.
 fn same(a: &[u8], b: &[u8]) -> bool {
@@ -75,10 +76,32 @@ pub fn field_of(line: &[u8], name: &[u8], most: usize) -> usize
     place
 }
 
-// The number whose digits begin at a place of a text, up to the largest of 64 bits.
-pub(crate) fn number_at(text: &[u8], from: usize) -> usize {
+// The number whose digits begin at a place of a text. Of more than six digits the last count.
+pub(crate) fn number_at(text: &[u8], from: usize) -> usize
+    ensures { λ r. ⌜ r < 1000000 ⌝ }
+{
     let mut value = 0;
     let mut at = from;
+    while at < text.len() {
+        let byte = text[at];
+        if byte < b'0' {
+            return value;
+        }
+        if b'9' < byte {
+            return value;
+        }
+        value = value % 100000 * 10 + wide(byte - b'0');
+        at += 1;
+    }
+    value
+}
+
+// The number that a text begins with, up to the largest of 64 bits.
+pub fn large_number(text: &[u8]) -> usize
+    ensures { λ r. ⌜ r ≡ digitsFrom 0 (now (text .entry)) ⌝ }
+{
+    let mut value = 0;
+    let mut at = 0;
     while at < text.len() {
         let byte = text[at];
         if byte < b'0' {
@@ -102,7 +125,9 @@ pub(crate) fn wide(byte: u8) -> usize
 }
 
 // A field that is a number.
-pub fn number(line: &[u8], place: usize) -> usize {
+pub fn number(line: &[u8], place: usize) -> usize
+    ensures { λ r. ⌜ r < 1000000 ⌝ }
+{
     number_at(field(line, place), 0)
 }
 

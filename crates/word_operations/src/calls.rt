@@ -12,6 +12,7 @@ use notation::answers::print_refusal;
 use notation::answers::print_repeat;
 use notation::answers::print_written;
 use notation::fields::field;
+use notation::fields::large_number;
 use notation::fields::number;
 use notation::lists::bytes_of;
 use notation::printing::print_lent_bytes;
@@ -89,7 +90,8 @@ fn call_on_class(operation: usize, line: &[u8], a: &[u8], b: &[u8], out: &mut [u
         return print_numbered(class_size(rank, a, b));
     }
     if operation == 12 {
-        return print_written(class_word(rank, a, b, number(line, 2) as u64, out));
+        let asked = large_number(field(line, 2)) as u64;
+        return print_written(class_word(rank, a, b, asked, out));
     }
     print_numbered(class_number(rank, a))
 }

@@ -1,12 +1,12 @@
--- `notation::fields::number_at` is safe and ends. Assumes nothing.
-use Prim.Native.Nat.{_-_}
+-- `notation::fields::number_at` meets its contract, by the laws of specs/Bounds. Assumes nothing.
+use Prim.Native.Nat.{_-_, _<_}
 use lib.ListN.{length}
 use Rattle.notation.specs.Bounds.{filling}
 use Rattle.notation.proofs.fields.number_at.Statement.{statement}
 use Rattle.notation.proofs.fields.number_at.Tie as tie
 
 abbrev Inv-loop : tie.InvT-loop
-Inv-loop text from value₀ at₀ value at = Unit {0}
+Inv-loop text from value₀ at₀ value at = value < 1000000
 
 abbrev μ-loop : tie.MeasureT-loop
 μ-loop text from value₀ at₀ value at = length text - at
