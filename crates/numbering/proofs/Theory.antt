@@ -1,4 +1,5 @@
 -- The laws of the words of a class, by topic. docs/PROMISES.md leads from each promise to its theorem.
+pub mod Cases
 pub mod Multinomials
 pub mod Alternating
 pub mod CompositionCases
@@ -12,5 +13,5 @@ pub mod ClassSize
 pub mod Numbers
 pub mod DictionaryOrder
 pub mod ClassNumbers
-pub mod NumberCases
+pub mod LargeClasses
 pub mod ClassReplies

@@ -1,29 +1,20 @@
--- Sizes and numbers of classes, pinned: the list of specs/Cases.antt, and larger values, computed by the checker through the laws.
---     numbers-pinned                  the list
+-- Sizes and numbers of larger classes, computed by the checker through the laws.
 --     size-421323                     the class of 421323 has 61 words
 --     size-20, word-20, number-20     a class that no list of words reaches: its size, a word and its number
 -- Assumes nothing.
 use Prim.Native.Nat.{ℕ}
 use native.Mathlib.Omega.{arith}
-use mathlib.Core.Path.{_≡_, refl}
-use mathlib.Core.List.{List, [], _∷_, map}
+use mathlib.Core.Path.{_≡_}
+use mathlib.Core.List.{List, [], _∷_}
 use Rattle.hypoplactic.specs.Words.{Within}
 use Rattle.hypoplactic.specs.Ribbons.{Tableau}
 use Rattle.hypoplactic.specs.Insertion.{insert, lettersOf, marksOf, pairOf}
-use Rattle.hypoplactic.specs.Judgements.{alikeJudged, lengthJudged, lettersJudged, marksJudged, rankJudged, risingJudged, roomJudged}
-use Rattle.hypoplactic.specs.Starred.{Case}
 use Rattle.hypoplactic.proofs.Theory.Boundary.{tableau-of-word}
-use Rattle.numbering.specs.Dictionary.{classNumber, classSize, classWord, classWords, words}
-use Rattle.numbering.specs.Operations.{classNumberSays, classSizeSays, classWordRun, classWordSays, numberJudged, smallJudged}
+use Rattle.numbering.specs.Dictionary.{classNumber, classSize, classWord}
 use Rattle.numbering.specs.Orders.{orders}
-use Rattle.numbering.specs.Cases.{numberCases}
 use Rattle.numbering.proofs.Theory.ClassNumbers.{number-of-word}
 use Rattle.numbering.proofs.Theory.ClassSize.{class-size}
 use Rattle.numbering.proofs.Theory.Numbers.{class-word}
-
-pub numbers-pinned : map (λ (c : Case). c .meaning) numberCases ≡ map (λ (c : Case). c .document) numberCases
-unfolding numberCases words classWords pairOf insert rankJudged lengthJudged alikeJudged lettersJudged risingJudged marksJudged roomJudged smallJudged numberJudged classSizeSays classWordSays classWordRun classNumberSays
-numbers-pinned = refl
 
 -- The class of 421323 has 61 words.
 pub size-421323 : classSize 4 (lettersOf (4 ∷ 2 ∷ 1 ∷ 3 ∷ 2 ∷ 3 ∷ [])) (marksOf (4 ∷ 2 ∷ 1 ∷ 3 ∷ 2 ∷ 3 ∷ [])) ≡ 61
