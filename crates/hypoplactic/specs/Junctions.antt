@@ -1,8 +1,8 @@
--- The junction set and the rows of a word, and the class that it belongs to (document 01, "Junction set", "Same class").
+-- The junction set and the rows of a word, and the class that it belongs to (document 01, "Junction set", "Same class"; document 02, N5).
 --     junction w a     bit a - 1: a occurs, a larger letter occurs, and the next larger letter that occurs stands left of some a
 --     junctionSet w    the 64 bits as a number
 --     rowsOf w         0 for the empty word, else one more than the bits set
---     sameClass        equal rank, equal count of each letter, equal junction set
+--     sameClass        equal count of each letter, equal junction set
 --     downOut a xs ms  the tableau has a down step out of a cell with the letter a
 -- Assumes nothing.
 use Prim.Native.Nat.{ℕ, zero, suc, _*_}
@@ -51,9 +51,9 @@ abbrev pub sameCounts : ℕ → ℕ → List ℕ → List ℕ → Bool
 sameCounts zero k u v = true
 sameCounts (suc n) k u v = eqb (count k u) (count k v) && sameCounts n (suc k) u v
 
--- Of one class. Words of different rank never are.
-unfoldable pub sameClass : ℕ → List ℕ → ℕ → List ℕ → Bool
-sameClass n u m v = eqb n m && sameCounts 64 1 u v && eqb (junctionSet u) (junctionSet v)
+-- Of one class. A rank bounds the letters of its word and has no part in the class.
+unfoldable pub sameClass : List ℕ → List ℕ → Bool
+sameClass u v = sameCounts 64 1 u v && eqb (junctionSet u) (junctionSet v)
 
 -- Out of a, whatever follows.
 abbrev pub outOf : ℕ → ℕ → ℕ → Bool

@@ -62,7 +62,7 @@ wordsJudgements n u m v =
     ∷ countOn (length u) (lettersJudged m v) ∷ []
 
 unfoldable pub sameClassSays : ℕ → List ℕ → ℕ → List ℕ → Said
-sameClassSays n u m v = first (wordsJudgements n u m v) (gives (tick (sameClass n u m v) 0 ∷ []))
+sameClassSays n u m v = first (wordsJudgements n u m v) (gives (tick (sameClass u v) 0 ∷ []))
 
 abbrev pub comparisonNumber : Comparison → ℕ
 comparisonNumber equal = 0

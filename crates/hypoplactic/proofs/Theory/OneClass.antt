@@ -18,9 +18,9 @@ use Rattle.hypoplactic.proofs.Theory.SameClass.{same-class}
 pub tableau-joined : (u v : List ℕ) → ((lettersOf u ≡ lettersOf v) × (marksOf u ≡ marksOf v)) ↔ Joined u v
 tableau-joined u v = (λ t. same-tableau-joined u v (t .0) (t .1), λ j. joined-tableau j)
 
--- Two words of one rank are of one class exactly when a chain joins them.
-pub class-joined : (n : ℕ) (u v : List ℕ) → Accepted n u → Accepted n v → (sameClass n u n v ≡ true) ↔ Joined u v
-class-joined n u v a b = Iff·trans (same-class u v (accepted-within a) (accepted-within b) n) (tableau-joined u v)
+-- Two words, each accepted at a rank of its own, are of one class exactly when a chain joins them.
+pub class-joined : (n m : ℕ) (u v : List ℕ) → Accepted n u → Accepted m v → (sameClass u v ≡ true) ↔ Joined u v
+class-joined n m u v a b = Iff·trans (same-class u v (accepted-within a) (accepted-within b)) (tableau-joined u v)
 
 -- Whether a chain joins two words is decidable, whatever their letters.
 pub joined-decidable : (u v : List ℕ) → Dec (Joined u v)

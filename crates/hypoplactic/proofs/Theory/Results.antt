@@ -65,7 +65,7 @@ module _ (n : ℕ) (u : List ℕ) (m : ℕ) (v : List ℕ) (a : Accepted n u) (b
       (rank, (rank′, (short, (short′, (letters, (passes-further _ (lettersJudged m v) letters′, tt))))))
 
   -- Whether they are of one class: 1 or 0.
-  pub same-class-result : sameClassSays n u m v ≡ gives (tick (sameClass n u m v) 0 ∷ [])
+  pub same-class-result : sameClassSays n u m v ≡ gives (tick (sameClass u v) 0 ∷ [])
   unfolding sameClassSays
   same-class-result = first-answer (wordsJudgements n u m v) _ words-passing
 

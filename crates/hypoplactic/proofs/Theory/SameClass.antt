@@ -1,6 +1,5 @@
 -- The same-class test decides equality of tableaux, for words with letters 1 to 64 (document 01, "Same class").
---     same-class      of one rank, the test passes exactly when letters and marks of the two tableaux are equal
---     class-rank      words of different rank are never in one class
+--     same-class      the test passes exactly when letters and marks of the two tableaux are equal
 --     before-neighbours     the order of neighbouring letters, by the junction of the smaller
 -- Assumes nothing.
 use Prim.Native.Nat.{ℕ, zero, suc, _+_, _≤_, _<_}
@@ -9,7 +8,7 @@ use mathlib.Core.Logic.{_↔_, _⊎_, inl, inr, dite, Dec·and}
 use mathlib.Core.List.{List}
 use mathlib.Core.Bool.{Bool, true, false, _&&_}
 use mathlib.Core.Option.{some}
-use borrow.Author.Tests.{eq-eqb, eqb-true, lt-ltb, ne-eqb}
+use borrow.Author.Tests.{eq-eqb, eqb-true, lt-ltb}
 use native.Mathlib.Nat.{eq-or-lt-of-le, eq-zero-or-pos}
 use native.Mathlib.Numerals.{one-add}
 use native.Mathlib.Decide.{decLe}
@@ -87,26 +86,20 @@ module _ (u v : List ℕ) where
   unfolding junctionSet
   tableau-set e m = bits-number (junction u) (junction v) 64 1 (λ j h. junction-down u (1 + j) ∙ ap₂ (downOut (1 + j)) e m ∙ sym (junction-down v (1 + j)))
 
-  class-tableau : Within 64 u → Within 64 v → (n : ℕ) → sameClass n u n v ≡ true → (lettersOf u ≡ lettersOf v) × (marksOf u ≡ marksOf v)
+  class-tableau : Within 64 u → Within 64 v → sameClass u v ≡ true → (lettersOf u ≡ lettersOf v) × (marksOf u ≡ marksOf v)
   unfolding sameClass
-  class-tableau hu hv n e =
-      let p = and-both (eqb n n && sameCounts 64 1 u v) (eqb (junctionSet u) (junctionSet v)) e in
-      let q = and-both (eqb n n) (sameCounts 64 1 u v) (p .0) in
-      let tested : (a : ℕ) → 1 ≤ a → a ≤ 64 → count a u ≡ count a v = λ a l h. tested-counts 64 1 u v (q .1) a l (omega arith) in
+  class-tableau hu hv e =
+      let p = and-both (sameCounts 64 1 u v) (eqb (junctionSet u) (junctionSet v)) e in
+      let tested : (a : ℕ) → 1 ≤ a → a ≤ 64 → count a u ≡ count a v = λ a l h. tested-counts 64 1 u v (p .0) a l (omega arith) in
       let c = by-range 64 (λ a. count a u) (λ a. count a v) tested (λ a o. count-outside a u hu o ∙ sym (count-outside a v hv o)) in
       (letters-same u v c, junctions-marks c (set-junctions hu hv (eqb-true _ _ (p .1))))
 
-  tableau-class : (n : ℕ) → (lettersOf u ≡ lettersOf v) × (marksOf u ≡ marksOf v) → sameClass n u n v ≡ true
+  tableau-class : (lettersOf u ≡ lettersOf v) × (marksOf u ≡ marksOf v) → sameClass u v ≡ true
   unfolding sameClass
-  tableau-class n h =
+  tableau-class h =
       let c : (a : ℕ) → count a u ≡ count a v = λ a. sym (count-letters a u) ∙ ap (count a) (h .0) ∙ count-letters a v in
-      ap₂ _&&_ (ap₂ _&&_ (eq-eqb n n refl) (counts-tested 64 1 u v c)) (eq-eqb _ _ (tableau-set (h .0) (h .1)))
+      ap₂ _&&_ (counts-tested 64 1 u v c) (eq-eqb _ _ (tableau-set (h .0) (h .1)))
 
-  -- Of one rank, the test passes exactly when the tableaux are equal.
-  pub same-class : Within 64 u → Within 64 v → (n : ℕ) → (sameClass n u n v ≡ true) ↔ ((lettersOf u ≡ lettersOf v) × (marksOf u ≡ marksOf v))
-  same-class hu hv n = (class-tableau hu hv n, tableau-class n)
-
--- Words of different rank are never in one class.
-pub class-rank : (n m : ℕ) (u v : List ℕ) → (n ≡ m → ⊥) → sameClass n u m v ≡ false
-unfolding sameClass
-class-rank n m u v h = rw (ne-eqb n m h)
+  -- The test passes exactly when the tableaux are equal.
+  pub same-class : Within 64 u → Within 64 v → (sameClass u v ≡ true) ↔ ((lettersOf u ≡ lettersOf v) × (marksOf u ≡ marksOf v))
+  same-class hu hv = (class-tableau hu hv, tableau-class)

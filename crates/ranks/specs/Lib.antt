@@ -1,0 +1,3 @@
+pub mod Unranked
+pub mod Ranks
+pub mod Cases
