@@ -1,8 +1,8 @@
 -- The same-class test: counts compared on tables, and that this compares the counts of the words.
 --     sameFrom n j cs ds     n numbers of two tables, from place j on, are equal
 --     Matching               the loop over the letters: what is left decides
---     same-tables            equal tables of counts are equal counts of all letters, whatever rank the words are within
---     other-rank, other-counts, other-set, one-class     the answer from what the tests find
+--     same-tables            tables of counts that agree up to both ranks are equal counts of all letters
+--     other-counts, other-set, one-class     the answer from what the tests find
 --     opens-class            the reply from the verdict on both words and the test
 --     matching               the ruleset of the same-class test
 -- Assumes nothing.
@@ -20,10 +20,10 @@ use Rattle.hypoplactic.specs.Words.{Accepted, Within, count, tick}
 use Rattle.hypoplactic.specs.Junctions.{sameClass, sameCounts}
 use Rattle.hypoplactic.specs.Replies.{Said, gives, passed, orElse, first}
 use Rattle.hypoplactic.specs.WordOperations.{sameClassSays, wordsJudgements}
-use Rattle.hypoplactic.proofs.Theory.SameClass.{class-rank}
 use Rattle.hypoplactic.proofs.Theory.Limits.{count-outside}
 use Rattle.hypoplactic.proofs.Theory.Passing.{first-else}
 use Rattle.second_inputs.specs.Passed.{judging}
+use Rattle.second_inputs.specs.Ranks.{Larger, larger-room}
 use Rattle.words.specs.Given.{accepted-counts, accepted-set, countGiven, junctionGiven}
 use Rattle.words.specs.Tables.{Table, Counts}
 
@@ -80,47 +80,43 @@ same-beyond (suc n) zero j u v h e = let z : ⊥ = omega arith in absurd z
 same-beyond (suc n) (suc k) j u v h e =
     ap (λ (b : Bool). eqb (count j u) (count j v) && b) (same-beyond n k (suc j) u v (omega arith) (λ a l. e a (omega arith)))
 
--- Tables of counts that agree on the letters of the rank are equal counts of all letters.
-pub same-tables : {n : ℕ} (u v : List ℕ) {cs ds : List ℕ} → Within n u → Within n v → n ≤ 64 → Counts u cs → Counts v ds
-    → sameFrom n 0 cs ds ≡ sameCounts 64 1 u v
-same-tables {n} u v h g l f e =
-    table-same u v f e n 0 (omega arith)
-    ∙ sym (same-beyond n 64 1 u v l (λ a m. count-outside a u h (λ o. omega arith) ∙ sym (count-outside a v g (λ o. omega arith))))
+-- Tables of counts that agree on the letters up to both ranks are equal counts of all letters.
+pub same-tables : {n m : ℕ} (u v : List ℕ) {cs ds : List ℕ} (top : ℕ) → Within n u → Within m v → n ≤ top → m ≤ top → top ≤ 64 → Counts u cs → Counts v ds
+    → sameFrom top 0 cs ds ≡ sameCounts 64 1 u v
+same-tables u v top h g p q l f e =
+    table-same u v f e top 0 (omega arith)
+    ∙ sym (same-beyond top 64 1 u v l (λ a m. count-outside a u h (λ o. omega arith) ∙ sym (count-outside a v g (λ o. omega arith))))
 
--- ---- two accepted words of one rank
+-- ---- two accepted words
 
-module _ {n m : ℕ} (u v : List ℕ) (h : Accepted n u) (g : Accepted m v) (r : n ≡ m) where
+module _ {n m r : ℕ} (u v : List ℕ) (h : Accepted n u) (g : Accepted m v) (l : Larger n m r) where
   -- By the tables.
-  counted : {cs ds : List ℕ} → Table (countGiven n u) cs → Table (countGiven m v) ds → sameFrom n 0 cs ds ≡ sameCounts 64 1 u v
-  counted f e = same-tables u v (h .letters) (rw r (g .letters)) (h .rank-high) (accepted-counts h f) (accepted-counts g e)
+  counted : {cs ds : List ℕ} → Table (countGiven n u) cs → Table (countGiven m v) ds → sameFrom r 0 cs ds ≡ sameCounts 64 1 u v
+  counted f e = same-tables u v r (h .letters) (g .letters) (l .first) (l .second) (larger-room h g l) (accepted-counts h f) (accepted-counts g e)
 
   -- Words whose counts differ are not of one class,
-  pub other-counts : {b : Bool} {cs ds : List ℕ} → Table (countGiven n u) cs → Table (countGiven m v) ds → b ≡ sameFrom n 0 cs ds → b ≡ false
-      → gives (0 ∷ []) ≡ gives (tick (sameClass n u m v) 0 ∷ [])
+  pub other-counts : {b : Bool} {cs ds : List ℕ} → Table (countGiven n u) cs → Table (countGiven m v) ds → b ≡ sameFrom r 0 cs ds → b ≡ false
+      → gives (0 ∷ []) ≡ gives (tick (sameClass u v) 0 ∷ [])
   unfolding sameClass
-  other-counts f e p q = rw (← counted f e, ← p, q, and-false)
+  other-counts f e p q = rw (← counted f e, ← p, q)
 
   -- words of equal counts and equal junction sets are.
-  pub one-class : {b : Bool} {cs ds : List ℕ} {j k : ℕ} → Table (countGiven n u) cs → Table (countGiven m v) ds → b ≡ sameFrom n 0 cs ds → b ≡ true
-      → j ≡ junctionGiven n u → k ≡ junctionGiven m v → j ≡ k → gives (1 ∷ []) ≡ gives (tick (sameClass n u m v) 0 ∷ [])
+  pub one-class : {b : Bool} {cs ds : List ℕ} {j k : ℕ} → Table (countGiven n u) cs → Table (countGiven m v) ds → b ≡ sameFrom r 0 cs ds → b ≡ true
+      → j ≡ junctionGiven n u → k ≡ junctionGiven m v → j ≡ k → gives (1 ∷ []) ≡ gives (tick (sameClass u v) 0 ∷ [])
   unfolding sameClass
-  one-class {j = j} {k = k} f e p q s t d = rw (← counted f e, ← p, q, ← accepted-set h s, ← accepted-set g t, eq-eqb n m r, eq-eqb j k d)
+  one-class {j = j} {k = k} f e p q s t d = rw (← counted f e, ← p, q, ← accepted-set h s, ← accepted-set g t, eq-eqb j k d)
 
 -- Words whose junction sets differ are not of one class.
 pub other-set : {n m j k : ℕ} (u v : List ℕ) → Accepted n u → Accepted m v → j ≡ junctionGiven n u → k ≡ junctionGiven m v → (j ≡ k → ⊥)
-    → gives (0 ∷ []) ≡ gives (tick (sameClass n u m v) 0 ∷ [])
+    → gives (0 ∷ []) ≡ gives (tick (sameClass u v) 0 ∷ [])
 unfolding sameClass
 other-set {j = j} {k = k} u v h g e f d = rw (← accepted-set h e, ← accepted-set g f, ne-eqb j k d, and-false)
 
 -- ---- two words
 
--- Words of different rank never are.
-pub other-rank : {n m : ℕ} (u v : List ℕ) → (n ≡ m → ⊥) → gives (0 ∷ []) ≡ gives (tick (sameClass n u m v) 0 ∷ [])
-other-rank {n} {m} u v d = rw (class-rank n m u v d)
-
 -- The reply from the verdict on both words and the test.
 pub opens-class : {r : Said} (n : ℕ) (u : List ℕ) (m : ℕ) (v : List ℕ)
-    → r ≡ orElse (first (wordsJudgements n u m v) passed) (gives (tick (sameClass n u m v) 0 ∷ [])) → r ≡ sameClassSays n u m v
+    → r ≡ orElse (first (wordsJudgements n u m v) passed) (gives (tick (sameClass u v) 0 ∷ [])) → r ≡ sameClassSays n u m v
 unfolding sameClassSays
 opens-class n u m v e = e ∙ first-else (wordsJudgements n u m v) _
 
@@ -132,8 +128,8 @@ pub ruleset matching = (
   other-counts,
   other-set,
   one-class,
-  other-rank,
   opens-class,
+  larger-room,
   not-true,
   not-false,
   judging,

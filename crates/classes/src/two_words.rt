@@ -1,6 +1,7 @@
-// The same-class test: equal rank, equal count of each letter, equal junction set.
+// The same-class test: equal count of each letter, equal junction set. The ranks bound the letters and decide nothing else.
 use refusals::answers::Class;
 use refusals::answers::Verdict;
+use second_inputs::ranks::larger;
 use second_inputs::two_words::check_words;
 use words::junctions::junction_set;
 use words::tables::letter_counts;
@@ -31,14 +32,15 @@ fn same_counts(top: usize, first: &[u16; 64], second: &[u16; 64]) -> bool
     true
 }
 
-// The test of two accepted words of one rank.
+// The test of two accepted words. Above the larger rank neither has a letter.
 fn match_words(first_rank: usize, first: &[u8], second_rank: usize, second: &[u8]) -> Class
-    requires { ⌜ Accepted «first_rank» (now first) × Accepted «second_rank» (now second) × («first_rank» ≡ «second_rank») ⌝ }
-    ensures { λ r. ⌜ saidClass r ≡ gives (tick (sameClass «first_rank» (now (first .entry)) «second_rank» (now (second .entry))) 0 ∷ []) ⌝ }
+    requires { ⌜ Accepted «first_rank» (now first) × Accepted «second_rank» (now second) ⌝ }
+    ensures { λ r. ⌜ saidClass r ≡ gives (tick (sameClass (now (first .entry)) (now (second .entry))) 0 ∷ []) ⌝ }
 {
+    let top = larger(first_rank, second_rank);
     let first_counts = letter_counts(first_rank, first);
     let second_counts = letter_counts(second_rank, second);
-    if !same_counts(first_rank, &first_counts, &second_counts) {
+    if !same_counts(top, &first_counts, &second_counts) {
         return Class::Different;
     }
     let first_set = junction_set(first_rank, first);
@@ -50,15 +52,12 @@ fn match_words(first_rank: usize, first: &[u8], second_rank: usize, second: &[u8
     }
 }
 
-// Whether two words are of one class. Words of different rank never are.
+// Whether two words are of one class, whatever their ranks.
 pub fn same_class(first_rank: usize, first: &[u8], second_rank: usize, second: &[u8]) -> Class
     ensures { λ r. ⌜ saidClass r ≡ sameClassSays «first_rank» (now (first .entry)) «second_rank» (now (second .entry)) ⌝ }
 {
     if let Verdict::Refused(refusal) = check_words(first_rank, first, second_rank, second) {
         return Class::Refused(refusal);
-    }
-    if first_rank != second_rank {
-        return Class::Different;
     }
     match_words(first_rank, first, second_rank, second)
 }

@@ -122,8 +122,7 @@ unfoldable pub valueCases : List Case
 valueCases =
     -- the junction set: 64 bits, whatever the letters
     case (junctionSet (65 ∷ 64 ∷ []) ∷ junctionSet (66 ∷ 65 ∷ []) ∷ []) (9223372036854775808 ∷ 0 ∷ [])
-    -- classes: words of different rank are in none; the letters 1 to 64 count
-    ∷ case (numbers (sameClassSays 4 w433 5 w433)) (0 ∷ 0 ∷ [])
+    -- classes: the letters 1 to 64 count
     ∷ case (numbers (sameClassSays 64 [] 64 (1 ∷ []))) (0 ∷ 0 ∷ [])
     ∷ case (numbers (sameClassSays 64 (64 ∷ []) 64 [])) (0 ∷ 0 ∷ [])
     -- weights: 0 equal, 1 lower, 2 higher, 3 neither; sums up to 64

@@ -2,4 +2,5 @@
 // equal to its judgements of the written meaning (crates hypoplactic and products).
 mod counting;
 pub mod factors;
+pub mod ranks;
 pub mod two_words;

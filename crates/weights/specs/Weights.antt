@@ -1,6 +1,5 @@
 -- The comparison of two words' weights is that of their tables of letter counts.
 --     compare-tables      the comparison of the tables of counts, up to both ranks, is that of the weights
---     Larger a b r        r is the larger of a and b
 --     tables-bounded      what the comparison of the tables of two accepted words asks
 --     weighed             the answer for two accepted words
 --     opens-weights       the reply from the verdict on both words and the comparison
@@ -23,6 +22,7 @@ use Rattle.hypoplactic.proofs.Theory.Passing.{first-else}
 use Rattle.words.specs.Given.{accepted-counts, countGiven}
 use Rattle.words.specs.Tables.{Table, Counts, sumOf, table-sum}
 use Rattle.second_inputs.specs.Passed.{judging}
+use Rattle.second_inputs.specs.Ranks.{Larger, larger-room}
 use Rattle.weights.specs.Sums.{accepted-sum}
 use Rattle.weights.specs.Tables.{sumsAtMost, compareTables, Bounded}
 
@@ -64,17 +64,10 @@ compare-tables u v top h g p q l f e =
 
 -- ---- two accepted words
 
--- The larger of two numbers.
-pub record Larger (a b r : ℕ) : Type 0 where
-  pub first : a ≤ r
-  pub second : b ≤ r
-  pub least : (k : ℕ) → a ≤ k → b ≤ k → r ≤ k
-
 module _ {n m r : ℕ} (u v : List ℕ) {cs ds : List ℕ} (h : Accepted n u) (g : Accepted m v) (l : Larger n m r) (f : Table (countGiven n u) cs)
     (e : Table (countGiven m v) ds) where
-  -- A table has room for the letters of both ranks.
   room : r ≤ 64
-  room = l .least 64 (h .rank-high) (g .rank-high)
+  room = larger-room h g l
 
   -- The counts of an accepted word add up to its length at most.
   short : {n : ℕ} (w : List ℕ) {cs : List ℕ} → Accepted n w → Counts w cs → sumOf r cs ≤ 1024

@@ -2,6 +2,7 @@
 use crate::tables::compare_counts;
 use refusals::answers::Verdict;
 use refusals::answers::Weights;
+use second_inputs::ranks::larger;
 use second_inputs::two_words::check_words;
 use words::tables::letter_counts;
 ghost use mathlib.Core.Path.{_≡_};
@@ -11,14 +12,6 @@ ghost use Rattle.hypoplactic.specs.Replies.{gives};
 ghost use Rattle.hypoplactic.specs.Weights.{compareWeights};
 ghost use Rattle.hypoplactic.specs.WordOperations.{comparisonNumber, weightsSays};
 ghost use Rattle.refusals.specs.Said.{saidWeights};
-ghost use Rattle.weights.specs.Weights.{Larger};
-
-// The larger of two ranks.
-fn larger(a: usize, b: usize) -> usize
-    ensures { λ r. ⌜ Larger a b r ⌝ }
-{
-    if a < b { b } else { a }
-}
 
 // The comparison of two accepted words.
 fn weigh(first_rank: usize, first: &[u8], second_rank: usize, second: &[u8]) -> Weights

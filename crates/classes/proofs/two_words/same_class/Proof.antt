@@ -7,4 +7,4 @@ pub same-class-spec : {M : Type 1} → statement M
 same-class-spec =
     tie.close
     (tie.spec (λ c κs. search matching) (λ c. search matching) (λ c. search matching) (λ c. search matching)
-    (λ c. search matching) (λ c κs. search matching) (λ c. search matching))
+    (λ c κs. search matching) (λ c. search matching))
