@@ -64,7 +64,7 @@ allowed-alike : (b : Bool) (o p : Option (List ℕ)) → Alike o p → Alike (co
 allowed-alike true o p h = h
 allowed-alike false o p h = tt
 
-allowed-defined : (b : Bool) (o : Option (List ℕ)) (v : List ℕ) → cond b o none ≡ some v → o ≡ some v
+pub allowed-defined : (b : Bool) (o : Option (List ℕ)) (v : List ℕ) → cond b o none ≡ some v → o ≡ some v
 allowed-defined true o v e = e
 allowed-defined false o v e = absurd (Option·none-ne-some v e)
 
