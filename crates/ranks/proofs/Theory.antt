@@ -3,3 +3,4 @@ pub mod Cases
 pub mod Unranked
 pub mod Ranks
 pub mod WrittenRanks
+pub mod OneRank

@@ -1,5 +1,6 @@
 -- Lines without their rank field.
 --     rank-left-out       of a line of any kind whose first field is a rank, exactly that field is left out
+--     tableau-ranked      put back, it gives the T line
 --     tableau-unranked    so a T line without it depends on letters and marks alone,
 --     unranked-tells      and tells tableaux apart, whatever the ranks
 --     rank-told           whole T lines tell the ranks apart too: a T line carries its rank
@@ -55,12 +56,8 @@ tableau-left-out : (n : ℕ) (xs ms : List ℕ) → withoutRank (tLine n xs ms) 
 unfolding tLine
 tableau-left-out n xs ms = rank-left-out 84 n (rest xs ms) refl
 
--- A T line without its rank field depends on letters and marks alone,
-pub tableau-unranked : (n m : ℕ) (xs ms : List ℕ) → withoutRank (tLine n xs ms) ≡ withoutRank (tLine m xs ms)
-tableau-unranked n m xs ms = tableau-left-out n xs ms ∙ sym (tableau-left-out m xs ms)
-
--- The rank field put back.
-abbrev ranked : ℕ → List ℕ → List ℕ
+-- The rank field put back gives the line.
+abbrev pub ranked : ℕ → List ℕ → List ℕ
 ranked n [] = []
 ranked n (kind ∷ s) = kind ∷ (field n ++ s)
 
@@ -68,12 +65,19 @@ ranked-back : (n : ℕ) (xs ms : List ℕ) → ranked n (line 84 (rest xs ms)) �
 unfolding tLine
 ranked-back n xs ms = ap (λ (s : List ℕ). 84 ∷ s) (sym (append-assoc (field n) (rest xs ms) (10 ∷ [])))
 
+pub tableau-ranked : (n : ℕ) (xs ms : List ℕ) → ranked n (withoutRank (tLine n xs ms)) ≡ tLine n xs ms
+tableau-ranked n xs ms = ap (ranked n) (tableau-left-out n xs ms) ∙ ranked-back n xs ms
+
+-- A T line without its rank field depends on letters and marks alone,
+pub tableau-unranked : (n m : ℕ) (xs ms : List ℕ) → withoutRank (tLine n xs ms) ≡ withoutRank (tLine m xs ms)
+tableau-unranked n m xs ms = tableau-left-out n xs ms ∙ sym (tableau-left-out m xs ms)
+
 -- and tells tableaux apart, whatever the ranks.
 pub unranked-tells : (n m : ℕ) (xs ms ys ns : List ℕ) → Tableau xs ms → Tableau ys ns → withoutRank (tLine n xs ms) ≡ withoutRank (tLine m ys ns)
     → (xs ≡ ys) × (ms ≡ ns)
 unranked-tells n m xs ms ys ns h k e =
     line-tells n xs ms ys ns h k
-    (sym (ranked-back n xs ms) ∙ ap (ranked n) (sym (tableau-left-out n xs ms) ∙ e ∙ tableau-left-out m ys ns) ∙ ranked-back n ys ns)
+    (sym (tableau-ranked n xs ms) ∙ ap (ranked n) (e ∙ tableau-unranked m n ys ns) ∙ tableau-ranked n ys ns)
 
 -- Whole T lines tell the ranks apart too.
 pub rank-told : (n m : ℕ) (xs ms ys ns : List ℕ) → Tableau xs ms → Tableau ys ns → tLine n xs ms ≡ tLine m ys ns → n ≡ m
