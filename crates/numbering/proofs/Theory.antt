@@ -15,3 +15,4 @@ pub mod DictionaryOrder
 pub mod ClassNumbers
 pub mod LargeClasses
 pub mod ClassReplies
+pub mod Ranks

@@ -1,7 +1,6 @@
 -- Cases for two ranks (document 02, N5), in the form of the starred ones.
 --     rankCases     classes, lines and moves
 -- That the two sides of every case are equal is proved in proofs/Theory/Cases.antt. Assumes nothing.
-use Prim.Native.Nat.{ℕ}
 use mathlib.Core.List.{List, [], _∷_, _++_}
 use Rattle.hypoplactic.specs.WordOperations.{moveWordRun, sameClassSays}
 use Rattle.hypoplactic.specs.LineOperations.{tableauLine}

@@ -15,7 +15,7 @@ use Rattle.hypoplactic.specs.Moves.{Defined, Move, given, indexOf, moveWord}
 use Rattle.hypoplactic.specs.Replies.{Said, refused}
 use Rattle.hypoplactic.specs.WordOperations.{moveWordRun}
 use Rattle.hypoplactic.specs.LineOperations.{tableauLine}
-use Rattle.hypoplactic.specs.Classes.{Faithful, FaithfulLines, FaithfullyWritten, FaithfulWriting, MovedTogether, in-neither, lineBytes, moveLeft}
+use Rattle.hypoplactic.specs.Classes.{FaithfulLines, FaithfullyWritten, FaithfulWriting, MovedTogether, in-neither, lineBytes, moveLeft}
 use Rattle.hypoplactic.proofs.Theory.MoveResults.{move-word-refused}
 use Rattle.hypoplactic.proofs.Theory.WrittenClasses.{line-bytes, move-left}
 use Rattle.ranks.specs.Unranked.{withoutRank}
