@@ -37,7 +37,7 @@ DECLARED = r"\b(fn|struct|enum) NAME\b|^ *pub NAME:|^ *(abbrev |unfoldable )?(pu
 REQUIRED = """
     classes written-classes word-of-pair pair-of-word word-reading read-back class-joined tableau-answer repeat-word starred outputs
     product-of-classes stepped-weights word-moved-at changed-cell move-together class-size class-word class-number class-members
-    class-complete class-later number-recording recording-number theorem-8-2
+    class-complete class-later number-recording recording-number theorem-8-2 ranks written-ranks
 """.split()
 EDITS = [(edit.stem, re.search(r"^file: (\w+)/", edit.read_text(), re.M).group(1).replace("proofs", "specs")) for edit in CRATES.glob("*/must-fail/*.edit")]
 HEADER = header.functions_of(None)
@@ -247,7 +247,7 @@ def check_links():
 
 def cases(*lists):
     """How many computed cases some lists have."""
-    crates = ("hypoplactic", "examples", "products", "changed_places", "numbering")
+    crates = ("hypoplactic", "examples", "products", "changed_places", "ranks", "numbering")
     text = "".join(file.read_text() for crate in crates for file in CRATES.glob(crate + "/specs/*.antt"))
     bodies = [re.search(rf"^{name} =(.*?)(?=^\S|\Z)", text, re.M | re.S).group(1) for name in lists]
     return sum(len(re.findall(r"^ *(?:∷ )?case\b", body, re.M)) for body in bodies)
@@ -267,6 +267,7 @@ FIGURES = [
     ("# checked words", cases("refusalCases"), None),
     ("# of products", cases("productCases", "productRefusals", "productLimits"), [README, TESTS]),
     ("# of changed places", cases("placeCases"), [README, TESTS]),
+    ("# of two ranks", cases("rankCases"), [README, TESTS]),
     ("# of sizes and numbers", cases("numberCases"), [README, TESTS]),
     ("# (?:more )?(?:cases|fix)", cases("orderCases", "valueCases", "lineCases", "sharedCases"), [README, TESTS]),
 ]

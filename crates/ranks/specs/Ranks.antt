@@ -29,7 +29,8 @@ use Rattle.ranks.specs.Unranked.{withoutRank}
 abbrev pub Has : ℕ → Move → Type 0
 Has n k = indexOf n (k .index) ≡ true
 
-pub record FaithfulAcross {A : Type 0} (line : ℕ → List ℕ → A) (move : ℕ → Move → List ℕ → Option (List ℕ)) (n m : ℕ) (u v : List ℕ) : Type 0 where
+pub record FaithfulAcross {A : Type 0} (line : ℕ → List ℕ → A) (move : ℕ → Move → List ℕ → Option (List ℕ))
+    (n m : ℕ) (u v : List ℕ) : Type 0 where
   -- 1. Their lines are equal exactly when a chain joins them.
   pub shared : (line n u ≡ line m v) ↔ Joined u v
   -- 2. If a chain joins them, each move that both ranks have is defined on both or on neither,

@@ -1,7 +1,7 @@
 -- What demand 3 says of what is written, of any two ranks, as one theorem. The statement is `WrittenRanks` of specs/Ranks.antt.
 --     move-at-both      a move that two ranks have replies and leaves the same at both, on a word that both accept
 --     written-ranks     the theorem
---     class-told        the same-class test replies 1 exactly where the bytes written agree without their rank fields
+--     class-lines        the same-class test replies 1 exactly where the bytes written agree without their rank fields
 -- Assumes nothing.
 use Prim.Native.Nat.{ℕ, _≤_}
 use native.Mathlib.Nat.{le-refl}
@@ -91,9 +91,9 @@ module _ (n m : ℕ) (u v : List ℕ) (a : Accepted n u) (b : Accepted m v) wher
       }
 
   -- The test tells what stored lines tell.
-  pub class-told : (out out′ : List ℕ) → length (tableauLine n u) ≤ length out → length (tableauLine m v) ≤ length out′
+  pub class-lines : (out out′ : List ℕ) → length (tableauLine n u) ≤ length out → length (tableauLine m v) ≤ length out′
       → (sameClassSays n u m v ≡ gives (1 ∷ [])) ↔ (withoutRank (lineBytes n u out) ≡ withoutRank (lineBytes m v out′))
-  class-told out out′ l k =
+  class-lines out out′ l k =
       let bytes = shared-bytes out out′ l k in
       let test : (sameClass u v ≡ true) ↔ Joined u v = class-joined n m u v a b in (
         λ e. bytes .1 (test .0 (yes-told (sameClass u v) (sym (same-class-result n u m v a b) ∙ e))),
