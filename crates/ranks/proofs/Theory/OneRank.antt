@@ -27,6 +27,15 @@ whole : (n : ℕ) (u v : List ℕ) → withoutRank (tableauLine n u) ≡ without
 unfolding tableauLine
 whole n u v e = sym (tableau-ranked n _ _) ∙ ap (ranked n) e ∙ tableau-ranked n _ _
 
+-- So are the bytes written for accepted words.
+whole-bytes : (n : ℕ) (x y : List ℕ) → Accepted n x → Accepted n y → (out out′ : List ℕ) → length (tableauLine n x) ≤ length out
+    → length (tableauLine n y) ≤ length out′ → withoutRank (lineBytes n x out) ≡ withoutRank (lineBytes n y out′)
+    → lineBytes n x out ≡ lineBytes n y out′
+whole-bytes n x y c d out out′ l r e =
+    let p : lineBytes n x out ≡ tableauLine n x = line-bytes n x out c l in
+    let q : lineBytes n y out′ ≡ tableauLine n y = line-bytes n y out′ d r in
+    p ∙ whole n x y (sym (ap withoutRank p) ∙ e ∙ ap withoutRank q) ∙ sym q
+
 -- A move that the rank has is as claimed; one that it has not is undefined on every word.
 indexed : (n : ℕ) (k : Move) (u v : List ℕ) (t : Bool) → indexOf n (k .index) ≡ t → (Has n k → Defined (moveWord n k u) ↔ Defined (moveWord n k v))
     → Defined (moveWord n k u) ↔ Defined (moveWord n k v)
@@ -53,18 +62,9 @@ stays : (n : ℕ) (k : Move) (w : List ℕ) → Accepted n w → indexOf n (k .i
 stays n k w a e = ap (λ (r : Said × List ℕ). r .1) (not-had n k w a e)
 
 module _ (n : ℕ) (u v : List ℕ) (a : Accepted n u) (b : Accepted n v) (faith : WrittenAcross n n u v) where
-  -- The same of the bytes written for accepted words.
-  whole-bytes : (x y : List ℕ) → Accepted n x → Accepted n y → (out out′ : List ℕ) → length (tableauLine n x) ≤ length out
-      → length (tableauLine n y) ≤ length out′ → withoutRank (lineBytes n x out) ≡ withoutRank (lineBytes n y out′)
-      → lineBytes n x out ≡ lineBytes n y out′
-  whole-bytes x y c d out out′ l r e =
-      let p : lineBytes n x out ≡ tableauLine n x = line-bytes n x out c l in
-      let q : lineBytes n y out′ ≡ tableauLine n y = line-bytes n y out′ d r in
-      p ∙ whole n x y (sym (ap withoutRank p) ∙ e ∙ ap withoutRank q) ∙ sym q
-
   same-bytes : (out out′ : List ℕ) → length (tableauLine n u) ≤ length out → length (tableauLine n v) ≤ length out′ → Joined u v
       → lineBytes n u out ≡ lineBytes n v out′
-  same-bytes out out′ l r j = whole-bytes u v a b out out′ l r (faith .shared out out′ l r .1 j)
+  same-bytes out out′ l r j = whole-bytes n u v a b out out′ l r (faith .shared out out′ l r .1 j)
 
   moved : Joined u v → (k : Move) (t : Bool) → indexOf n (k .index) ≡ t
       → MovedTogether (given (k .side) (k .index)) u v (moveWordRun n k u) (moveWordRun n k v)
@@ -74,7 +74,7 @@ module _ (n : ℕ) (u v : List ℕ) (a : Accepted n u) (b : Accepted n v) (faith
   left : Joined u v → (k : Move) (t : Bool) → indexOf n (k .index) ≡ t → (out out′ : List ℕ) → length (tableauLine n (moveLeft n k u)) ≤ length out
       → length (tableauLine n (moveLeft n k v)) ≤ length out′ → lineBytes n (moveLeft n k u) out ≡ lineBytes n (moveLeft n k v) out′
   left j k true e out out′ =
-      λ l r. whole-bytes (moveLeft n k u) (moveLeft n k v) (move-left n k u a) (move-left n k v b) out out′ l r (faith .results j k e e out out′ l r)
+      λ l r. whole-bytes n (moveLeft n k u) (moveLeft n k v) (move-left n k u a) (move-left n k v b) out out′ l r (faith .results j k e e out out′ l r)
   left j k false e out out′ =
       subst₂
       (λ (x y : List ℕ). length (tableauLine n x) ≤ length out → length (tableauLine n y) ≤ length out′ → lineBytes n x out ≡ lineBytes n y out′)

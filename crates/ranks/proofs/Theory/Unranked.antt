@@ -56,7 +56,7 @@ tableau-left-out : (n : ℕ) (xs ms : List ℕ) → withoutRank (tLine n xs ms) 
 unfolding tLine
 tableau-left-out n xs ms = rank-left-out 84 n (rest xs ms) refl
 
--- The rank field put back gives the line.
+-- The rank field put back,
 abbrev pub ranked : ℕ → List ℕ → List ℕ
 ranked n [] = []
 ranked n (kind ∷ s) = kind ∷ (field n ++ s)
@@ -65,6 +65,7 @@ ranked-back : (n : ℕ) (xs ms : List ℕ) → ranked n (line 84 (rest xs ms)) �
 unfolding tLine
 ranked-back n xs ms = ap (λ (s : List ℕ). 84 ∷ s) (sym (append-assoc (field n) (rest xs ms) (10 ∷ [])))
 
+-- which gives the T line again.
 pub tableau-ranked : (n : ℕ) (xs ms : List ℕ) → ranked n (withoutRank (tLine n xs ms)) ≡ tLine n xs ms
 tableau-ranked n xs ms = ap (ranked n) (tableau-left-out n xs ms) ∙ ranked-back n xs ms
 
