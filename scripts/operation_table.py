@@ -1,6 +1,6 @@
 """The tables of calls, by operation: the documents' checked words, one case at least for each refusal number of each operation, outputs longer than needed
-and too short by one, moves of a first, a middle and a last place, on words and on their tableaux, and the order of the checks. The program that makes the
-calls of a table knows its operations alone: at the end of each table it is asked for one that it does not know."""
+and too short by one, moves of a first, a middle and a last place, on words and on their tableaux, two words of different rank in either order, and the order
+of the checks. The program that makes the calls of a table knows its operations alone: at the end of each table it is asked for one that it does not know."""
 from class_table import CLASS_CALLS
 from line_table import RIBBON_LINES, WORD_LINES
 
@@ -99,8 +99,28 @@ same_class 4 4 1,3,2,4 3,1,4,2
 same_class 4 5 4,3,2,3 4,3,2,3
 same_class 4 4 4,3,2,3 4,3,2
 same_class 4 4 - -
-same_class 1 64 - -
 same_class 2 2 1,2 2,1
+same_class 4 6 4,3,2,3 4,3,2,3
+same_class 6 4 4,3,2,3 4,3,2,3
+same_class 4 6 3,2,4,3 4,3,2,3
+same_class 6 4 4,3,2,3 3,2,4,3
+same_class 4 6 2,3,3,4 4,3,2,3
+same_class 6 4 4,3,2,3 2,3,3,4
+same_class 1 64 - -
+same_class 64 1 - -
+same_class 4 5 - 5
+same_class 5 4 5 -
+same_class 1 64 - 64
+same_class 64 1 64 -
+same_class 4 6 4,3,2,3 5,3,2,3
+same_class 6 4 5,3,2,3 4,3,2,3
+same_class 2 5 1,2 1,2,5
+same_class 5 2 1,2,5 1,2
+same_class 2 64 2,1*1023 1*1022,2,1
+same_class 64 2 2*512,1*512 1*511,2*512,1
+same_class 2 64 1*512,2*512 2*512,1*512
+same_class 2 64 1*1023 1*1023,64
+same_class 64 2 1*1023,64 1*1023
 same_class 0 4 1 1
 same_class 4 65 1 1
 same_class 4 4 1*1025 -
@@ -111,6 +131,11 @@ same_class 4 4 4,3,5 1
 same_class 4 4 4,3,2 1,0
 same_class 4 2 4,3,2 1,3
 same_class 4 4 1,9 9
+same_class 4 6 5 5
+same_class 6 4 5 5
+same_class 4 6 5 7
+same_class 6 4 6,5 5,4
+same_class 6 4 5 4*1025
 compare_weights 6 6 5,4,2,1,6,4,3,2,5,2,2,4 4,3,2,1,4,3,2,1,2,1,1,1
 compare_weights 6 6 4,3,2,1,4,3,2,1,2,1,1,1 5,4,2,1,6,4,3,2,5,2,2,4
 compare_weights 4 4 3,2,4,3 4,3,2,3
