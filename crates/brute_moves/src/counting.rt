@@ -1,5 +1,5 @@
 // How often each answer came, in 16 numbers: moves made at 0, refused at the refusal's number, 9 to 11; words in two classes at 1, in one at 2; weights equal,
-// lower, higher and neither at 3 to 6; and at 15 the differences from the kernel.
+// lower, higher and neither at 3 to 6; words of two ranks in two classes at 7, in one at 8; and at 15 the differences from the kernel.
 use crate::kernel::compare_on_tableau;
 use crate::kernel::compare_on_two;
 use crate::kernel::compare_on_word;
@@ -87,24 +87,38 @@ pub(crate) fn count_moves(k: usize, word: Word, counts: [usize; 16]) -> [usize; 
     all
 }
 
-// The word beside its partner.
+// One word beside another.
+fn count_two(one: Word, other: Word, counts: [usize; 16]) -> [usize; 16]
+    requires { ⌜ (one .length ≤ 1024) × (other .length ≤ 1024) ⌝ }
+{
+    let class = plain_class(one, other);
+    let weights = plain_weights(one, other);
+    let letters = one.letters;
+    let other_letters = other.letters;
+    let found = compare_on_two(
+        one.rank,
+        one.length,
+        letters,
+        other.rank,
+        other.length,
+        other_letters,
+        class,
+        weights,
+    );
+    let all = counted(3 + weights, 0, counted(1 + class, found, counts));
+    if one.rank == other.rank {
+        return all;
+    }
+    counted(7 + class, 0, all)
+}
+
+// The word beside its partner, in this order or the other.
 pub(crate) fn count_pair(k: usize, word: Word, counts: [usize; 16]) -> [usize; 16]
     requires { ⌜ (word .length ≤ 1024) × (word .state < 2147483647) ⌝ }
 {
     let other = partner(k, word);
-    let class = plain_class(word, other);
-    let weights = plain_weights(word, other);
-    let one = word.letters;
-    let two = other.letters;
-    let found = compare_on_two(
-        word.rank,
-        word.length,
-        one,
-        other.rank,
-        other.length,
-        two,
-        class,
-        weights,
-    );
-    counted(3 + weights, 0, counted(1 + class, found, counts))
+    if k / 60 % 2 == 1 {
+        return count_two(other, word, counts);
+    }
+    count_two(word, other, counts)
 }

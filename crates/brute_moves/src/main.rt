@@ -53,6 +53,8 @@ fn print_moves(counts: [usize; 16]) {
 fn print_pairs(counts: [usize; 16]) {
     print(b"pairs of one class ", counts[2]);
     print(b"pairs of two classes ", counts[1]);
+    print(b"pairs of two ranks and one class ", counts[8]);
+    print(b"pairs of two ranks and two classes ", counts[7]);
     print(b"weights equal ", counts[3]);
     print(b"weights lower ", counts[4]);
     print(b"weights higher ", counts[5]);

@@ -1,5 +1,5 @@
-// The second word of a pair of words, in five ways, so that every answer comes up: another drawn word; two neighbours exchanged; a step of rewriting; the same
-// letters at rank 64; a move.
+// The second word of a pair of words, in six ways, so that every answer comes up: another drawn word; two neighbours exchanged; a step of rewriting; the same
+// letters; a move; one letter more, which the first word's rank does not have. In the last five its rank is 64, or the first word's, in the sixth the next.
 use crate::scanning::plain_move;
 use plain_words::Word;
 use plain_words::word_of;
@@ -51,7 +51,7 @@ fn step_place(length: usize, word: [u8; 1024]) -> usize
     0
 }
 
-// The letters of the second word, where it is no other drawn word. The move is one that changes the first letter, or one like it: raising for an odd number,
+// The letters of the second word in four of the ways. The move is one that changes the first letter, or one like it: raising for an odd number,
 // else lowering.
 fn changed_letters(way: usize, k: usize, word: Word) -> [u8; 1024]
     requires { ⌜ (word .length ≤ 1024) × (word .state < 2147483647) ⌝ }
@@ -73,25 +73,59 @@ fn changed_letters(way: usize, k: usize, word: Word) -> [u8; 1024]
     moved.letters
 }
 
+// The second word, where it is no other drawn word. The sixth way puts the letter above the rank to the end, and the rank goes up to have it; where there is no
+// such letter, or no room, the word stays.
+fn changed(way: usize, k: usize, word: Word) -> Word
+    requires { ⌜ (word .length ≤ 1024) × (word .state < 2147483647) ⌝ }
+    ensures { λ r. ⌜ r .length ≤ 1024 ⌝ }
+{
+    let length = word.length;
+    if way < 5 {
+        let letters = changed_letters(way, k, word);
+        return Word {
+            rank: word.rank,
+            length,
+            letters,
+            state: word.state,
+        };
+    }
+    if 1023 < length {
+        return word;
+    }
+    if 63 < word.rank {
+        return word;
+    }
+    let rank = word.rank + 1;
+    let mut letters = word.letters;
+    letters[length] = rank as u8;
+    Word {
+        rank,
+        length: length + 1,
+        letters,
+        state: word.state,
+    }
+}
+
 // The second word of the pair whose first word, of this number, is given. Words are drawn in five ways too, by the number's remainder: each of these ways
-// meets each of those.
+// meets each of those, and with each both ranks.
 pub(crate) fn partner(k: usize, word: Word) -> Word
     requires { ⌜ (word .length ≤ 1024) × (word .state < 2147483647) ⌝ }
     ensures { λ r. ⌜ r .length ≤ 1024 ⌝ }
 {
-    let way = k / 5 % 5;
+    let way = k / 5 % 6;
     if way == 0 {
         return word_of(std::num::wrapping_add_usize(k, 64), word.state);
     }
-    let letters = changed_letters(way, k, word);
-    let mut rank = word.rank;
-    if way == 3 {
+    let other = changed(way, k, word);
+    let letters = other.letters;
+    let mut rank = other.rank;
+    if k / 30 % 2 == 1 {
         rank = 64;
     }
     Word {
         rank,
-        length: word.length,
+        length: other.length,
         letters,
-        state: word.state,
+        state: other.state,
     }
 }

@@ -13,7 +13,7 @@ use plain_words::word_of;
 ghost use Prim.Native.Nat.{_≤_};
 
 // How many answers are spoilt.
-pub(crate) const SPOILT: usize = 11;
+pub(crate) const SPOILT: usize = 12;
 
 // Lowering 1 in 3113 at rank 3, which gives 3123 by its place 2 and can be made twice: refusal, place, letters and count.
 pub(crate) fn spoilt_on_word() -> usize
@@ -84,9 +84,9 @@ pub(crate) fn spoilt_on_tableau() -> usize
         + one_if(times == 1)
 }
 
-// 3243 beside 4323 at rank 4, which are of one class: class and weights.
+// 3243 beside 4323 at rank 4, which are of one class: class and weights; and the class where 4323 has rank 6.
 pub(crate) fn spoilt_on_two() -> usize
-    ensures { λ r. ⌜ r ≤ 2 ⌝ }
+    ensures { λ r. ⌜ r ≤ 3 ⌝ }
 {
     let one = word_of(12, 0);
     let other = word_of(0, 0);
@@ -94,5 +94,6 @@ pub(crate) fn spoilt_on_two() -> usize
     let other_letters = other.letters;
     let class = compare_on_two(4, 4, letters, 4, 4, other_letters, 0, 0);
     let weights = compare_on_two(4, 4, letters, 4, 4, other_letters, 1, 1);
-    one_if(class == 1) + one_if(weights == 1)
+    let of_ranks = compare_on_two(4, 4, letters, 6, 4, other_letters, 0, 0);
+    one_if(class == 1) + one_if(weights == 1) + one_if(of_ranks == 1)
 }

@@ -1,4 +1,4 @@
-// Class and weights of two words (document 01, "Same class" and "Weights"): by plain insertion of both words, and by plain counting.
+// Class and weights of two words (document 01, "Same class" and "Weights"; document 02, N5): by plain insertion of both words, and by plain counting.
 // Nothing here is of the kernel.
 use plain_words::Word;
 use plain_words::comparing::unlike;
@@ -6,7 +6,7 @@ use plain_words::one_if;
 use plain_words::tableau::plain_tableau;
 ghost use Prim.Native.Nat.{_≤_};
 
-// 1 for two words of one rank and one tableau, 0 for others.
+// 1 for two words of one tableau, whatever their ranks; 0 for others.
 pub(crate) fn plain_class(one: Word, other: Word) -> usize
     ensures { λ r. ⌜ r ≤ 1 ⌝ }
 {
@@ -14,9 +14,6 @@ pub(crate) fn plain_class(one: Word, other: Word) -> usize
     let of_one = plain_tableau(one.length, letters);
     let letters = other.letters;
     let of_other = plain_tableau(other.length, letters);
-    if one.rank != other.rank {
-        return 0;
-    }
     let letters = of_one.letters;
     let marks = of_one.marks;
     let other_letters = of_other.letters;
