@@ -6,7 +6,7 @@
  * this page says. (The compiler is trusted.)
  *
  * WORDS, TABLEAUX, RIBBONS
- *   rank      1 to 64.
+ *   rank      1 to 64. It bounds the letters of words and tableaux and the indices of moves, and is no part of a class.
  *   word      0 to 1,024 letters, each a byte from 1 to rank.
  *   tableau   its cells in ribbon order, from the top left to the bottom right: their letters, and for each cell a
  *             mark, the step into it: 0 right, 1 down. The mark at place 0 is 0. Letters never fall along the ribbon,
@@ -19,7 +19,10 @@
  *                 N,L,entries                           a recording ribbon
  *                 J,set,rows and E,number,place         a junction set with rows, a refusal: never read
  *             L is the number of letters or entries. Two words of one rank have the same T line, byte for byte,
- *             exactly when they are in one class of the hypoplactic monoid.
+ *             exactly when they are in one class of the hypoplactic monoid. T lines of words of different rank differ
+ *             in the rank field; the words are in one class exactly when the lines agree with that field left out. A
+ *             move at an index that both ranks have is then defined on both words or on neither, and the lines of the
+ *             words that it makes agree again with that field left out.
  *   Places count from 0.
  *
  * BUFFERS
@@ -104,7 +107,7 @@ extern "C" {
 
 /* The version; and the number at the end of the shared library's name, which goes one up whenever a program must be
  * compiled anew to run with the library. */
-#define LUCHTRAV_VERSION "0.5.0"
+#define LUCHTRAV_VERSION "0.6.0"
 #define LUCHTRAV_INTERFACE 1
 
 /* The limits; the last is that of letters or cells where a class is counted. */
@@ -263,7 +266,8 @@ luchtrav_count luchtrav_raise_count_word(size_t rank, size_t index, const uint8_
  * Refuses 1 2 4 9. */
 luchtrav_count luchtrav_lower_count_word(size_t rank, size_t index, const uint8_t *word, size_t word_count);
 
-/* Whether two words are in one class of the hypoplactic monoid; words of different rank never are.
+/* Whether two words are in one class of the hypoplactic monoid, whatever their ranks: each rank bounds the letters of
+ * its own word and decides nothing else. 4323 at rank 4 and 3243 at rank 6 are in one class.
  * Refuses 1 2 4, each over both words. */
 luchtrav_class luchtrav_same_class(size_t first_rank, const uint8_t *first, size_t first_count,
                                    size_t second_rank, const uint8_t *second, size_t second_count);

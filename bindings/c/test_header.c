@@ -1,5 +1,5 @@
 /* What include/luchtrav.h says beside its functions: names and texts of the refusal numbers, the longest lines, the
- * places that moves change, words of a class by number, NULL.
+ * places that moves change, words of two ranks, words of a class by number, NULL.
  *
  * Prints the table of refusals as the names and luchtrav_refusal_text have it, for scripts/packages_c to hold against
  * the table of the header's opening comment. Fails where something else is not as the header says.
@@ -99,6 +99,25 @@ static void moves(void) {
     expect("the entry of the changed cell", entries[2], 2);
 }
 
+/* Two words that may have two ranks: number, place, and whether they are in one class. */
+static void paired(const char *what, luchtrav_class said, size_t number, size_t place, size_t same) {
+    expect(what, said.number, number);
+    expect(what, said.place, place);
+    expect(what, said.same, same);
+}
+
+/* The rank bounds the letters of its word, and is no part of the class. */
+static void ranks(void) {
+    const uint8_t one[] = {4, 3, 2, 3}, two[] = {3, 2, 4, 3}, rising[] = {2, 3, 3, 4}, five[] = {5};
+    paired("4323 at 4, 3243 at 6", luchtrav_same_class(4, one, 4, 6, two, 4), LUCHTRAV_OK, 0, 1);
+    paired("4323 at 6, 2334 at 4", luchtrav_same_class(6, one, 4, 4, rising, 4), LUCHTRAV_OK, 0, 0);
+    paired("the empty word at 4, 5 at 5", luchtrav_same_class(4, NULL, 0, 5, five, 1), LUCHTRAV_OK, 0, 0);
+    paired("5 at 5, the empty word at 4", luchtrav_same_class(5, five, 1, 4, NULL, 0), LUCHTRAV_OK, 0, 0);
+    paired("the empty word at 1 and at 64", luchtrav_same_class(1, NULL, 0, RANK, NULL, 0), LUCHTRAV_OK, 0, 1);
+    paired("5 at 4 and at 6", luchtrav_same_class(4, five, 1, 6, five, 1), LUCHTRAV_BAD_LETTER, 0, 0);
+    paired("5 at 6 and at 4", luchtrav_same_class(6, five, 1, 4, five, 1), LUCHTRAV_BAD_LETTER, 1, 0);
+}
+
 /* A size or a number, or the refusal in its stead. */
 static void valued(const char *what, luchtrav_value said, size_t number, uint64_t value) {
     expect(what, said.number, number);
@@ -169,6 +188,7 @@ int main(void) {
     texts();
     longest();
     moves();
+    ranks();
     classes();
     null();
     return wrong != 0;
