@@ -36,7 +36,7 @@ class Package(Case):
 
     def test_examples(self) -> None:
         """Those that docstrings have."""
-        for module, count in ((words, 2), (tableaux, 3), (classes, 3)):
+        for module, count in ((words, 3), (tableaux, 3), (classes, 3)):
             failed, tried = doctest.testmod(module, extraglobs={"luchtrav": lu})
             self.assertEqual((failed, tried), (0, count))
 
@@ -82,8 +82,8 @@ class Package(Case):
         came = run_python("import runpy; runpy.run_path(%r)" % os.path.join(HERE, "classes.py"))
         self.assertEqual(came.returncode, 0, came.stderr)
         printed = came.stdout.splitlines()
-        self.assertEqual([row for row in rows if row.startswith("| `T,")], printed[:-2])
-        self.assertEqual(rows[-2:], printed[-2:])
+        self.assertEqual([row for row in rows if row.startswith("| `T,")], printed[:-3])
+        self.assertEqual(rows[-3:], printed[-3:])
 
 
 if __name__ == "__main__":

@@ -83,8 +83,12 @@ def lower_count_word(rank: int, index: int, word: Integers) -> int:
 
 
 def same_class(first_rank: int, first: Integers, second_rank: int, second: Integers) -> bool:
-    """Whether two words are in one class of the hypoplactic monoid; words of different rank never are. Refuses 1 2 4, over both words; places in
-    the second count on from the first's length."""
+    """Whether two words are in one class of the hypoplactic monoid, whatever their ranks: each rank bounds the letters of its own word and decides
+    nothing else. Refuses 1 2 4, over both words; places in the second count on from the first's length.
+
+    >>> luchtrav.same_class(4, [4, 3, 2, 3], 6, [3, 2, 4, 3])
+    True
+    """
     words = as_number(first_rank), as_letters(first), as_number(second_rank), as_letters(second)
     said: replies.Class = ask("same_class", *words, letters=(first, second))
     return said.same == 1
