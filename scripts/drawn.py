@@ -22,7 +22,7 @@ import header
 from drawn_inputs import drawn_input
 from drawn_values import Draw
 from lent_memory import Memory
-from replies import FEW, few_value, plain_reply
+from replies import FEW, few_names, few_value, plain_reply
 
 PART = 10000
 TRACE = (lambda call: print(call, flush=True)) if "--trace" in sys.argv else None
@@ -89,7 +89,8 @@ def run_part(part):
             return came, "input %d of part %d, seed %s: %s" % (at, number, seed, differs)
         came.update([("drawn", breaks[0] if len(breaks) == 1 else "two breaks"), (function.name, expected[0])])
         if function.name in FEW and expected[0] == 0:
-            came[function.name, "value", few_value(function, expected, arguments)] += 1
+            value = few_value(function, expected, arguments)
+            came.update((name, "value", value) for name in few_names(function, arguments))
     return came, None if memory.as_expected() else "part %d, seed %s: a call wrote far from its buffers" % (number, seed)
 
 

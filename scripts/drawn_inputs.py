@@ -22,10 +22,13 @@ def draw_word_move(draw):
 
 
 def draw_words(draw):
-    rank = draw.rank()
-    first, second_rank = draw.word(rank, draw.length()), rank if draw.below(5) else draw.rank()
-    second = draw.second_word(second_rank, [letter for letter in first if letter <= second_rank])
-    return {"first_rank": rank, "first": first, "second_rank": second_rank, "second": second}
+    """Three times in five of one rank; else of two, the larger of them first or second."""
+    ranks = [draw.rank()] * 2 if draw.below(5) < 3 else draw.two_ranks()
+    word = draw.word(ranks[0], draw.length())
+    words = [word, draw.second_word(ranks[1], word) if ranks[0] == ranks[1] else draw.word_above(*ranks, word)]
+    if ranks[0] < ranks[1] and draw.below(2):
+        ranks, words = ranks[::-1], words[::-1]
+    return {"first_rank": ranks[0], "first": words[0], "second_rank": ranks[1], "second": words[1]}
 
 
 def draw_tableau(draw):

@@ -26,6 +26,11 @@ class Draw:
     def rank(self):
         return self.one_of((1 + self.below(6), 1 + self.below(6), 2 + self.below(11), 1 + self.below(64), self.one_of((1, 2, 63, 64))))
 
+    def two_ranks(self):
+        """A smaller and a larger one, often neighbours."""
+        small = min(63, self.rank())
+        return [small, self.one_of((small + 1, small + 1 + self.below(64 - small), 64))]
+
     def length(self):
         """Mostly 0 to 12; about one in 100 is long."""
         if self.below(100):
@@ -128,6 +133,18 @@ class Draw:
         if kind > 5:
             return self.word(rank, len(word) if kind == 6 else self.length())
         return self.near(rank, word)
+
+    def word_above(self, small, large, word):
+        """A word of a larger rank for comparison with one of a smaller: as of one rank; or of its class, its column reading or itself; or such a
+        word with a letter more that the smaller rank does not have, most often the last, so that no junction tells."""
+        kind = self.below(5)
+        if kind == 0:
+            return self.second_word(large, word)
+        other = self.read(word) if self.below(3) else list(word)
+        if kind > 2 and len(other) < 1024:
+            place = len(other) if self.below(4) else self.below(len(other) + 1)
+            other.insert(place, self.one_of((small + 1, small + 1 + self.below(large - small), large)))
+        return other
 
     def near(self, rank, word):
         """A word with two neighbours exchanged, or with one letter less, more or changed; a new one is often the largest."""

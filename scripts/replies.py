@@ -46,9 +46,12 @@ OPERATIONS = {
     "answer": lines.answer,
 }
 
-# By function: the values that it can answer with, where they are few; those of `answer` are the refusals in its E lines, 0 for four lines.
+# By function: the values that it can answer with, where they are few, and the same of two words whose ranks differ; those of `answer` are the refusals in
+# its E lines, 0 for four lines.
+TWO_RANKS = " of two ranks"
 FEW = {
-    "same_class": ("same", [0, 1]), "compare_weights": ("order", [0, 1, 2, 3]), "look": ("found", [0, 1]), "cell_at": ("found", [0, 1]),
+    "same_class": ("same", [0, 1]), "same_class" + TWO_RANKS: ("same", [0, 1]), "compare_weights": ("order", [0, 1, 2, 3]),
+    "compare_weights" + TWO_RANKS: ("order", [0, 1, 2, 3]), "look": ("found", [0, 1]), "cell_at": ("found", [0, 1]),
     "answer": ("refusal", [0, 1, 2, 4, 14]),
 }
 
@@ -72,3 +75,9 @@ def few_value(function, expected, arguments):
         return expected[2]
     written = bytes(arguments[1][: expected[2]])
     return int(written.split(b",")[1]) if written.startswith(b"E") else 0
+
+
+def few_names(function, arguments):
+    """Under which names of FEW a call is counted."""
+    ranks = {argument for parameter, argument in zip(function.parameters, arguments) if parameter.name in ("first_rank", "second_rank")}
+    return [function.name] + [function.name + TWO_RANKS] * (len(ranks) == 2)

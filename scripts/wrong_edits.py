@@ -4,6 +4,15 @@ Those of EDGES leave every reply and every byte as they must be where buffers ar
 not lent. RIGHT changes nothing.
 """
 
+
+def judged_by(first, second):
+    """How the letters of two words are judged, each by a rank."""
+    return "    check_letters(%s, first)\n    check_letters(%s, second, len(first))\n" % (first, second)
+
+
+TWO_WORDS = judged_by("first_rank", "second_rank")
+LARGER, SMALLER = "max(first_rank, second_rank)", "min(first_rank, second_rank)"
+
 CHECKS = [
     ("rank 65 passes", "meaning", "1 <= rank <= 64:", "1 <= rank <= 65:"),
     ("rank 64 refused", "meaning", "1 <= rank <= 64:", "1 <= rank <= 63:"),
@@ -17,7 +26,11 @@ CHECKS = [
     ("the letter 0 passes", "meaning", "1 <= letter <= rank:", "0 <= letter <= rank:"),
     ("a letter above the rank passes", "meaning", "1 <= letter <= rank:", "1 <= letter <= rank + 1:"),
     ("places in the second word not counted on", "meaning", "Refused(4, before + place)", "Refused(4, place)"),
-    ("the second word judged by the first's rank", "meaning", "check_letters(second_rank, second,", "check_letters(first_rank, second,"),
+    ("both words judged by the first's rank", "meaning", TWO_WORDS, judged_by("first_rank", "first_rank")),
+    ("both words judged by the second's rank", "meaning", TWO_WORDS, judged_by("second_rank", "second_rank")),
+    ("both words judged by the larger rank", "meaning", TWO_WORDS, judged_by(LARGER, LARGER)),
+    ("both words judged by the smaller rank", "meaning", TWO_WORDS, judged_by(SMALLER, SMALLER)),
+    ("each word judged by the other's rank", "meaning", TWO_WORDS, judged_by("second_rank", "first_rank")),
     ("equal letters of a ribbon refused", "meaning", "letters[place] < letters[place - 1]", "letters[place] <= letters[place - 1]"),
     (
         "a fall at place 1 overlooked", "meaning",
@@ -98,6 +111,14 @@ RIBBONS = [
     ("row and column exchanged", "meaning", "steps.count(1), steps.count(0)", "steps.count(0), steps.count(1)"),
 ]
 
+
+def counts_to(top):
+    """How the counts of two words are compared, where the letters above one are left out."""
+    return "sorted(a for a in first if a <= %s) == sorted(a for a in second if a <= %s)" % (top, top)
+
+
+SAME_COUNTS = "sorted(first) == sorted(second)"
+
 MOVES = [
     ("an inversion of neighbours only", "meaning", "index in word[place:]", "index in word[place : place + 2]"),
     ("an inversion at any step down into i+1", "meaning", " and letters[p - 1] == index", ""),
@@ -112,9 +133,12 @@ MOVES = [
         "if a in word[word.index(larger):]:",
         "if larger == a + 1 and a in word[word.index(larger):]:",
     ),
-    ("one class whatever the rank", "meaning", "first_rank == second_rank and ", ""),
+    ("one class only where the ranks are equal", "meaning", "same = sorted(first)", "same = first_rank == second_rank and sorted(first)"),
+    ("one class by counts up to the smaller rank", "meaning", SAME_COUNTS, counts_to(SMALLER)),
+    ("one class by counts up to the first word's rank", "meaning", SAME_COUNTS, counts_to("first_rank")),
+    ("one class by counts up to the second word's rank", "meaning", SAME_COUNTS, counts_to("second_rank")),
     ("one class by counts alone", "meaning", " and junction_set(first) == junction_set(second)", ""),
-    ("one class by length and junctions", "meaning", "sorted(first) == sorted(second)", "len(first) == len(second)"),
+    ("one class by length and junctions", "meaning", SAME_COUNTS, "len(first) == len(second)"),
     ("lower and higher exchanged", "meaning", "(True, False): 1, (False, True): 2", "(True, False): 2, (False, True): 1"),
     ("weights without the letter 64", "meaning", "range(1, 65)]", "range(1, 64)]"),
     ("weights to the first word's rank", "meaning", "range(1, 65)]", "range(1, first_rank + 1)]"),
@@ -190,6 +214,11 @@ def by_letters(old, new):
 
 
 RIGHT = [
+    (
+        "one class by tableaux, whatever the ranks", "meaning",
+        SAME_COUNTS + " and junction_set(first) == junction_set(second)",
+        "pair_of(first)[:2] == pair_of(second)[:2]",
+    ),
     ("the changed letter by the changed cell's entry", "meaning", "    return " + IN_WORD, BY_ENTRY),
     ("the product by letters", "meaning", MULTIPLIED, BY_LETTERS),
 ]
