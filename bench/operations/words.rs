@@ -7,7 +7,7 @@ use crate::plain::checks::check_word;
 use crate::plain::words::Side::{Lowering, Raising};
 use crate::plain::{insertion, words};
 
-pub const OPERATIONS: [Operation; 10] = [
+pub const OPERATIONS: [Operation; 11] = [
     operation(
         "check_word",
         |i, _| call!(luchtrav_check_word, i.rank, [i.word]),
@@ -128,6 +128,19 @@ pub const OPERATIONS: [Operation; 10] = [
             |i, _| {
                 said(
                     words::same_class(i.rank, &i.word, i.rank, &i.other),
+                    |same| [usize::from(same)],
+                )
+            },
+        )
+    },
+    Operation {
+        unit: Unit::LetterOfBoth,
+        ..operation(
+            "same_class:64",
+            |i, _| call!(luchtrav_same_class, i.rank, [i.word], 64, [i.other]),
+            |i, _| {
+                said(
+                    words::same_class(i.rank, &i.word, 64, &i.other),
                     |same| [usize::from(same)],
                 )
             },
