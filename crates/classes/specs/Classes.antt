@@ -6,7 +6,7 @@
 --     opens-class            the reply from the verdict on both words and the test
 --     matching               the ruleset of the same-class test
 -- Assumes nothing.
-use Prim.Native.Nat.{ℕ, zero, suc, _+_, _-_, _≤_, _<_}
+use Prim.Native.Nat.{ℕ, zero, suc, _+_, _-_, _≤_, _<_, max}
 use native.Mathlib.Omega.{arith}
 use native.Mathlib.Nat.{sub-zero}
 use native.Mathlib.Numerals.{add-one}
@@ -23,7 +23,7 @@ use Rattle.hypoplactic.specs.WordOperations.{sameClassSays, wordsJudgements}
 use Rattle.hypoplactic.proofs.Theory.Limits.{count-outside}
 use Rattle.hypoplactic.proofs.Theory.Passing.{first-else}
 use Rattle.second_inputs.specs.Passed.{judging}
-use Rattle.second_inputs.specs.Ranks.{Larger, larger-room}
+use Rattle.second_inputs.specs.Ranks.{larger-room, reaches-first, reaches-second}
 use Rattle.words.specs.Given.{accepted-counts, accepted-set, countGiven, junctionGiven}
 use Rattle.words.specs.Tables.{Table, Counts}
 
@@ -89,10 +89,10 @@ same-tables u v top h g p q l f e =
 
 -- ---- two accepted words
 
-module _ {n m r : ℕ} (u v : List ℕ) (h : Accepted n u) (g : Accepted m v) (l : Larger n m r) where
-  -- By the tables.
+module _ {n m r : ℕ} (u v : List ℕ) (h : Accepted n u) (g : Accepted m v) (l : r ≡ max n m) where
+  -- The tables of both words tell whether their counts are equal.
   counted : {cs ds : List ℕ} → Table (countGiven n u) cs → Table (countGiven m v) ds → sameFrom r 0 cs ds ≡ sameCounts 64 1 u v
-  counted f e = same-tables u v r (h .letters) (g .letters) (l .first) (l .second) (larger-room h g l) (accepted-counts h f) (accepted-counts g e)
+  counted f e = same-tables u v r (h .letters) (g .letters) (reaches-first n m l) (reaches-second n m l) (larger-room h g l) (accepted-counts h f) (accepted-counts g e)
 
   -- Words whose counts differ are not of one class,
   pub other-counts : {b : Bool} {cs ds : List ℕ} → Table (countGiven n u) cs → Table (countGiven m v) ds → b ≡ sameFrom r 0 cs ds → b ≡ false

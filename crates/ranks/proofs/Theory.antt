@@ -3,4 +3,4 @@ pub mod Cases
 pub mod Unranked
 pub mod Ranks
 pub mod WrittenRanks
-pub mod OneRank
+pub mod TakenApart

@@ -1,17 +1,20 @@
--- Two ranks.
---     Larger a b r     r is the larger of a and b
---     larger-room      a table of 64 numbers has room for the letters of both
+-- The larger r of two ranks n and m.
+--     reaches-first, reaches-second     the letters 1 to r are those of both
+--     larger-room                       and a table of 64 numbers has room for them, if words are accepted at both
 -- Assumes nothing.
-use Prim.Native.Nat.{ℕ, _≤_}
+use Prim.Native.Nat.{ℕ, _≤_, max}
+use native.Mathlib.Nat.{le-max-left, le-max-right, max-le}
+use mathlib.Core.Path.{_≡_}
 use mathlib.Core.List.{List}
 use Rattle.hypoplactic.specs.Words.{Accepted}
 
--- The larger of two numbers.
-pub record Larger (a b r : ℕ) : Type 0 where
-  pub first : a ≤ r
-  pub second : b ≤ r
-  pub least : (k : ℕ) → a ≤ k → b ≤ k → r ≤ k
+module _ (n m : ℕ) {r : ℕ} (e : r ≡ max n m) where
+  pub reaches-first : n ≤ r
+  reaches-first = rw e (le-max-left n m)
+
+  pub reaches-second : m ≤ r
+  reaches-second = rw e (le-max-right n m)
 
 -- The ranks of accepted words are 64 at most.
-pub larger-room : {n m r : ℕ} {u v : List ℕ} → Accepted n u → Accepted m v → Larger n m r → r ≤ 64
-larger-room h g l = l .least 64 (h .rank-high) (g .rank-high)
+pub larger-room : {n m r : ℕ} {u v : List ℕ} → Accepted n u → Accepted m v → r ≡ max n m → r ≤ 64
+larger-room h g e = rw e (max-le (h .rank-high) (g .rank-high))

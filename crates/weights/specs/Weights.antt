@@ -5,7 +5,7 @@
 --     opens-weights       the reply from the verdict on both words and the comparison
 --     weighing            the ruleset of the comparison of two words
 -- Assumes nothing.
-use Prim.Native.Nat.{ℕ, zero, suc, _≤_}
+use Prim.Native.Nat.{ℕ, zero, suc, _≤_, max}
 use native.Mathlib.Omega.{arith}
 use native.Mathlib.Nat.{add-zero}
 use native.Mathlib.Decide.{le-ind}
@@ -22,7 +22,7 @@ use Rattle.hypoplactic.proofs.Theory.Passing.{first-else}
 use Rattle.words.specs.Given.{accepted-counts, countGiven}
 use Rattle.words.specs.Tables.{Table, Counts, sumOf, table-sum}
 use Rattle.second_inputs.specs.Passed.{judging}
-use Rattle.second_inputs.specs.Ranks.{Larger, larger-room}
+use Rattle.second_inputs.specs.Ranks.{larger-room, reaches-first, reaches-second}
 use Rattle.weights.specs.Sums.{accepted-sum}
 use Rattle.weights.specs.Tables.{sumsAtMost, compareTables, Bounded}
 
@@ -64,7 +64,7 @@ compare-tables u v top h g p q l f e =
 
 -- ---- two accepted words
 
-module _ {n m r : ℕ} (u v : List ℕ) {cs ds : List ℕ} (h : Accepted n u) (g : Accepted m v) (l : Larger n m r) (f : Table (countGiven n u) cs)
+module _ {n m r : ℕ} (u v : List ℕ) {cs ds : List ℕ} (h : Accepted n u) (g : Accepted m v) (l : r ≡ max n m) (f : Table (countGiven n u) cs)
     (e : Table (countGiven m v) ds) where
   room : r ≤ 64
   room = larger-room h g l
@@ -80,7 +80,7 @@ module _ {n m r : ℕ} (u v : List ℕ) {cs ds : List ℕ} (h : Accepted n u) (g
   pub weighed : {s : Said} → s ≡ gives (comparisonNumber (compareTables r cs ds) ∷ []) → s ≡ gives (comparisonNumber (compareWeights u v) ∷ [])
   weighed d =
       d ∙ ap (λ (c : Comparison). gives (comparisonNumber c ∷ []))
-      (compare-tables u v r (h .letters) (g .letters) (l .first) (l .second) room (accepted-counts h f) (accepted-counts g e))
+      (compare-tables u v r (h .letters) (g .letters) (reaches-first n m l) (reaches-second n m l) room (accepted-counts h f) (accepted-counts g e))
 
 -- The reply from the verdict on both words and the comparison.
 pub opens-weights : {r : Said} (n : ℕ) (u : List ℕ) (m : ℕ) (v : List ℕ)
