@@ -6,7 +6,7 @@
 --     MovedTogether a u v r s   there, of a move's replies r and s: made in both, each at its own place, or refused in both with one number
 --     FaithfulWriting           the demand over what is written. Theorem `written-classes`, proofs/Theory/WrittenClasses.antt
 -- FaithfulLines is the one to read first: it has neither buffers nor replies. FaithfulWriting speaks of the very definitions that the contracts of the
--- tableau line, of the moves on words and of the recording ribbon cite, and so of the programs. Assumes nothing.
+-- tableau line, of the moves on words and of the recording ribbon cite, and so of the programs. Words of two ranks: crate ranks. Assumes nothing.
 use mathlib.Core.Path.{_≡_}
 use mathlib.Core.List.{List, [], _∷_}
 use mathlib.Core.Logic.{_↔_}

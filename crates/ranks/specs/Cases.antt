@@ -30,17 +30,18 @@ rankCases =
     ∷ case (unrankedLine 4 w4323) (text "T,4,2,d,3,r,3,d,4\n")
     ∷ case (unrankedLine 6 w4323) (text "T,4,2,d,3,r,3,d,4\n")
     ∷ case (unrankedLine 64 []) (text "T,0\n")
-    -- other kinds whose first field is the rank; bytes that are no line
+    -- other kinds that have the rank after their kind; bytes that are no line
     ∷ case (withoutRank (text "W,64,4,4,3,2,3\n")) (text "W,4,4,3,2,3\n")
     ∷ case (withoutRank (text "P,4,4,2,d,3,r,3,d,4,3,2,4,1\n")) (text "P,4,2,d,3,r,3,d,4,3,2,4,1\n")
     ∷ case (withoutRank (text "C,4,4,2,1,d,3,2,d,4,1\n")) (text "C,4,2,1,d,3,2,d,4,1\n")
     ∷ case (withoutRank (text "X,7\n") ++ withoutRank (text "T,4") ++ withoutRank (text "T") ++ withoutRank []) (text "X\nTT")
+    ∷ case (withoutRank (text "T;4,0\n") ++ withoutRank (text "T\n4,0")) (text "T,0\nT,0")
     -- a move that both ranks have: made in both, or refused in both with one number
     ∷ case (outcome (moveWordRun 4 (raise 1) w4323) ++ outcome (moveWordRun 6 (raise 1) (3 ∷ 2 ∷ 4 ∷ 3 ∷ [])))
     (0 ∷ 2 ∷ 4 ∷ 3 ∷ 1 ∷ 3 ∷ 0 ∷ 1 ∷ 3 ∷ 1 ∷ 4 ∷ 3 ∷ [])
     ∷ case (numbers ((moveWordRun 4 (lower 3) w4323) .0) ++ numbers ((moveWordRun 6 (lower 3) w4323) .0)) (10 ∷ 0 ∷ 10 ∷ 0 ∷ [])
     ∷ case (numbers ((moveWordRun 4 (lower 1) w4323) .0) ++ numbers ((moveWordRun 6 (lower 1) w4323) .0)) (11 ∷ 0 ∷ 11 ∷ 0 ∷ [])
-    -- one that only the larger rank has: of it nothing is claimed
+    -- one that only the larger rank has: of the two together nothing is claimed
     ∷ case (outcome (moveWordRun 4 (lower 4) w4323) ++ outcome (moveWordRun 6 (lower 4) w4323))
     (9 ∷ 0 ∷ 4 ∷ 3 ∷ 2 ∷ 3 ∷ 0 ∷ 0 ∷ 5 ∷ 3 ∷ 2 ∷ 3 ∷ [])
     ∷ []

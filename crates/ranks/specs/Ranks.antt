@@ -1,13 +1,13 @@
--- What demand 3 says of two words of one rank, of two words each with a rank of its own (document 02, N5): records in the form of hypoplactic's
--- specs/Classes.antt, field by field, and the claims that they hold of any two words accepted at their ranks.
+-- Demand 3 for words of two ranks (document 02, N5): records in the form of hypoplactic's specs/Classes.antt, field by field, with a rank for each word, and
+-- the claims that they hold of any two words, each accepted at its own rank.
 --     Has n k                        the index of the move k is one of rank n
 --     FaithfulAcross line move n m u v    lines and moves tell of u at rank n and of v at rank m what the rewriting rules tell
 --     unrankedLine n w               the tableau line of a word, its rank field left out
 --     FaithfulRanks                  the claim: FaithfulAcross of these lines and of moves on words. Theorem `ranks`, proofs/Theory/Ranks.antt
 --     WrittenAcross n m u v          the same of what the operations reply and leave in lent memory
 --     WrittenRanks                   the claim over what is written. Theorem `written-ranks`, proofs/Theory/WrittenRanks.antt
--- The rewriting rules name no rank: a chain between u and v is what it was. Of a move that only one of the ranks has nothing is claimed: the other rank
--- refuses it with 9. Demand 3 itself, of one rank and whole lines, stays where it was. Assumes nothing.
+-- The rewriting rules name no rank: a chain between u and v is what it was. Of a move that only one of the ranks has nothing is claimed of the two words
+-- together: at the other rank it is refused with 9. Demand 3 itself, of one rank and whole lines, stays where it was. Assumes nothing.
 use mathlib.Core.Path.{_≡_}
 use mathlib.Core.Bool.{true}
 use mathlib.Core.List.{List}

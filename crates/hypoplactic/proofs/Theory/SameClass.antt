@@ -1,4 +1,4 @@
--- The same-class test decides equality of tableaux, for words with letters 1 to 64 (document 01, "Same class").
+-- The same-class test decides equality of tableaux, for words with letters 1 to 64 (document 01, "Same class"; document 02, N5).
 --     same-class      the test passes exactly when letters and marks of the two tableaux are equal
 --     before-neighbours     the order of neighbouring letters, by the junction of the smaller
 -- Assumes nothing.

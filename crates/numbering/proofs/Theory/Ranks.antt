@@ -3,7 +3,7 @@
 --     size-ranks, word-ranks, number-ranks     so the three operations reply and leave the same at any two ranks that accept their tableau or word
 -- Assumes nothing.
 use Prim.Native.Nat.{ℕ}
-use mathlib.Core.Path.{_≡_, refl, sym, ap, ap₂, _∙_}
+use mathlib.Core.Path.{_≡_, refl, sym, ap, _∙_}
 use mathlib.Core.List.{List, [], _∷_, _++_}
 use lib.ListN.{length, getD}
 use Rattle.hypoplactic.specs.Words.{Accepted, Within}
@@ -31,9 +31,10 @@ module _ (n m : ℕ) (xs ms : List ℕ) (h : TableauAt n xs ms) (g : TableauAt m
   same-words : classWords n xs ms ≡ classWords m xs ms
   same-words = class-ranks n m xs ms (h .word .letters) (g .word .letters) (h .tableau)
 
-  -- The checks of the tableau pass at both ranks, and those after them do not look at the rank.
+  -- The checks of the tableau pass at both ranks; what is said after them is said at both.
   same-said : (rest : List Said) (a b : Said) → a ≡ b → first (tableauJudgements n xs ms ++ rest) a ≡ first (tableauJudgements m xs ms ++ rest) b
-  same-said rest a b e = past-both (tableauJudgements n xs ms) (tableauJudgements m xs ms) rest a b (tableau-passing n xs ms .1 h) (tableau-passing m xs ms .1 g) e
+  same-said rest a b e =
+      past-both (tableauJudgements n xs ms) (tableauJudgements m xs ms) rest a b (tableau-passing n xs ms .1 h) (tableau-passing m xs ms .1 g) e
 
   pub size-ranks : classSizeSays n xs ms ≡ classSizeSays m xs ms
   unfolding classSizeSays

@@ -1,4 +1,4 @@
--- What demand 3 says of one rank, of any two, as one theorem. The statement is `FaithfulRanks` of specs/Ranks.antt.
+-- Demand 3 for words of any two ranks, as one theorem. The statement is `FaithfulRanks` of specs/Ranks.antt.
 --     across     the core: any line that does not depend on the rank and tells tableaux apart, no bound on letters or length
 --     ranks      the theorem: tableau lines without their rank field, moves of each word's own rank
 -- Over what is written it is `written-ranks` of WrittenRanks. Assumes nothing.
@@ -22,7 +22,7 @@ pub across : {A : Type 0} (line : ℕ → List ℕ → List ℕ → A) → ((n m
     → ((n : ℕ) (xs ms ys ns : List ℕ) → Tableau xs ms → Tableau ys ns → line n xs ms ≡ line n ys ns → (xs ≡ ys) × (ms ≡ ns))
     → (n m : ℕ) (u v : List ℕ) → FaithfulAcross (λ r w. line r (lettersOf w) (marksOf w)) moveWord n m u v
 unfolding moveWord
-across {A} line one tells n m u v =
+across line one tells n m u v =
     record {
       shared = (λ e. faith .shared .0 (e ∙ one m n (lettersOf v) (marksOf v)), λ j. faith .shared .1 j ∙ one n m (lettersOf v) (marksOf v));
       together = λ j k p q. rw (p, q) (faith .together j k);

@@ -1,5 +1,5 @@
 -- Lines without their rank field.
---     rank-left-out       of a line of any kind whose first field is a rank, exactly that field is left out
+--     rank-left-out       of a line of any kind that has a rank after its kind, exactly that field is left out
 --     tableau-ranked      put back, it gives the T line
 --     tableau-unranked    so a T line without it depends on letters and marks alone,
 --     unranked-tells      and tells tableaux apart, whatever the ranks
@@ -34,7 +34,7 @@ past-digits (suc k) n s = go (ltb n 10) (past-digits k (n / 10) ((48 + n % 10) �
     go true more = past-digit n s
     go false more = ap pastField (append-assoc (digits k (n / 10)) ((48 + n % 10) ∷ []) s) ∙ more ∙ past-digit (n % 10) s
 
--- Fields: nothing, or a comma and more.
+-- What may follow a field: nothing, or a comma and more.
 abbrev pub Fields : List ℕ → Type 0
 Fields [] = Unit {0}
 Fields (b ∷ bs) = b ≡ 44
@@ -43,10 +43,12 @@ past-fields : (body : List ℕ) → Fields body → pastField (body ++ (10 ∷ [
 past-fields [] h = refl
 past-fields (b ∷ bs) h = rw h
 
--- Of a line whose first field is a rank, exactly that field is left out.
+-- Of a line that has a rank after its kind, exactly that field is left out.
 pub rank-left-out : (kind n : ℕ) (body : List ℕ) → Fields body → withoutRank (line kind (field n ++ body)) ≡ line kind body
 unfolding withoutRank decimal
-rank-left-out kind n body h = ap (λ (s : List ℕ). kind ∷ s) (ap pastField (append-assoc (decimal n) body (10 ∷ [])) ∙ past-digits n n (body ++ (10 ∷ [])) ∙ past-fields body h)
+rank-left-out kind n body h =
+    ap (λ (s : List ℕ). kind ∷ s)
+    (ap pastField (append-assoc (decimal n) body (10 ∷ [])) ∙ past-digits n n (body ++ (10 ∷ [])) ∙ past-fields body h)
 
 -- The fields of a T line after its rank.
 abbrev rest : List ℕ → List ℕ → List ℕ

@@ -1,4 +1,4 @@
--- What demand 3 says of what is written, of any two ranks, as one theorem. The statement is `WrittenRanks` of specs/Ranks.antt.
+-- Demand 3 over what is written, for words of any two ranks, as one theorem. The statement is `WrittenRanks` of specs/Ranks.antt.
 --     move-at-both      a move that two ranks have replies and leaves the same at both, on a word that both accept
 --     class-lines       the same-class test replies 1 exactly where the bytes written agree without their rank fields
 --     written-ranks     the theorem
@@ -45,7 +45,7 @@ yes-told false e = let z : _≡_ {A = ℕ} 0 1 = ap value e in absurd (omega ari
     value (refused k p) = 2
 
 module _ (n m : ℕ) (u v : List ℕ) (a : Accepted n u) (b : Accepted m v) where
-  -- The bytes written are the lines, which say the rest.
+  -- The bytes written are the lines, of which `ranks` says it.
   shared-bytes : (out out′ : List ℕ) → length (tableauLine n u) ≤ length out → length (tableauLine m v) ≤ length out′
       → (withoutRank (lineBytes n u out) ≡ withoutRank (lineBytes m v out′)) ↔ Joined u v
   unfolding unrankedLine
