@@ -3,4 +3,5 @@ pub mod Cases
 pub mod Unranked
 pub mod Ranks
 pub mod WrittenRanks
-pub mod TakenApart
+pub mod Exchanged
+pub mod OneRank
