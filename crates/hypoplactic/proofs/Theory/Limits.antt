@@ -2,6 +2,7 @@
 --     count-outside       in a word within n each letter outside 1 to n is counted 0 times
 --     occurs-none         a letter that is not counted does not occur
 --     letters-within      the tableau of a word within n has letters within n
+--     within-more         a word within n is within every larger rank
 --     accepted-within     the letters of an accepted word are 1 to 64
 --     and-both            two tests that pass together pass each
 -- Assumes nothing.
@@ -37,7 +38,7 @@ pub letters-within : (n : ℕ) (w : List ℕ) → Within n w → Within n (lette
 letters-within n w h = within-counts n (lettersOf w) .1 (λ a c. within-counts n w .0 h a (rw (count-letters a w) at c))
 
 -- Letters of one rank are letters of every larger one.
-within-more : {n m : ℕ} (w : List ℕ) → n ≤ m → Within n w → Within m w
+pub within-more : {n m : ℕ} (w : List ℕ) → n ≤ m → Within n w → Within m w
 within-more [] h i = tt
 within-more (x ∷ w) h i = (i .0, omega arith, within-more w h (i .2))
 

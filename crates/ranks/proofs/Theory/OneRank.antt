@@ -1,9 +1,9 @@
--- Demand 3 follows from what is said of two ranks, where the one is the words' own and the other the largest. So the records and claims of specs/Ranks.antt,
--- of which demand 3 has every field, cannot be made weaker unseen, nor be true of two equal ranks only.
+-- Demand 3 of words of a rank follows from what is said of the first at that rank and of the second at any rank not smaller. So each field of the records of
+-- specs/Ranks.antt says of every two ranks what demand 3's says of one. With the larger rank first: Exchanged.
 --     smaller-rank      FaithfulAcross gives Faithful at the smaller rank, of lines and moves that are the same at both ranks
 --     unranked-whole    lines of one rank agree without their rank fields exactly where they are equal
---     ranks-lines       FaithfulRanks gives demand 3, FaithfulLines
---     ranks-writing     WrittenRanks gives demand 3 over what is written, FaithfulWriting
+--     ranks-lines       FaithfulRanks gives demand 3, with the second word at any rank not smaller
+--     ranks-writing     WrittenRanks gives it over what is written, likewise
 -- Assumes nothing.
 use Prim.Native.Nat.{ℕ, _≤_, _<_}
 use native.Mathlib.Nat.{le-refl}
@@ -22,8 +22,8 @@ use Rattle.hypoplactic.specs.Replies.{Said, refused}
 use Rattle.hypoplactic.specs.Moves.{Defined, Move, given, indexOf, moveWord}
 use Rattle.hypoplactic.specs.WordOperations.{moveWordRun}
 use Rattle.hypoplactic.specs.LineOperations.{tableauLine}
-use Rattle.hypoplactic.specs.Classes.{Faithful, FaithfulLines, FaithfullyWritten, FaithfulWriting, MovedTogether, in-neither, lineBytes, moveLeft}
-use Rattle.hypoplactic.proofs.Theory.Limits.{accepted-within, and-both}
+use Rattle.hypoplactic.specs.Classes.{Faithful, FaithfullyWritten, MovedTogether, in-neither, lineBytes, moveLeft}
+use Rattle.hypoplactic.proofs.Theory.Limits.{and-both, within-more}
 use Rattle.hypoplactic.proofs.Theory.MoveResults.{move-word-refused}
 use Rattle.hypoplactic.proofs.Theory.WrittenClasses.{line-bytes, move-left}
 use Rattle.ranks.specs.Unranked.{withoutRank}
@@ -57,30 +57,31 @@ module _ {A : Type 0} (line : ℕ → List ℕ → A) (move : ℕ → Move → L
         recordings = faith .recordings;
       }
 
--- ---- at a rank and at the largest
+-- ---- at a rank n and at one not smaller, m
 
--- A larger rank has the indices of a smaller one.
-index-more : (n m : ℕ) (k : Move) → n ≤ m → Has n k → Has m k
-index-more n m k l h =
-    let both : (ltb 0 (k .index) ≡ true) × (ltb (k .index) n ≡ true) = and-both (ltb 0 (k .index)) (ltb (k .index) n) h in
-    let below : k .index < n = ltb-true (k .index) n (both .1) in
-    rw (both .0, lt-ltb (k .index) m (omega arith))
+module _ (n m : ℕ) (up : n ≤ m) (most : m ≤ 64) where
+  -- The larger rank has the indices of the smaller,
+  index-more : (k : Move) → Has n k → Has m k
+  index-more k h =
+      let both : (ltb 0 (k .index) ≡ true) × (ltb (k .index) n ≡ true) = and-both (ltb 0 (k .index)) (ltb (k .index) n) h in
+      let below : k .index < n = ltb-true (k .index) n (both .1) in
+      rw (both .0, lt-ltb (k .index) m (omega arith))
 
--- The largest rank accepts every accepted word.
-largest : {n : ℕ} {w : List ℕ} → Accepted n w → Accepted 64 w
-largest a = record { rank-low = omega arith; rank-high = omega arith; short = a .short; letters = accepted-within a }
+  -- and accepts its words.
+  accepted-more : (w : List ℕ) → Accepted n w → Accepted m w
+  accepted-more w a = record { rank-low = omega (arith, a .rank-low); rank-high = most; short = a .short; letters = within-more w up (a .letters) }
 
 -- Lines of one rank agree without their rank fields exactly where they are equal.
 pub unranked-whole : (n : ℕ) (u v : List ℕ) → (unrankedLine n u ≡ unrankedLine n v) ↔ (tableauLine n u ≡ tableauLine n v)
 unfolding unrankedLine tableauLine
 unranked-whole n u v = (λ e. sym (tableau-ranked n _ _) ∙ ap (ranked n) e ∙ tableau-ranked n _ _, λ e. ap withoutRank e)
 
-pub ranks-lines : FaithfulRanks → FaithfulLines
+pub ranks-lines : FaithfulRanks → (n m : ℕ) (u v : List ℕ) → n ≤ m → m ≤ 64 → Accepted n u → Accepted n v → Faithful (tableauLine n) (moveWord n) u v
 unfolding unrankedLine tableauLine moveWord
-ranks-lines all n u v a b =
+ranks-lines all n m u v up most a b =
     let one : Faithful (unrankedLine n) (moveWord n) u v
-    = smaller-rank unrankedLine moveWord n 64 (λ k w e. rw e) u v (λ w. tableau-unranked n 64 _ _) (λ k h. index-more n 64 k (a .rank-high) h)
-    (λ k w h. rw (h, index-more n 64 k (a .rank-high) h)) (all n 64 u v a (largest b)) in
+    = smaller-rank unrankedLine moveWord n m (λ k w e. rw e) u v (λ w. tableau-unranked n m _ _) (index-more n m up most)
+    (λ k w h. rw (h, index-more n m up most k h)) (all n m u v a (accepted-more n m up most v b)) in
     record {
       shared = (λ e. one .shared .0 (unranked-whole n u v .1 e), λ j. unranked-whole n u v .0 (one .shared .1 j));
       together = one .together;
@@ -90,55 +91,59 @@ ranks-lines all n u v a b =
 
 -- ---- over what is written
 
-module _ (n : ℕ) (x y : List ℕ) (a : Accepted n x) (b : Accepted n y) where
-  -- Lines at the first rank are equal exactly where the bytes written at it and at the largest agree without their rank fields.
-  lines-bytes : (withoutRank (lineBytes n x (tableauLine n x)) ≡ withoutRank (lineBytes 64 y (tableauLine 64 y))) ↔ (tableauLine n x ≡ tableauLine n y)
+module _ (n m : ℕ) (up : n ≤ m) (most : m ≤ 64) where
+  -- Lines at the smaller rank are equal exactly where the bytes written at both agree without their rank fields.
+  lines-bytes : (x y : List ℕ) → Accepted n x → Accepted n y
+      → (withoutRank (lineBytes n x (tableauLine n x)) ≡ withoutRank (lineBytes m y (tableauLine m y))) ↔ (tableauLine n x ≡ tableauLine n y)
   unfolding unrankedLine tableauLine
-  lines-bytes =
-      let unranked : withoutRank (tableauLine 64 y) ≡ withoutRank (tableauLine n y) = tableau-unranked 64 n _ _ in
-      rw (line-bytes n x (tableauLine n x) a (le-refl _), line-bytes 64 y (tableauLine 64 y) (largest b) (le-refl _), unranked) (unranked-whole n x y)
+  lines-bytes x y a b =
+      let unranked : withoutRank (tableauLine m y) ≡ withoutRank (tableauLine n y) = tableau-unranked m n _ _ in
+      let there : Accepted m y = accepted-more n m up most y b in
+      rw (line-bytes n x (tableauLine n x) a (le-refl _), line-bytes m y (tableauLine m y) there (le-refl _), unranked) (unranked-whole n x y)
 
-module _ (n : ℕ) (u v : List ℕ) (a : Accepted n u) (b : Accepted n v) (faith : WrittenAcross n 64 u v) where
-  -- The lines of joined words,
-  joined-lines : (tableauLine n u ≡ tableauLine n v) ↔ Joined u v
-  joined-lines =
-      let bytes = faith .shared (tableauLine n u) (tableauLine 64 v) (le-refl _) (le-refl _) in
-      let lines = lines-bytes n u v a b in
-      (λ e. bytes .0 (lines .1 e), λ j. lines .0 (bytes .1 j))
+  module _ (u v : List ℕ) (a : Accepted n u) (b : Accepted n v) (faith : WrittenAcross n m u v) where
+    -- The lines of joined words,
+    joined-lines : (tableauLine n u ≡ tableauLine n v) ↔ Joined u v
+    joined-lines =
+        let bytes = faith .shared (tableauLine n u) (tableauLine m v) (le-refl _) (le-refl _) in
+        let lines = lines-bytes u v a b in
+        (λ e. bytes .0 (lines .1 e), λ j. lines .0 (bytes .1 j))
 
-  -- At an index of the rank the record speaks of the same move at both ranks; at any other the move is refused with 9, and the words stay.
-  module _ (j : Joined u v) (k : Move) where
-    other : (w : List ℕ) → Accepted n w → indexOf n (k .index) ≡ false → moveWordRun n k w ≡ (refused 9 0, w)
-    other w c e = move-word-refused n k w c (rw e refl) ∙ rw e refl
+    -- and a move: at an index of the smaller rank it is the same at both; at any other it is refused with 9, and the words stay.
+    module _ (j : Joined u v) (k : Move) where
+      other : (w : List ℕ) → Accepted n w → indexOf n (k .index) ≡ false → moveWordRun n k w ≡ (refused 9 0, w)
+      other w c e = move-word-refused n k w c (rw e refl) ∙ rw e refl
 
-    same : Has n k → moveWordRun n k v ≡ moveWordRun 64 k v
-    same h = move-at-both n 64 k v b (largest b) h (index-more n 64 k (a .rank-high) h)
+      same : Has n k → moveWordRun n k v ≡ moveWordRun m k v
+      same h = move-at-both n m k v b (accepted-more n m up most v b) h (index-more n m up most k h)
 
-    moved-at : (t : Bool) → indexOf n (k .index) ≡ t → MovedTogether (given (k .side) (k .index)) u v (moveWordRun n k u) (moveWordRun n k v)
-    moved-at true h = rw (same h) (faith .together j k h (index-more n 64 k (a .rank-high) h))
-    moved-at false e = rw (other u a e, other v b e) (in-neither 9)
+      moved-at : (t : Bool) → indexOf n (k .index) ≡ t → MovedTogether (given (k .side) (k .index)) u v (moveWordRun n k u) (moveWordRun n k v)
+      moved-at true h = rw (same h) (faith .together j k h (index-more n m up most k h))
+      moved-at false e = rw (other u a e, other v b e) (in-neither 9)
 
-    left-at : (t : Bool) → indexOf n (k .index) ≡ t → tableauLine n (moveLeft n k u) ≡ tableauLine n (moveLeft n k v)
-    left-at true h =
-        let x : List ℕ = moveLeft n k u in
-        let y : List ℕ = moveLeft 64 k v in
-        let here : moveLeft n k v ≡ y = ap (λ (r : Said × List ℕ). r .1) (same h) in
-        rw here
-        (lines-bytes n x y (move-left n k u a) (rw (← here) (move-left n k v b)) .0
-        (faith .results j k h (index-more n 64 k (a .rank-high) h) (tableauLine n x) (tableauLine 64 y) (le-refl _) (le-refl _)))
-    left-at false e =
-        let stays : (w : List ℕ) → Accepted n w → tableauLine n (moveLeft n k w) ≡ tableauLine n w
-        = λ w c. ap (λ (r : Said × List ℕ). tableauLine n (r .1)) (other w c e) in
-        stays u a ∙ joined-lines .1 j ∙ sym (stays v b)
+      left-at : (t : Bool) → indexOf n (k .index) ≡ t → tableauLine n (moveLeft n k u) ≡ tableauLine n (moveLeft n k v)
+      left-at true h =
+          let x : List ℕ = moveLeft n k u in
+          let y : List ℕ = moveLeft m k v in
+          let here : moveLeft n k v ≡ y = ap (λ (r : Said × List ℕ). r .1) (same h) in
+          rw here
+          (lines-bytes x y (move-left n k u a) (rw (← here) (move-left n k v b)) .0
+          (faith .results j k h (index-more n m up most k h) (tableauLine n x) (tableauLine m y) (le-refl _) (le-refl _)))
+      left-at false e =
+          let stays : (w : List ℕ) → Accepted n w → tableauLine n (moveLeft n k w) ≡ tableauLine n w
+          = λ w c. ap (λ (r : Said × List ℕ). tableauLine n (r .1)) (other w c e) in
+          stays u a ∙ joined-lines .1 j ∙ sym (stays v b)
 
-pub ranks-writing : WrittenRanks → FaithfulWriting
-ranks-writing all n u v a b =
-    let faith : WrittenAcross n 64 u v = all n 64 u v a (largest b) in
-    record {
-      shared = λ out out′ l r. rw (line-bytes n u out a l, line-bytes n v out′ b r) (joined-lines n u v a b faith);
-      together = λ j k. moved-at n u v a b faith j k (indexOf n (k .index)) refl;
-      results = λ j k out out′ l r.
-          line-bytes n (moveLeft n k u) out (move-left n k u a) l ∙ left-at n u v a b faith j k (indexOf n (k .index)) refl
-          ∙ sym (line-bytes n (moveLeft n k v) out′ (move-left n k v b) r);
-      recordings = faith .recordings;
-    }
+    written-smaller : FaithfullyWritten n u v
+    written-smaller =
+        record {
+          shared = λ out out′ l r. rw (line-bytes n u out a l, line-bytes n v out′ b r) joined-lines;
+          together = λ j k. moved-at j k (indexOf n (k .index)) refl;
+          results = λ j k out out′ l r.
+              line-bytes n (moveLeft n k u) out (move-left n k u a) l ∙ left-at j k (indexOf n (k .index)) refl
+              ∙ sym (line-bytes n (moveLeft n k v) out′ (move-left n k v b) r);
+          recordings = faith .recordings;
+        }
+
+pub ranks-writing : WrittenRanks → (n m : ℕ) (u v : List ℕ) → n ≤ m → m ≤ 64 → Accepted n u → Accepted n v → FaithfullyWritten n u v
+ranks-writing all n m u v up most a b = written-smaller n m up most u v a b (all n m u v a (accepted-more n m up most v b))
