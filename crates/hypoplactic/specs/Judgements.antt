@@ -6,15 +6,17 @@
 --     fullJudged k, roomJudged need have                                     12, 13
 --     tableauRooms need letters marks                                        13 of a tableau's letters and marks
 --     wordJudgements, tableauJudgements, pairJudgements                      the lists that operations share
--- Assumes nothing.
+--     countedJudgements, countedPairJudgements                               the same of a tableau or a pair that brings letter counts: 17 directly after 6
+-- 17 itself is in Counts. Assumes nothing.
 use Prim.Native.Nat.{ℕ, zero, suc}
-use mathlib.Core.List.{List, [], _∷_}
+use mathlib.Core.List.{List, [], _∷_, _++_}
 use mathlib.Core.Bool.{Bool, _&&_, _||_, not}
 use lib.Dec.{eqb, ltb, leb}
 use lib.ListN.{length}
 use Rattle.hypoplactic.specs.Words.{count, occurs}
 use Rattle.hypoplactic.specs.Moves.{indexOf}
 use Rattle.hypoplactic.specs.Replies.{Said, passed, refuseIf}
+use Rattle.hypoplactic.specs.Counts.{countsJudged}
 
 -- Not from 1 to n.
 abbrev pub outside : ℕ → ℕ → Bool
@@ -130,3 +132,13 @@ abbrev pub pairJudgements : ℕ → List ℕ → List ℕ → List ℕ → List 
 pairJudgements n xs ms rs =
     rankJudged n ∷ lengthJudged (length xs) ∷ alikeJudged (length xs) (length ms ∷ length rs ∷ []) ∷ lettersJudged n xs ∷ risingJudged xs
     ∷ marksJudged xs ms ∷ entriesJudged (length xs) rs ∷ recordingJudged rs ms ∷ []
+
+-- 1 to 6 of a tableau, and 17 of its letter counts.
+abbrev pub countedJudgements : ℕ → List ℕ → List ℕ → List ℕ → List Said
+countedJudgements n xs ms cs = tableauJudgements n xs ms ++ (countsJudged cs xs ∷ [])
+
+-- 1 to 6 of a pair, 17 of its letter counts, 7 and 8.
+abbrev pub countedPairJudgements : ℕ → List ℕ → List ℕ → List ℕ → List ℕ → List Said
+countedPairJudgements n xs ms rs cs =
+    rankJudged n ∷ lengthJudged (length xs) ∷ alikeJudged (length xs) (length ms ∷ length rs ∷ []) ∷ lettersJudged n xs ∷ risingJudged xs
+    ∷ marksJudged xs ms ∷ countsJudged cs xs ∷ entriesJudged (length xs) rs ∷ recordingJudged rs ms ∷ []

@@ -10,6 +10,7 @@ pub mod Weights
 pub mod Replies
 pub mod Judgements
 pub mod FirstPlaces
+pub mod Counts
 pub mod WordOperations
 pub mod TableauOperations
 pub mod Repeats

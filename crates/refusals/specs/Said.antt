@@ -11,7 +11,7 @@ use Prim.Native.Nat.{ℕ}
 use mathlib.Core.List.{[], _∷_}
 use Rattle.hypoplactic.specs.Replies.{Said, gives, refused}
 use Rattle.refusals.specs.declared.refusal.Refusal.{Refusal}
-use Rattle.refusals.specs.declared.refusal.Refusal.the-variants.{Rank, Length, Parts, Letter, Falling, Mark, Entry, Step, Index, Inversion, NoLetter, Full, Room, Line, Large, PastLast}
+use Rattle.refusals.specs.declared.refusal.Refusal.the-variants.{Rank, Length, Parts, Letter, Falling, Mark, Entry, Step, Index, Inversion, NoLetter, Full, Room, Line, Large, PastLast, Count}
 use Rattle.refusals.specs.declared.answers.Verdict.{Verdict}
 use Rattle.refusals.specs.declared.answers.Verdict.the-variants as verdict
 use Rattle.refusals.specs.declared.answers.Fault.{Fault}
@@ -58,6 +58,7 @@ number (Room need) = 13
 number (Line p) = 14
 number Large = 15
 number PastLast = 16
+number (Count p) = 17
 
 abbrev pub place : Refusal → ℕ
 place Rank = 0
@@ -76,6 +77,7 @@ place (Room need) = need
 place (Line p) = p
 place Large = 0
 place PastLast = 0
+place (Count p) = p
 
 abbrev pub saidRefusal : Refusal → Said
 saidRefusal r = refused (number r) (place r)

@@ -37,6 +37,8 @@ pub enum Refusal {
     Large,
     // 16: the number of a word is not below the size of its class.
     PastLast,
+    // 17: the number at this place of the letter counts is not its letter's count.
+    Count(usize),
 }
 
 // A refusal as number and place, as the documents fix them.
@@ -96,5 +98,6 @@ pub fn number_and_place(refusal: Refusal) -> Returned
             number: 16,
             place: 0,
         },
+        Refusal::Count(place) => Returned { number: 17, place },
     }
 }
