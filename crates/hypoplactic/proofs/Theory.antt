@@ -48,6 +48,7 @@ pub mod Once
 pub mod Judgements
 pub mod StepJudgements
 pub mod FirstPlaces
+pub mod Counts
 pub mod Judged
 pub mod Results
 pub mod Looks

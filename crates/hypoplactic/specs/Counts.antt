@@ -1,5 +1,6 @@
 -- Letter counts (document 02, N6): 64 numbers that a tableau brings along, that of the letter a at place a - 1.
 --     countsOf w           how often each of the letters 1 to 64 stands in w
+--     withCounts xs        letters beside their counts
 --     countsJudged cs xs   17: the first of 64 places whose number is not how often its letter stands in xs
 --     TrueCounts xs cs     what 17 lets through: each of the 64 numbers is its letter's count
 --     oneMore cs a         the numbers after one more letter a
@@ -23,6 +24,10 @@ countsFrom (suc n) k w = count k w ∷ countsFrom n (suc k) w
 
 unfoldable pub countsOf : List ℕ → List ℕ
 countsOf w = countsFrom 64 1 w
+
+-- Letters beside their counts.
+abbrev pub withCounts : List ℕ → List ℕ × List ℕ
+withCounts xs = (xs, countsOf xs)
 
 -- Whether the number at place i is not the count of its letter.
 abbrev pub countFault : List ℕ → List ℕ → ℕ → Bool

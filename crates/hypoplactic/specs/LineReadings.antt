@@ -1,6 +1,6 @@
 -- What the readers of lines reply, and what the program prints for a text (document 01, "Lines", "The program").
 --     readWRun     14 1 2 4 13        gives rank and number of letters
---     readTRun     14, 1 to 6, 13     gives rank and number of cells
+--     readTRun     14, 1 to 6, 13     gives rank and number of cells; the letter counts are given too
 --     readNRun     14 2 7 13          gives the number of entries
 --     output text  the program's whole output for its whole input
 --     Outputs text the two kinds of output
@@ -16,6 +16,7 @@ use Rattle.grammar.specs.Lines.{eLine, wLine}
 use Rattle.grammar.specs.Reading.{Read, got, broken, readW, readT, readN}
 use Rattle.hypoplactic.specs.Words.{Accepted}
 use Rattle.hypoplactic.specs.Replies.{Said, gives, refused, first, ranTo, written}
+use Rattle.hypoplactic.specs.Counts.{countsOf}
 use Rattle.hypoplactic.specs.Judgements.{lengthJudged, entriesJudged, roomJudged, wordJudgements, tableauJudgements}
 use Rattle.hypoplactic.specs.LineOperations.{fourLines, lineRun, program}
 
@@ -37,15 +38,16 @@ unfoldable pub readWRun : List ℕ → List ℕ → Said × List ℕ
 readWRun text out = readRun text (λ v. wordRead out (v .0) (v .1)) out (readW text)
 
 -- The values of a T line: the checks of a tableau, then room for its letters and its marks.
-abbrev pub tableauRead : List ℕ → List ℕ → ℕ → List ℕ → List ℕ → Said × (List ℕ × List ℕ)
-tableauRead letters marks n xs ms =
+abbrev pub tableauRead : List ℕ → List ℕ → List ℕ → ℕ → List ℕ → List ℕ → Said × (List ℕ × (List ℕ × List ℕ))
+tableauRead letters marks counts n xs ms =
     ranTo
     (first (tableauJudgements n xs ms ++ (roomJudged (length xs) (length letters) ∷ roomJudged (length xs) (length marks) ∷ []))
     (gives (n ∷ length xs ∷ [])))
-    (written xs letters, written ms marks) (letters, marks)
+    (written xs letters, (written ms marks, countsOf xs)) (letters, (marks, counts))
 
-unfoldable pub readTRun : List ℕ → List ℕ → List ℕ → Said × (List ℕ × List ℕ)
-readTRun text letters marks = readRun text (λ v. tableauRead letters marks (v .0) (v .1) (v .2)) (letters, marks) (readT text)
+unfoldable pub readTRun : List ℕ → List ℕ → List ℕ → List ℕ → Said × (List ℕ × (List ℕ × List ℕ))
+readTRun text letters marks counts =
+    readRun text (λ v. tableauRead letters marks counts (v .0) (v .1) (v .2)) (letters, (marks, counts)) (readT text)
 
 -- The values of an N line, judged alone: 2 and 7, then room for the entries.
 abbrev pub recordingRead : List ℕ → List ℕ → Said × List ℕ

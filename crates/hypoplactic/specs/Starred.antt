@@ -2,18 +2,18 @@
 -- worked examples of the paper, a third the other checked words and the refusals.
 -- Whole outputs stand as texts. A reply stands as its numbers: 0 and the values, or the refusal's number and place; what lent memory then holds follows.
 -- That the two sides of every case are equal is proved in proofs/Theory/Starred.antt. Assumes nothing.
-use Prim.Native.Nat.{ℕ}
+use Prim.Native.Nat.{ℕ, _-_}
 use Prim.Native.Char.{code}
 use Prim.Native.String.{String, [] as ending, _∷_ as _∷ᶜ_}
 use mathlib.Core.List.{List, [], _∷_, _++_}
-use lib.ListN.{replicate}
+use lib.ListN.{length, replicate, set}
 use Rattle.hypoplactic.specs.Insertion.{Pair, insert, pairOf, lettersOf, marksOf, recordingOf}
 use Rattle.hypoplactic.specs.Reading.{columnReading}
 use Rattle.hypoplactic.specs.Moves.{Move, raising, lowering}
 use Rattle.hypoplactic.specs.Replies.{Said, gives, refused, passed, first}
 use Rattle.hypoplactic.specs.Judgements.{fullJudged, wordJudgements}
 use Rattle.hypoplactic.specs.WordOperations.{junctionSays, moveWordRun, repeatWordSays, sameClassSays, weightsSays}
-use Rattle.hypoplactic.specs.TableauOperations.{tableauSays, tableauRun, recordingRun, insertSays, wordSays, wordRun, readingRun, moveTableauRun, repeatTableauSays, viewerSays, lookSays}
+use Rattle.hypoplactic.specs.TableauOperations.{tableauSays, tableauRun, recordingRun, insertSays, wordSays, wordRun, readingSays, readingRun, moveTableauRun, repeatTableauSays, viewerSays, lookSays}
 use Rattle.hypoplactic.specs.LineOperations.{tableauLineRun}
 use Rattle.hypoplactic.specs.LineReadings.{output, readNRun, readTRun}
 
@@ -34,6 +34,14 @@ outcome r = numbers (r .0) ++ r .1
 -- A reply and two lent lists after it, one behind the other.
 abbrev pub outcomes : Said × (List ℕ × List ℕ) → List ℕ
 outcomes r = numbers (r .0) ++ (r .1 .0 ++ r .1 .1)
+
+-- A reply and a tableau after it: letters, marks, and all 64 letter counts.
+abbrev pub tableauOutcome : Said × (List ℕ × (List ℕ × List ℕ)) → List ℕ
+tableauOutcome r = numbers (r .0) ++ (r .1 .0 ++ (r .1 .1 .0 ++ r .1 .1 .1))
+
+-- The 64 counts of which the first are given, and the others 0.
+abbrev pub counts : List ℕ → List ℕ
+counts cs = cs ++ replicate (64 - length cs) 0
 
 -- Lent memory of so many elements, each a number that no starred case writes.
 abbrev pub lent : ℕ → List ℕ
@@ -76,27 +84,34 @@ m12446553275 = 0 ∷ 0 ∷ 0 ∷ 1 ∷ 1 ∷ 0 ∷ 0 ∷ 0 ∷ 0 ∷ 1 ∷ 0 ∷
 abbrev pub r12446553275 : List ℕ
 r12446553275 = 1 ∷ 2 ∷ 9 ∷ 8 ∷ 3 ∷ 4 ∷ 6 ∷ 7 ∷ 11 ∷ 5 ∷ 10 ∷ []
 
+-- The letter counts of both.
+abbrev pub c4323 : List ℕ
+c4323 = counts (0 ∷ 1 ∷ 2 ∷ 1 ∷ [])
+
+abbrev pub c12446553275 : List ℕ
+c12446553275 = counts (1 ∷ 2 ∷ 1 ∷ 2 ∷ 3 ∷ 1 ∷ 1 ∷ [])
+
 unfoldable pub starredCases : List Case
 starredCases =
     -- 4323 at rank 4: the four lines
     case (output (text "W,4,4,4,3,2,3\n")) (text "T,4,4,2,d,3,r,3,d,4\nN,4,3,2,4,1\nW,4,4,3,2,4,3\nJ,6,3\n")
     -- and so its ribbons, the way back, the column reading, the junction set and the rows; here and below one element lies beyond those needed
-    ∷ case (outcomes (tableauRun 4 w4323 (lent 5) (lent 5))) (0 ∷ 4 ∷ 2 ∷ 3 ∷ 3 ∷ 4 ∷ 99 ∷ 0 ∷ 1 ∷ 0 ∷ 1 ∷ 99 ∷ [])
+    ∷ case (tableauOutcome (tableauRun 4 w4323 (lent 5) (lent 5) (lent 64))) (0 ∷ 4 ∷ 2 ∷ 3 ∷ 3 ∷ 4 ∷ 99 ∷ 0 ∷ 1 ∷ 0 ∷ 1 ∷ 99 ∷ c4323)
     ∷ case (outcome (recordingRun 4 w4323 (lent 5))) (0 ∷ 4 ∷ 3 ∷ 2 ∷ 4 ∷ 1 ∷ 99 ∷ [])
-    ∷ case (outcome (wordRun 4 (2 ∷ 3 ∷ 3 ∷ 4 ∷ []) (0 ∷ 1 ∷ 0 ∷ 1 ∷ []) (3 ∷ 2 ∷ 4 ∷ 1 ∷ []) (lent 5))) (0 ∷ 4 ∷ 4 ∷ 3 ∷ 2 ∷ 3 ∷ 99 ∷ [])
-    ∷ case (outcome (readingRun 4 (2 ∷ 3 ∷ 3 ∷ 4 ∷ []) (0 ∷ 1 ∷ 0 ∷ 1 ∷ []) (lent 5))) (0 ∷ 4 ∷ 3 ∷ 2 ∷ 4 ∷ 3 ∷ 99 ∷ [])
+    ∷ case (outcome (wordRun 4 (2 ∷ 3 ∷ 3 ∷ 4 ∷ []) (0 ∷ 1 ∷ 0 ∷ 1 ∷ []) (3 ∷ 2 ∷ 4 ∷ 1 ∷ []) c4323 (lent 5))) (0 ∷ 4 ∷ 4 ∷ 3 ∷ 2 ∷ 3 ∷ 99 ∷ [])
+    ∷ case (outcome (readingRun 4 (2 ∷ 3 ∷ 3 ∷ 4 ∷ []) (0 ∷ 1 ∷ 0 ∷ 1 ∷ []) c4323 (lent 5))) (0 ∷ 4 ∷ 3 ∷ 2 ∷ 4 ∷ 3 ∷ 99 ∷ [])
     ∷ case (numbers (junctionSays 4 w4323)) (0 ∷ 6 ∷ 3 ∷ [])
     -- 12446553275 at rank 7: letters and marks, recording, and back
-    ∷ case (outcomes (tableauRun 7 w12446553275 (lent 12) (lent 12))) (0 ∷ 11 ∷ (x12446553275 ++ 99 ∷ (m12446553275 ++ 99 ∷ [])))
+    ∷ case (tableauOutcome (tableauRun 7 w12446553275 (lent 12) (lent 12) (lent 64))) (0 ∷ 11 ∷ (x12446553275 ++ 99 ∷ (m12446553275 ++ 99 ∷ c12446553275)))
     ∷ case (outcome (recordingRun 7 w12446553275 (lent 12))) (0 ∷ 11 ∷ (r12446553275 ++ 99 ∷ []))
-    ∷ case (outcome (wordRun 7 x12446553275 m12446553275 r12446553275 (lent 12))) (0 ∷ 11 ∷ (w12446553275 ++ 99 ∷ []))
+    ∷ case (outcome (wordRun 7 x12446553275 m12446553275 r12446553275 c12446553275 (lent 12))) (0 ∷ 11 ∷ (w12446553275 ++ 99 ∷ []))
     -- the empty word at rank 4
     ∷ case (output (text "W,4,0\n")) (text "T,4,0\nN,0\nW,4,0\nJ,0,0\n")
     -- 433 at rank 4: its tableau and the tableau's line, recording, column reading
-    ∷ case (outcomes (tableauRun 4 w433 (lent 4) (lent 4))) (0 ∷ 3 ∷ 3 ∷ 3 ∷ 4 ∷ 99 ∷ 0 ∷ 0 ∷ 1 ∷ 99 ∷ [])
+    ∷ case (tableauOutcome (tableauRun 4 w433 (lent 4) (lent 4) (lent 64))) (0 ∷ 3 ∷ 3 ∷ 3 ∷ 4 ∷ 99 ∷ 0 ∷ 0 ∷ 1 ∷ 99 ∷ counts (0 ∷ 0 ∷ 2 ∷ 1 ∷ []))
     ∷ case (outcome (tableauLineRun 4 w433 (lent 17))) (0 ∷ 16 ∷ (text "T,4,3,3,r,3,d,4\n" ++ 99 ∷ []))
     ∷ case (outcome (recordingRun 4 w433 (lent 4))) (0 ∷ 3 ∷ 2 ∷ 3 ∷ 1 ∷ 99 ∷ [])
-    ∷ case (outcome (readingRun 4 (3 ∷ 3 ∷ 4 ∷ []) (0 ∷ 0 ∷ 1 ∷ []) (lent 4))) (0 ∷ 3 ∷ 3 ∷ 4 ∷ 3 ∷ 99 ∷ [])
+    ∷ case (outcome (readingRun 4 (3 ∷ 3 ∷ 4 ∷ []) (0 ∷ 0 ∷ 1 ∷ []) (counts (0 ∷ 0 ∷ 2 ∷ 1 ∷ [])) (lent 4))) (0 ∷ 3 ∷ 3 ∷ 4 ∷ 3 ∷ 99 ∷ [])
     -- 243245565 at rank 6
     ∷ case (outcome (recordingRun 6 (2 ∷ 4 ∷ 3 ∷ 2 ∷ 4 ∷ 5 ∷ 5 ∷ 6 ∷ 5 ∷ []) (lent 10))) (0 ∷ 9 ∷ 1 ∷ 4 ∷ 3 ∷ 2 ∷ 5 ∷ 6 ∷ 7 ∷ 9 ∷ 8 ∷ 99 ∷ [])
     -- moves at rank 3: a move that is made replies 0 and the changed place
@@ -146,11 +161,11 @@ refusalCases =
     ∷ case (numbers (first (wordJudgements 1 (replicate 1025 2)) passed)) (2 ∷ 0 ∷ [])
     -- 3: parts that differ in length; a used count above a buffer
     ∷ case (numbers (viewerSays 4 (1 ∷ 2 ∷ []) (0 ∷ []))) (3 ∷ 0 ∷ [])
-    ∷ case (numbers (insertSays 4 2 1 (pair (1 ∷ 2 ∷ 3 ∷ []) (0 ∷ 0 ∷ 0 ∷ []) (1 ∷ [])))) (3 ∷ 0 ∷ [])
+    ∷ case (numbers (insertSays 4 2 1 (pair (1 ∷ 2 ∷ 3 ∷ []) (0 ∷ 0 ∷ 0 ∷ []) (1 ∷ [])) (counts (1 ∷ 1 ∷ [])))) (3 ∷ 0 ∷ [])
     -- 4: in a word, in a second word, in the letter to be inserted; what the program prints
     ∷ case (numbers (junctionSays 4 (3 ∷ 5 ∷ 0 ∷ []))) (4 ∷ 1 ∷ [])
     ∷ case (numbers (sameClassSays 4 (1 ∷ 2 ∷ []) 3 (3 ∷ 4 ∷ []))) (4 ∷ 3 ∷ [])
-    ∷ case (numbers (insertSays 4 2 5 (pair (2 ∷ 1 ∷ 0 ∷ []) (0 ∷ 0 ∷ 0 ∷ []) (1 ∷ 2 ∷ 0 ∷ [])))) (4 ∷ 2 ∷ [])
+    ∷ case (numbers (insertSays 4 2 5 (pair (2 ∷ 1 ∷ 0 ∷ []) (0 ∷ 0 ∷ 0 ∷ []) (1 ∷ 2 ∷ 0 ∷ [])) (counts []))) (4 ∷ 2 ∷ [])
     ∷ case (output (text "W,4,1,5\n")) (text "E,4,0\n")
     -- 5, 6: the later cell; a first mark that is not 0, a mark that is none, down between equals
     ∷ case (numbers (viewerSays 4 (1 ∷ 3 ∷ 2 ∷ []) (1 ∷ 0 ∷ 0 ∷ []))) (5 ∷ 2 ∷ [])
@@ -158,31 +173,39 @@ refusalCases =
     ∷ case (numbers (viewerSays 4 (1 ∷ 2 ∷ 3 ∷ []) (0 ∷ 1 ∷ 2 ∷ []))) (6 ∷ 2 ∷ [])
     ∷ case (numbers (viewerSays 4 (1 ∷ 1 ∷ 2 ∷ []) (0 ∷ 1 ∷ 2 ∷ []))) (6 ∷ 1 ∷ [])
     -- 7: an entry 0, above L, met before
-    ∷ case (numbers (wordSays 4 (1 ∷ 2 ∷ []) (0 ∷ 0 ∷ []) (0 ∷ 3 ∷ []) 2)) (7 ∷ 0 ∷ [])
-    ∷ case (numbers (wordSays 4 (1 ∷ 2 ∷ []) (0 ∷ 0 ∷ []) (2 ∷ 3 ∷ []) 2)) (7 ∷ 1 ∷ [])
-    ∷ case (numbers (wordSays 4 (1 ∷ 2 ∷ 2 ∷ []) (0 ∷ 0 ∷ 0 ∷ []) (3 ∷ 1 ∷ 3 ∷ []) 3)) (7 ∷ 2 ∷ [])
+    ∷ case (numbers (wordSays 4 (1 ∷ 2 ∷ []) (0 ∷ 0 ∷ []) (0 ∷ 3 ∷ []) (counts (1 ∷ 1 ∷ [])) 2)) (7 ∷ 0 ∷ [])
+    ∷ case (numbers (wordSays 4 (1 ∷ 2 ∷ []) (0 ∷ 0 ∷ []) (2 ∷ 3 ∷ []) (counts (1 ∷ 1 ∷ [])) 2)) (7 ∷ 1 ∷ [])
+    ∷ case (numbers (wordSays 4 (1 ∷ 2 ∷ 2 ∷ []) (0 ∷ 0 ∷ 0 ∷ []) (3 ∷ 1 ∷ 3 ∷ []) (counts (1 ∷ 2 ∷ [])) 3)) (7 ∷ 2 ∷ [])
     -- 8: a rise at a down step, a fall at a right step
-    ∷ case (numbers (wordSays 4 (1 ∷ 2 ∷ []) (0 ∷ 1 ∷ []) (1 ∷ 2 ∷ []) 2)) (8 ∷ 1 ∷ [])
-    ∷ case (numbers (wordSays 4 (1 ∷ 2 ∷ 2 ∷ []) (0 ∷ 0 ∷ 0 ∷ []) (1 ∷ 3 ∷ 2 ∷ []) 3)) (8 ∷ 2 ∷ [])
+    ∷ case (numbers (wordSays 4 (1 ∷ 2 ∷ []) (0 ∷ 1 ∷ []) (1 ∷ 2 ∷ []) (counts (1 ∷ 1 ∷ [])) 2)) (8 ∷ 1 ∷ [])
+    ∷ case (numbers (wordSays 4 (1 ∷ 2 ∷ 2 ∷ []) (0 ∷ 0 ∷ 0 ∷ []) (1 ∷ 3 ∷ 2 ∷ []) (counts (1 ∷ 2 ∷ [])) 3)) (8 ∷ 2 ∷ [])
     -- 9: rank 1 has no move; index 0, and the rank itself; 11 for the empty word
     ∷ case (outcome (moveWordRun 1 (lower 1) (1 ∷ []))) (9 ∷ 0 ∷ 1 ∷ [])
     ∷ case (outcome (moveWordRun 3 (lower 0) (1 ∷ []))) (9 ∷ 0 ∷ 1 ∷ [])
-    ∷ case (numbers (repeatTableauSays 3 (raise 3) (1 ∷ []) (0 ∷ []))) (9 ∷ 0 ∷ [])
+    ∷ case (numbers (repeatTableauSays 3 (raise 3) (1 ∷ []) (0 ∷ []) (counts (1 ∷ [])))) (9 ∷ 0 ∷ [])
     ∷ case (outcome (moveWordRun 4 (raise 3) [])) (11 ∷ 0 ∷ [])
-    -- 10, 11 on a tableau: 3 directly below 2, and 3 right of 2
-    ∷ case (outcome (moveTableauRun 4 (raise 2) (2 ∷ 3 ∷ []) (0 ∷ 1 ∷ []))) (10 ∷ 0 ∷ 2 ∷ 3 ∷ [])
-    ∷ case (outcome (moveTableauRun 4 (raise 2) (2 ∷ 3 ∷ 3 ∷ []) (0 ∷ 0 ∷ 0 ∷ []))) (0 ∷ 1 ∷ 2 ∷ 2 ∷ 3 ∷ [])
-    ∷ case (outcome (moveTableauRun 4 (lower 1) (2 ∷ 3 ∷ []) (0 ∷ 1 ∷ []))) (11 ∷ 0 ∷ 2 ∷ 3 ∷ [])
+    -- 10, 11 on a tableau: 3 directly below 2, and 3 right of 2, where two counts change with the letter
+    ∷ case (outcomes (moveTableauRun 4 (raise 2) (2 ∷ 3 ∷ []) (0 ∷ 1 ∷ []) (counts (0 ∷ 1 ∷ 1 ∷ [])))) (10 ∷ 0 ∷ 2 ∷ 3 ∷ counts (0 ∷ 1 ∷ 1 ∷ []))
+    ∷ case (outcomes (moveTableauRun 4 (raise 2) (2 ∷ 3 ∷ 3 ∷ []) (0 ∷ 0 ∷ 0 ∷ []) (counts (0 ∷ 1 ∷ 2 ∷ []))))
+    (0 ∷ 1 ∷ 2 ∷ 2 ∷ 3 ∷ counts (0 ∷ 2 ∷ 1 ∷ []))
+    ∷ case (outcomes (moveTableauRun 4 (lower 1) (2 ∷ 3 ∷ []) (0 ∷ 1 ∷ []) (counts (0 ∷ 1 ∷ 1 ∷ [])))) (11 ∷ 0 ∷ 2 ∷ 3 ∷ counts (0 ∷ 1 ∷ 1 ∷ []))
     -- 12, 13: full; the first output that is too short
     ∷ case (numbers (fullJudged 1024)) (12 ∷ 1024 ∷ [])
-    ∷ case (numbers (insertSays 4 1 3 (pair (1 ∷ []) (0 ∷ 0 ∷ []) (1 ∷ 0 ∷ [])))) (13 ∷ 2 ∷ [])
+    ∷ case (numbers (insertSays 4 1 3 (pair (1 ∷ []) (0 ∷ 0 ∷ []) (1 ∷ 0 ∷ [])) (counts (1 ∷ [])))) (13 ∷ 2 ∷ [])
     ∷ case (numbers (tableauSays 4 w433 3 2)) (13 ∷ 3 ∷ [])
     ∷ case (outcome (recordingRun 4 w433 (9 ∷ 9 ∷ []))) (13 ∷ 3 ∷ 9 ∷ 9 ∷ [])
     -- 14: too few letters, and each reader's own first wrong byte
     ∷ case (output (text "W,4,2,3\n")) (text "E,14,7\n")
     ∷ case (output (text "W,99,2,3\n")) (text "E,14,8\n")
-    ∷ case (numbers ((readTRun (text "T,4,1,3,r") (9 ∷ []) (9 ∷ [])) .0)) (14 ∷ 7 ∷ [])
-    ∷ case (numbers ((readTRun (text "T,4,2,3,d,3\n") (9 ∷ 9 ∷ []) (9 ∷ 9 ∷ [])) .0)) (6 ∷ 1 ∷ [])
+    ∷ case (numbers ((readTRun (text "T,4,1,3,r") (9 ∷ []) (9 ∷ []) (lent 64)) .0)) (14 ∷ 7 ∷ [])
+    ∷ case (numbers ((readTRun (text "T,4,2,3,d,3\n") (9 ∷ 9 ∷ []) (9 ∷ 9 ∷ []) (lent 64)) .0)) (6 ∷ 1 ∷ [])
     ∷ case (outcome (readNRun (text "N,2,2,2\n") (9 ∷ 9 ∷ []))) (7 ∷ 1 ∷ 9 ∷ 9 ∷ [])
     ∷ case (outcome (readNRun (text "N,2,2,1\n") (9 ∷ 9 ∷ 9 ∷ []))) (0 ∷ 2 ∷ 2 ∷ 1 ∷ 9 ∷ [])
+    -- 17: the first wrong count, of the letter 1, of 3 and of 64, whose count is to be 0; in insertion the counts of the used letters
+    ∷ case (numbers (repeatTableauSays 4 (raise 2) (2 ∷ 3 ∷ 3 ∷ 4 ∷ []) (0 ∷ 1 ∷ 0 ∷ 1 ∷ []) (counts (1 ∷ 0 ∷ 2 ∷ 1 ∷ [])))) (17 ∷ 0 ∷ [])
+    ∷ case (outcomes (moveTableauRun 4 (lower 3) (2 ∷ 3 ∷ 3 ∷ []) (0 ∷ 1 ∷ 0 ∷ []) (counts (0 ∷ 1 ∷ 1 ∷ 1 ∷ []))))
+    (17 ∷ 2 ∷ 2 ∷ 3 ∷ 3 ∷ counts (0 ∷ 1 ∷ 1 ∷ 1 ∷ []))
+    ∷ case (numbers (readingSays 4 (2 ∷ 3 ∷ 3 ∷ 4 ∷ []) (0 ∷ 1 ∷ 0 ∷ 1 ∷ []) (set c4323 63 1) 4)) (17 ∷ 63 ∷ [])
+    ∷ case (numbers (insertSays 4 2 1 (pair (1 ∷ 2 ∷ 3 ∷ []) (0 ∷ 0 ∷ 0 ∷ []) (1 ∷ 2 ∷ 3 ∷ [])) (counts (1 ∷ 1 ∷ 1 ∷ [])))) (17 ∷ 2 ∷ [])
+    ∷ case (numbers (insertSays 4 2 1 (pair (1 ∷ 2 ∷ 3 ∷ []) (0 ∷ 0 ∷ 0 ∷ []) (1 ∷ 2 ∷ 3 ∷ [])) (counts (1 ∷ 1 ∷ [])))) (0 ∷ 3 ∷ [])
     ∷ []

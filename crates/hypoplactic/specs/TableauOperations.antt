@@ -1,13 +1,14 @@
--- What the operations on tableaux and pairs reply to every input, and what lent memory then holds (document 01; the checks in order).
---     tableauRun, recordingRun      1 2 4 13                 give the cells written
---     insertRun                     1 2 3 4 5 6 7 8 12 13    gives the new used count
---     wordRun                       1 to 8, 13               gives the letters written
---     readingRun                    1 to 6, 13               gives the letters written
---     moveTableauRun                1 to 6, 9 10 11          gives the place of the changed cell; letters change in place, marks do not
---     repeatTableauSays             1 to 6, 9                gives the repeat count
---     viewerSays, lookSays          1 to 6                   gives no value; gives letter, row and column, or no value for "no such cell"
---     throughSays                   those of the making      the same look, from what the making said
--- A lent list keeps its elements beyond those needed. Assumes nothing.
+-- What the operations on tableaux and pairs reply to every input, and what lent memory then holds (documents 01 and 02; the checks in order).
+--     tableauRun                    1 2 4 13                    gives the cells written; the letter counts are given too
+--     recordingRun                  1 2 4 13                    gives the entries written
+--     insertRun                     1 2 3 4 5 6 17 7 8 12 13    gives the new used count; one letter is counted more
+--     wordRun                       1 to 6, 17, 7 8 13          gives the letters written
+--     readingRun                    1 to 6, 17, 13              gives the letters written
+--     moveTableauRun                1 to 6, 17, 9 10 11         gives the place of the changed cell; letters and two counts change in place, marks do not
+--     repeatTableauSays             1 to 6, 17, 9               gives the repeat count
+--     viewerSays, lookSays          1 to 6                      gives no value; gives letter, row and column, or no value for "no such cell"
+--     throughSays                   those of the making         the same look, from what the making said
+-- A tableau that is taken or given brings its letter counts; the viewer takes none. A lent list keeps its elements beyond those needed. Assumes nothing.
 use Prim.Native.Nat.{ℕ, suc}
 use mathlib.Core.List.{List, [], _∷_, _++_}
 use mathlib.Core.Bool.{Bool, cond}
@@ -16,18 +17,20 @@ use lib.ListN.{length, take, getD}
 use Rattle.hypoplactic.specs.Ribbons.{rowAt, columnAt}
 use Rattle.hypoplactic.specs.Insertion.{Pair, insert, lettersOf, marksOf, recordingOf, wordOf}
 use Rattle.hypoplactic.specs.Reading.{columnReading}
-use Rattle.hypoplactic.specs.Moves.{Move, below, changedPlace, movedTableau, repeatTableau}
+use Rattle.hypoplactic.specs.Moves.{Move, below, changedPlace, given, movedTableau, repeatTableau, taken}
 use Rattle.hypoplactic.specs.Replies.{Said, gives, passed, orElse, first, ranTo, written}
-use Rattle.hypoplactic.specs.Judgements.{rankJudged, lengthJudged, usedJudged, lettersJudged, risingJudged, marksJudged, entriesJudged, recordingJudged, indexJudged, fullJudged, roomJudged, tableauRooms, wordJudgements, tableauJudgements, pairJudgements}
+use Rattle.hypoplactic.specs.Counts.{countsJudged, countsOf, oneMore, oneOver}
+use Rattle.hypoplactic.specs.Judgements.{rankJudged, lengthJudged, usedJudged, lettersJudged, risingJudged, marksJudged, entriesJudged, recordingJudged, indexJudged, fullJudged, roomJudged, tableauRooms, wordJudgements, tableauJudgements, countedJudgements, countedPairJudgements}
 use Rattle.hypoplactic.specs.WordOperations.{moveJudgements, orSame, placeTold}
 
--- Tableau of a word, into lent letters and marks.
+-- Tableau of a word, into lent letters, marks and counts.
 unfoldable pub tableauSays : ℕ → List ℕ → ℕ → ℕ → Said
 tableauSays n w letters marks = first (wordJudgements n w ++ tableauRooms (length w) letters marks) (gives (length w ∷ []))
 
-unfoldable pub tableauRun : ℕ → List ℕ → List ℕ → List ℕ → Said × (List ℕ × List ℕ)
-tableauRun n w letters marks =
-    ranTo (tableauSays n w (length letters) (length marks)) (written (lettersOf w) letters, written (marksOf w) marks) (letters, marks)
+unfoldable pub tableauRun : ℕ → List ℕ → List ℕ → List ℕ → List ℕ → Said × (List ℕ × (List ℕ × List ℕ))
+tableauRun n w letters marks counts =
+    ranTo (tableauSays n w (length letters) (length marks)) (written (lettersOf w) letters, (written (marksOf w) marks, countsOf w))
+    (letters, (marks, counts))
 
 -- Recording ribbon of a word, into lent entries.
 unfoldable pub recordingSays : ℕ → List ℕ → ℕ → Said
@@ -36,17 +39,17 @@ recordingSays n w entries = first (wordJudgements n w ++ (roomJudged (length w) 
 unfoldable pub recordingRun : ℕ → List ℕ → List ℕ → Said × List ℕ
 recordingRun n w entries = ranTo (recordingSays n w (length entries)) (written (recordingOf w) entries) entries
 
--- Insertion of a into the pair in the first cells of three lent lists, of which so many are used. The letter to be inserted has the used
--- count as its place.
-unfoldable pub insertSays : ℕ → ℕ → ℕ → Pair → Said
-insertSays n used a p =
+-- Insertion of a into the pair in the first cells of three lent lists, of which so many are used, beside the counts of the used letters. The letter to be
+-- inserted has the used count as its place.
+unfoldable pub insertSays : ℕ → ℕ → ℕ → Pair → List ℕ → Said
+insertSays n used a p cs =
     let xs : List ℕ = take used (p .letters) in
     let ms : List ℕ = take used (p .marks) in
     let rs : List ℕ = take used (p .recording) in
     first
     (rankJudged n ∷ lengthJudged used ∷ usedJudged used (length (p .letters) ∷ length (p .marks) ∷ length (p .recording) ∷ [])
-    ∷ lettersJudged n (xs ++ a ∷ []) ∷ risingJudged xs ∷ marksJudged xs ms ∷ entriesJudged used rs ∷ recordingJudged rs ms
-    ∷ fullJudged used ∷ roomJudged (suc used) (length (p .letters)) ∷ roomJudged (suc used) (length (p .marks))
+    ∷ lettersJudged n (xs ++ a ∷ []) ∷ risingJudged xs ∷ marksJudged xs ms ∷ countsJudged cs xs ∷ entriesJudged used rs
+    ∷ recordingJudged rs ms ∷ fullJudged used ∷ roomJudged (suc used) (length (p .letters)) ∷ roomJudged (suc used) (length (p .marks))
     ∷ roomJudged (suc used) (length (p .recording)) ∷ [])
     (gives (suc used ∷ []))
 
@@ -63,34 +66,35 @@ writtenPair q old =
       recording = written (q .recording) (old .recording);
     }
 
-unfoldable pub insertRun : ℕ → ℕ → ℕ → Pair → Said × Pair
-insertRun n used a p = ranTo (insertSays n used a p) (writtenPair (insert a (usedCells used p)) p) p
+unfoldable pub insertRun : ℕ → ℕ → ℕ → Pair → List ℕ → Said × (Pair × List ℕ)
+insertRun n used a p cs = ranTo (insertSays n used a p cs) (writtenPair (insert a (usedCells used p)) p, oneMore cs a) (p, cs)
 
 -- Pair back to word.
-unfoldable pub wordSays : ℕ → List ℕ → List ℕ → List ℕ → ℕ → Said
-wordSays n xs ms rs room = first (pairJudgements n xs ms rs ++ (roomJudged (length xs) room ∷ [])) (gives (length xs ∷ []))
+unfoldable pub wordSays : ℕ → List ℕ → List ℕ → List ℕ → List ℕ → ℕ → Said
+wordSays n xs ms rs cs room = first (countedPairJudgements n xs ms rs cs ++ (roomJudged (length xs) room ∷ [])) (gives (length xs ∷ []))
 
-unfoldable pub wordRun : ℕ → List ℕ → List ℕ → List ℕ → List ℕ → Said × List ℕ
-wordRun n xs ms rs out = ranTo (wordSays n xs ms rs (length out)) (written (wordOf xs rs) out) out
+unfoldable pub wordRun : ℕ → List ℕ → List ℕ → List ℕ → List ℕ → List ℕ → Said × List ℕ
+wordRun n xs ms rs cs out = ranTo (wordSays n xs ms rs cs (length out)) (written (wordOf xs rs) out) out
 
 -- Column reading of a tableau.
-unfoldable pub readingSays : ℕ → List ℕ → List ℕ → ℕ → Said
-readingSays n xs ms room = first (tableauJudgements n xs ms ++ (roomJudged (length xs) room ∷ [])) (gives (length xs ∷ []))
+unfoldable pub readingSays : ℕ → List ℕ → List ℕ → List ℕ → ℕ → Said
+readingSays n xs ms cs room = first (countedJudgements n xs ms cs ++ (roomJudged (length xs) room ∷ [])) (gives (length xs ∷ []))
 
-unfoldable pub readingRun : ℕ → List ℕ → List ℕ → List ℕ → Said × List ℕ
-readingRun n xs ms out = ranTo (readingSays n xs ms (length out)) (written (columnReading xs ms) out) out
+unfoldable pub readingRun : ℕ → List ℕ → List ℕ → List ℕ → List ℕ → Said × List ℕ
+readingRun n xs ms cs out = ranTo (readingSays n xs ms cs (length out)) (written (columnReading xs ms) out) out
 
--- A move on a tableau.
-unfoldable pub moveTableauSays : ℕ → Move → List ℕ → List ℕ → Said
-moveTableauSays n m xs ms =
+-- A move on a tableau: one of its letters becomes another, and is counted so.
+unfoldable pub moveTableauSays : ℕ → Move → List ℕ → List ℕ → List ℕ → Said
+moveTableauSays n m xs ms cs =
     let inversion : Bool = below (m .index) xs ms in
-    first (tableauJudgements n xs ms ++ moveJudgements n m inversion xs) (gives (placeTold (changedPlace inversion m xs)))
+    first (countedJudgements n xs ms cs ++ moveJudgements n m inversion xs) (gives (placeTold (changedPlace inversion m xs)))
 
-unfoldable pub moveTableauRun : ℕ → Move → List ℕ → List ℕ → Said × List ℕ
-moveTableauRun n m xs ms = ranTo (moveTableauSays n m xs ms) (orSame (movedTableau m xs ms) xs) xs
+unfoldable pub moveTableauRun : ℕ → Move → List ℕ → List ℕ → List ℕ → Said × (List ℕ × List ℕ)
+moveTableauRun n m xs ms cs =
+    ranTo (moveTableauSays n m xs ms cs) (orSame (movedTableau m xs ms) xs, oneOver cs (taken (m .side) (m .index)) (given (m .side) (m .index))) (xs, cs)
 
-unfoldable pub repeatTableauSays : ℕ → Move → List ℕ → List ℕ → Said
-repeatTableauSays n m xs ms = first (tableauJudgements n xs ms ++ (indexJudged n (m .index) ∷ [])) (gives (repeatTableau m xs ms ∷ []))
+unfoldable pub repeatTableauSays : ℕ → Move → List ℕ → List ℕ → List ℕ → Said
+repeatTableauSays n m xs ms cs = first (countedJudgements n xs ms cs ++ (indexJudged n (m .index) ∷ [])) (gives (repeatTableau m xs ms ∷ []))
 
 -- The making of a viewer.
 unfoldable pub viewerSays : ℕ → List ℕ → List ℕ → Said

@@ -1,6 +1,7 @@
 -- The place of a refusal is the first such place (document 01, "Returned instead of a result"). Each of the checks 4 to 8 is one scan over the places of
 -- its input for the first at which its fault stands; with what passes each check (Judgements, StepJudgements) this fixes number and place of every
 -- refusal that has more than one place to name.
+--     scan-passes                a scan passes exactly when no fault stands
 --     scan-first                 what a refusal by a scan says
 --     letters-scan, rising-scan, marks-scan, entries-scan, recording-scan     4, 5, 6, 7, 8 as scans
 -- Assumes nothing.
@@ -10,12 +11,25 @@ use native.Mathlib.Omega.{arith}
 use mathlib.Core.Path.{_≡_, refl, sym, ap, ap₂, _∙_}
 use mathlib.Core.Bool.{Bool, true, false, _&&_, _||_, or-assoc, or-comm, or-false}
 use mathlib.Core.List.{List, [], _∷_}
+use mathlib.Core.Logic.{_↔_}
 use lib.Dec.{eqb, ltb}
 use lib.ListN.{length, getD, take}
 use Rattle.hypoplactic.specs.Words.{occurs}
-use Rattle.hypoplactic.specs.Replies.{Said, refused, refuseIf}
+use Rattle.hypoplactic.specs.Replies.{Said, Passes, refused, refuseIf}
 use Rattle.hypoplactic.specs.Judgements.{outside, lettersFrom, lettersJudged, risingFrom, risingJudged, marksFrom, marksJudged, entriesFrom, entriesJudged, stepBroken, stepsFrom, recordingJudged}
 use Rattle.hypoplactic.specs.FirstPlaces.{First, markFault, scan, shorter}
+use Rattle.hypoplactic.proofs.Theory.Passing.{passes-then}
+
+-- A scan passes exactly when no fault stands.
+pub scan-passes : (k i size : ℕ) (fault : ℕ → Bool) → Passes (scan k i size fault) ↔ ((q : ℕ) → q < size → fault q ≡ false)
+scan-passes k i zero fault = (λ p q l. absurd (not-suc-le-zero l), λ f. tt)
+scan-passes k i (suc size) fault =
+    let r = passes-then (fault 0) k i _ (λ e. e, λ e. e) (scan-passes k (suc i) size (λ q. fault (suc q))) in
+    (λ p. all (r .0 p), λ f. r .1 (f 0 (omega arith), λ q l. f (suc q) (omega arith)))
+  where
+    all : (fault 0 ≡ false) × ((q : ℕ) → q < size → fault (suc q) ≡ false) → (q : ℕ) → q < suc size → fault q ≡ false
+    all h zero l = h .0
+    all h (suc q) l = h .1 q (le-of-suc-le-suc l)
 
 -- A scan refuses with its own number, at the first fault's place.
 pub scan-first : (k i size : ℕ) (fault : ℕ → Bool) (j p : ℕ) → scan k i size fault ≡ refused j p → (d : ℕ) × (j ≡ k) × (p ≡ i + d) × First fault size d

@@ -1,9 +1,9 @@
 -- What a move replies to joined words and to their tableaux (beside theorem a).
 --     joined-refusal     joined words, accepted or not: made in both, or refused in both with one number; only the place of 4 can differ
---     joined-cell        their tableaux: one reply, and so one cell, and one tableau left
+--     joined-cell        their tableaux with their counts: one reply, and so one cell, and one tableau left with its counts
 -- Assumes nothing.
 use Prim.Native.Nat.{ℕ, suc}
-use mathlib.Core.Path.{_≡_, refl, sym, ap, ap₂, _∙_, subst}
+use mathlib.Core.Path.{_≡_, refl, sym, ap, _∙_, subst}
 use mathlib.Core.Logic.{_↔_}
 use mathlib.Core.Bool.{Bool, true, false}
 use mathlib.Core.List.{List, [], _∷_, _++_}
@@ -12,6 +12,7 @@ use Rattle.hypoplactic.specs.Rewriting.{Joined}
 use Rattle.hypoplactic.specs.Insertion.{lettersOf, marksOf}
 use Rattle.hypoplactic.specs.Moves.{Move, inverted, taken}
 use Rattle.hypoplactic.specs.Replies.{Said, gives, refused, Passes, first, refuseIf, OneNumber}
+use Rattle.hypoplactic.specs.Counts.{countsOf}
 use Rattle.hypoplactic.specs.Judgements.{outside, rankJudged, lengthJudged, lettersFrom, lettersJudged, letterJudged, inversionJudged, indexJudged, wordJudgements}
 use Rattle.hypoplactic.specs.WordOperations.{moveJudgements, moveWordSays}
 use Rattle.hypoplactic.specs.TableauOperations.{moveTableauRun}
@@ -19,6 +20,7 @@ use Rattle.hypoplactic.proofs.Theory.Contents.{within-counts}
 use Rattle.hypoplactic.proofs.Theory.Invariants.{joined-count, joined-inversion, joined-tableau}
 use Rattle.hypoplactic.proofs.Theory.Pairs.{length-letters}
 use Rattle.hypoplactic.proofs.Theory.Joining.{joined-sym}
+use Rattle.hypoplactic.proofs.Theory.Counts.{counts-same}
 use Rattle.hypoplactic.proofs.Theory.Judgements.{letters-judged}
 
 -- ---- replies of one number
@@ -104,5 +106,5 @@ module _ {u v : List ℕ} (j : Joined u v) where
       ) tt
 
   -- On their tableaux, which are one, it has one reply and changes one cell.
-  pub joined-cell : (n : ℕ) (m : Move) → moveTableauRun n m (lettersOf u) (marksOf u) ≡ moveTableauRun n m (lettersOf v) (marksOf v)
-  joined-cell n m = ap₂ (λ (xs ms : List ℕ). moveTableauRun n m xs ms) (joined-tableau j .0) (joined-tableau j .1)
+  pub joined-cell : (n : ℕ) (m : Move) → moveTableauRun n m (lettersOf u) (marksOf u) (countsOf u) ≡ moveTableauRun n m (lettersOf v) (marksOf v) (countsOf v)
+  joined-cell n m = rw (joined-tableau j .0, joined-tableau j .1, counts-same u v (joined-count j))

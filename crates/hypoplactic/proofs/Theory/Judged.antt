@@ -1,6 +1,7 @@
 -- What the shared lists of judgements let through: no refusal exactly for an accepted word, a tableau and a pair within the limits.
 --     word-passing, tableau-passing, pair-passing    no judgement of the list refuses, exactly when ..
---     word-judged, tableau-judged, pair-judged       the same of the chain's reply
+--     counted-passing, counted-pair-passing          and with 17, exactly when the letter counts are true besides
+--     word-judged, tableau-judged, pair-judged, counted-judged, counted-pair-judged     the same of the chain's reply
 -- Assumes nothing.
 use Prim.Native.Nat.{ℕ}
 use mathlib.Core.Path.{_≡_, sym, _∙_}
@@ -10,8 +11,10 @@ use lib.ListN.{length}
 use Rattle.hypoplactic.specs.Words.{Accepted, Within}
 use Rattle.hypoplactic.specs.Ribbons.{EntryStep, LetterStep, PairAt, Simple, Tableau, TableauAt}
 use Rattle.hypoplactic.specs.Replies.{first, passed}
-use Rattle.hypoplactic.specs.Judgements.{pairJudgements, tableauJudgements, wordJudgements}
-use Rattle.hypoplactic.proofs.Theory.Passing.{Passing, first-passed}
+use Rattle.hypoplactic.specs.Counts.{TrueCounts, countsJudged}
+use Rattle.hypoplactic.specs.Judgements.{countedJudgements, countedPairJudgements, pairJudgements, tableauJudgements, wordJudgements}
+use Rattle.hypoplactic.proofs.Theory.Counts.{counts-judged}
+use Rattle.hypoplactic.proofs.Theory.Passing.{Passing, first-passed, passing-append}
 use Rattle.hypoplactic.proofs.Theory.Once.{once-entries}
 use Rattle.hypoplactic.proofs.Theory.Judgements.{alike-judged, entries-judged, length-judged, letters-judged, rank-judged}
 use Rattle.hypoplactic.proofs.Theory.StepJudgements.{recording-steps, ribbon-length, tableau-steps}
@@ -77,6 +80,27 @@ pair-passing n xs ms rs = (there, back)
         let recording = recording-steps xs ms rs tableau as-entries (whole .1) .1 (h .pair .recording .steps) in
         (rank, (short, (alike, (letters, (rising, (marks, (entries, (recording, tt))))))))
 
+-- 1 to 6 and 17 refuse nothing: so it is, and its letter counts are true.
+pub counted-passing : (n : ℕ) (xs ms cs : List ℕ) → Passing (countedJudgements n xs ms cs) ↔ (TableauAt n xs ms × TrueCounts xs cs)
+counted-passing n xs ms cs =
+    let p = passing-append (tableauJudgements n xs ms) (countsJudged cs xs ∷ []) in (
+      λ h. (tableau-passing n xs ms .0 (p .0 h .0), counts-judged cs xs .0 (p .0 h .1 .0)),
+      λ h. p .1 (tableau-passing n xs ms .1 (h .0), (counts-judged cs xs .1 (h .1), tt)),
+    )
+
+-- The same of a pair with its letter counts.
+pub counted-pair-passing : (n : ℕ) (xs ms rs cs : List ℕ) → Passing (countedPairJudgements n xs ms rs cs) ↔ (PairAt n xs ms rs × TrueCounts xs cs)
+counted-pair-passing n xs ms rs cs = (there, back)
+  where
+    there : Passing (countedPairJudgements n xs ms rs cs) → PairAt n xs ms rs × TrueCounts xs cs
+    there (rank, (short, (alike, (letters, (rising, (marks, (counts, (entries, (recording, t))))))))) =
+        (pair-passing n xs ms rs .0 (rank, (short, (alike, (letters, (rising, (marks, (entries, (recording, tt)))))))), counts-judged cs xs .0 counts)
+
+    back : PairAt n xs ms rs × TrueCounts xs cs → Passing (countedPairJudgements n xs ms rs cs)
+    back (h, c) =
+        let (rank, (short, (alike, (letters, (rising, (marks, (entries, (recording, t)))))))) = pair-passing n xs ms rs .1 h in
+        (rank, (short, (alike, (letters, (rising, (marks, (counts-judged cs xs .1 c, (entries, (recording, tt)))))))))
+
 -- The same of what the chains reply: of a word,
 pub word-judged : (n : ℕ) (w : List ℕ) → (first (wordJudgements n w) passed ≡ passed) ↔ Accepted n w
 word-judged n w = Iff·trans (first-passed (wordJudgements n w)) (word-passing n w)
@@ -85,6 +109,14 @@ word-judged n w = Iff·trans (first-passed (wordJudgements n w)) (word-passing n
 pub tableau-judged : (n : ℕ) (xs ms : List ℕ) → (first (tableauJudgements n xs ms) passed ≡ passed) ↔ TableauAt n xs ms
 tableau-judged n xs ms = Iff·trans (first-passed (tableauJudgements n xs ms)) (tableau-passing n xs ms)
 
--- and of a pair.
+-- of a pair,
 pub pair-judged : (n : ℕ) (xs ms rs : List ℕ) → (first (pairJudgements n xs ms rs) passed ≡ passed) ↔ PairAt n xs ms rs
 pair-judged n xs ms rs = Iff·trans (first-passed (pairJudgements n xs ms rs)) (pair-passing n xs ms rs)
+
+-- and of both with letter counts.
+pub counted-judged : (n : ℕ) (xs ms cs : List ℕ) → (first (countedJudgements n xs ms cs) passed ≡ passed) ↔ (TableauAt n xs ms × TrueCounts xs cs)
+counted-judged n xs ms cs = Iff·trans (first-passed (countedJudgements n xs ms cs)) (counted-passing n xs ms cs)
+
+pub counted-pair-judged : (n : ℕ) (xs ms rs cs : List ℕ)
+    → (first (countedPairJudgements n xs ms rs cs) passed ≡ passed) ↔ (PairAt n xs ms rs × TrueCounts xs cs)
+counted-pair-judged n xs ms rs cs = Iff·trans (first-passed (countedPairJudgements n xs ms rs cs)) (counted-pair-passing n xs ms rs cs)

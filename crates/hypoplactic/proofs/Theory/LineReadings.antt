@@ -20,6 +20,7 @@ use Rattle.grammar.proofs.Theory.Longest.{w-breaks, t-breaks, n-breaks, w-place
 use Rattle.hypoplactic.specs.Words.{Accepted, Within, occurs}
 use Rattle.hypoplactic.specs.Ribbons.{Simple, TableauAt}
 use Rattle.hypoplactic.specs.Replies.{Said, gives, refused, first, passed, refuseIf, written}
+use Rattle.hypoplactic.specs.Counts.{countsOf}
 use Rattle.hypoplactic.specs.Judgements.{outside, rankJudged, lengthJudged, alikeJudged, lettersFrom, lettersJudged, risingFrom, risingJudged, marksFrom, marksJudged, entriesFrom, entriesJudged, roomJudged, wordJudgements, tableauJudgements}
 use Rattle.hypoplactic.specs.LineReadings.{breakPlace, readRun, readWRun, readTRun, readNRun, recordingRead, tableauRead, wordRead}
 use Rattle.hypoplactic.proofs.Theory.Classes.{marked}
@@ -48,13 +49,13 @@ read-w-result n w out a r =
     (ran-answer (wordJudgements n w) (roomJudged (length w) (length out) ∷ []) (n ∷ length w ∷ []) (written w out) out
     (word-passing n w .1 a) (room-judged _ _ .1 r, tt))
 
-pub read-t-result : (n : ℕ) (xs ms letters marks : List ℕ) → TableauAt n xs ms → length xs ≤ length letters → length xs ≤ length marks
-    → readTRun (tLine n xs ms) letters marks ≡ (gives (n ∷ length xs ∷ []), (written xs letters, written ms marks))
+pub read-t-result : (n : ℕ) (xs ms letters marks counts : List ℕ) → TableauAt n xs ms → length xs ≤ length letters → length xs ≤ length marks
+    → readTRun (tLine n xs ms) letters marks counts ≡ (gives (n ∷ length xs ∷ []), (written xs letters, (written ms marks, countsOf xs)))
 unfolding readTRun
-read-t-result n xs ms letters marks h r s =
+read-t-result n xs ms letters marks counts h r s =
     rw (t-complete n xs ms (accepted-small (h .word) .0) (accepted-small (h .word) .1) (marked xs ms (h .tableau)))
     (ran-answer (tableauJudgements n xs ms) (roomJudged (length xs) (length letters) ∷ roomJudged (length xs) (length marks) ∷ [])
-    (n ∷ length xs ∷ []) (written xs letters, written ms marks) (letters, marks)
+    (n ∷ length xs ∷ []) (written xs letters, (written ms marks, countsOf xs)) (letters, (marks, counts))
     (tableau-passing n xs ms .1 h) (room-judged _ _ .1 r, (room-judged _ _ .1 s, tt)))
 
 -- A recording ribbon alone: at most 1,024 entries, each 1 to L, none twice.
@@ -174,13 +175,13 @@ w-broken text out p =
         first-other (wordJudgements n ws ++ (roomJudged (length ws) (length out) ∷ [])) (n ∷ length ws ∷ [])
         (rank-other n, (length-other (length ws), (letters-other n ws, (room-other (length ws) (length out), tt))))
 
-pub t-broken : (text letters marks : List ℕ) (p : ℕ) → ((readTRun text letters marks) .0 ≡ refused 14 p) ↔ Breaks IsT text p
+pub t-broken : (text letters marks counts : List ℕ) (p : ℕ) → ((readTRun text letters marks counts) .0 ≡ refused 14 p) ↔ Breaks IsT text p
 unfolding readTRun
-t-broken text letters marks p =
-    broken-exactly IsT readT (λ v. tableauRead letters marks (v .0) (v .1) (v .2)) (letters, marks) text (t-place text) (λ q. t-breaks text q .0)
+t-broken text letters marks counts p =
+    broken-exactly IsT readT (λ v. tableauRead letters marks counts (v .0) (v .1) (v .2)) (letters, (marks, counts)) text (t-place text) (λ q. t-breaks text q .0)
     (λ v. others (v .0) (v .1) (v .2)) p
   where
-    others : (n : ℕ) (xs ms : List ℕ) → Other ((tableauRead letters marks n xs ms) .0)
+    others : (n : ℕ) (xs ms : List ℕ) → Other ((tableauRead letters marks counts n xs ms) .0)
     others n xs ms =
         first-other (tableauJudgements n xs ms ++ (roomJudged (length xs) (length letters) ∷ roomJudged (length xs) (length marks) ∷ []))
         (n ∷ length xs ∷ []) (

@@ -1,9 +1,12 @@
--- What a move leaves to change (document 01, "Moves"): each time one letter fewer.
+-- How often letters stand in what a move leaves (document 01, "Moves"): each time one fewer of those that it could change.
 --     Counted m b w o    what the answer o says of the letters that the move could change: undefined, there is none; defined, one more than afterwards
 --     moved-counted      a move's answer says so
+--     Exchanged a b u v  v has one a fewer than u, one b more, and every other letter as often
+--     turned-exchanged   so a move takes one of its letters and gives the other
 -- Assumes nothing.
 use Prim.Native.Nat.{ℕ, suc}
-use mathlib.Core.Path.{_≡_, refl}
+use mathlib.Core.Path.{_≡_, refl, sym, ap}
+use mathlib.Core.Logic.{_≢_}
 use mathlib.Core.List.{List, [], _∷_}
 use mathlib.Core.Bool.{Bool, true, false}
 use mathlib.Core.Option.{Option, none, some}
@@ -11,7 +14,7 @@ use native.Mathlib.Omega.{arith}
 use lib.Dec.{eqb}
 use borrow.Author.Tests.{eq-eqb, ne-eqb}
 use Rattle.hypoplactic.specs.Words.{tick, count}
-use Rattle.hypoplactic.specs.Moves.{Side, raising, lowering, Move, taken, inverted, moved, remaining}
+use Rattle.hypoplactic.specs.Moves.{Side, raising, lowering, Move, given, taken, inverted, moved, remaining}
 use Rattle.hypoplactic.proofs.Theory.Undo.{Lacks, Changed, here, after, Turned, Outcome, moved-outcome}
 
 -- What an answer says of the letters that the move could change.
@@ -32,10 +35,25 @@ changed-count : {i : ℕ} {u v : List ℕ} → Changed i u v → (count (suc i) 
 changed-count {i} (here l) = (rw (eq-eqb (suc i) (suc i) refl, ne-eqb i (suc i) (omega arith)), rw (eq-eqb i i refl, ne-eqb (suc i) i (omega arith)))
 changed-count {i} (after {x} ne c) = let p = changed-count c in (tick-suc (eqb x (suc i)) _ _ (p .0), tick-suc (eqb x i) _ _ (p .1))
 
--- A move takes one of its letters away.
-turned-count : (s : Side) (i : ℕ) (u v : List ℕ) → Turned s i u v → count (taken s i) u ≡ suc (count (taken s i) v)
-turned-count raising i u v c = changed-count c .0
-turned-count lowering i u v c = changed-count c .1
+-- The others as often.
+changed-others : {i : ℕ} {u v : List ℕ} → Changed i u v → (a : ℕ) → a ≢ i → a ≢ suc i → count a u ≡ count a v
+changed-others {i} (here l) a n m = rw (ne-eqb (suc i) a (λ e. m (sym e)), ne-eqb i a (λ e. n (sym e)))
+changed-others {i} (after {x} ne c) a n m = ap (tick (eqb x a)) (changed-others c a n m)
+
+-- One letter has become another.
+pub record Exchanged (a b : ℕ) (u v : List ℕ) : Type 0 where
+  pub fewer : count a u ≡ suc (count a v)
+  pub more : count b v ≡ suc (count b u)
+  pub others : (c : ℕ) → c ≢ a → c ≢ b → count c v ≡ count c u
+
+-- A move takes one of its letters and gives the other.
+pub turned-exchanged : (s : Side) (i : ℕ) (u v : List ℕ) → Turned s i u v → Exchanged (taken s i) (given s i) u v
+turned-exchanged raising i u v c = record {
+  fewer = changed-count c .0;
+  more = changed-count c .1;
+  others = λ a n m. sym (changed-others c a m n);
+}
+turned-exchanged lowering i u v c = record { fewer = changed-count c .1; more = changed-count c .0; others = λ a n m. changed-others c a n m }
 
 -- Undefined, nothing is left to change; defined, one letter fewer.
 pub moved-counted : (m : Move) (b : Bool) (w : List ℕ) → (b ≡ false → inverted (m .index) w ≡ false) → Counted m b w (moved b m w)
@@ -44,4 +62,4 @@ moved-counted m false w f = go (moved false m w) (moved-outcome m w (f refl))
   where
     go : (o : Option (List ℕ)) → Outcome (m .side) (m .index) w o → Counted m false w o
     go none l = lacks-count (taken (m .side) (m .index)) w l
-    go (some v) t = turned-count (m .side) (m .index) w v t
+    go (some v) t = turned-exchanged (m .side) (m .index) w v t .fewer

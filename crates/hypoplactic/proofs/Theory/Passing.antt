@@ -1,5 +1,6 @@
 -- Chains of judgements: when all of them pass, and what is then replied.
 --     Passing js           no judgement of the list refuses
+--     passing-append       two lists pass exactly when both do
 --     first-passed         the chain replies passed exactly when none refuses
 --     first-answer         where none refuses, the reply is the answer
 --     passing-first        where values are the reply, none refuses; passing-before: none of the first, with others after them
@@ -23,6 +24,13 @@ use Rattle.hypoplactic.specs.Replies.{Said, gives, refused, passed, Pass
 abbrev pub Passing : List Said → Type 0
 Passing [] = Unit {0}
 Passing (j ∷ js) = Passes j × Passing js
+
+-- Two lists, one after the other.
+pub passing-append : (js ks : List Said) → Passing (js ++ ks) ↔ (Passing js × Passing ks)
+passing-append [] ks = (λ p. (tt, p), λ p. p .1)
+passing-append (j ∷ js) ks =
+    let r = passing-append js ks in
+    (λ p. ((p .0, r .0 (p .1) .0), r .0 (p .1) .1), λ p. (p .0 .0, r .1 (p .0 .1, p .1)))
 
 -- Where no judgement refuses, the reply is the answer.
 pub first-answer : (js : List Said) (a : Said) → Passing js → first js a ≡ a

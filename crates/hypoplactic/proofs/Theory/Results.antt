@@ -20,22 +20,23 @@ use Rattle.hypoplactic.specs.Moves.{Move, repeatTableau, repeatWord}
 use Rattle.hypoplactic.specs.Junctions.{junctionSet, rowsOf, sameClass}
 use Rattle.hypoplactic.specs.Weights.{compareWeights}
 use Rattle.hypoplactic.specs.Replies.{gives, passed, written}
-use Rattle.hypoplactic.specs.Judgements.{entriesJudged, fullJudged, indexJudged, lengthJudged, lettersJudged, marksJudged, pairJudgements, rankJudged, recordingJudged, risingJudged, roomJudged, tableauJudgements, usedJudged, wordJudgements}
+use Rattle.hypoplactic.specs.Counts.{TrueCounts, countsJudged, countsOf, oneMore}
+use Rattle.hypoplactic.specs.Judgements.{countedJudgements, countedPairJudgements, entriesJudged, fullJudged, indexJudged, lengthJudged, lettersJudged, marksJudged, rankJudged, recordingJudged, risingJudged, roomJudged, tableauJudgements, usedJudged, wordJudgements}
 use Rattle.hypoplactic.specs.WordOperations.{comparisonNumber, junctionSays, repeatWordSays, sameClassSays, weightsSays, wordsJudgements}
 use Rattle.hypoplactic.specs.TableauOperations.{cellAt, insertRun, insertSays, lookSays, readingRun, readingSays, recordingRun, recordingSays, repeatTableauSays, tableauRun, tableauSays, usedCells, viewerSays, wordRun, wordSays, writtenPair}
 use Rattle.hypoplactic.proofs.Theory.Passing.{Passing, first-answer, first-both, passes-further, ran-answer}
 use Rattle.hypoplactic.proofs.Theory.Contents.{accepted-snoc}
 use Rattle.hypoplactic.proofs.Theory.Judgements.{full-judged, index-judged, letters-judged, room-judged, used-judged}
-use Rattle.hypoplactic.proofs.Theory.Judged.{pair-passing, tableau-passing, word-passing}
+use Rattle.hypoplactic.proofs.Theory.Judged.{counted-pair-passing, counted-passing, tableau-passing, word-passing}
 
 -- ---- of a word
 
 module _ (n : ℕ) (w : List ℕ) (a : Accepted n w) where
-  -- The tableau, into letters and marks long enough.
-  pub tableau-result : (letters marks : List ℕ) → length w ≤ length letters → length w ≤ length marks
-      → tableauRun n w letters marks ≡ (gives (length w ∷ []), (written (lettersOf w) letters, written (marksOf w) marks))
+  -- The tableau, into letters and marks long enough, and its counts.
+  pub tableau-result : (letters marks counts : List ℕ) → length w ≤ length letters → length w ≤ length marks
+      → tableauRun n w letters marks counts ≡ (gives (length w ∷ []), (written (lettersOf w) letters, (written (marksOf w) marks, countsOf w)))
   unfolding tableauRun tableauSays
-  tableau-result letters marks p q =
+  tableau-result letters marks counts p q =
       ran-answer (wordJudgements n w) (roomJudged (length w) (length letters) ∷ roomJudged (length w) (length marks) ∷ []) _ _ _
       (word-passing n w .1 a) (room-judged _ _ .1 p, (room-judged _ _ .1 q, tt))
 
@@ -76,17 +77,21 @@ module _ (n : ℕ) (u : List ℕ) (m : ℕ) (v : List ℕ) (a : Accepted n u) (b
 
 -- ---- of a tableau
 
-module _ (n : ℕ) (xs ms : List ℕ) (h : TableauAt n xs ms) where
+-- With true counts.
+module _ (n : ℕ) (xs ms cs : List ℕ) (h : TableauAt n xs ms) (c : TrueCounts xs cs) where
   -- The column reading, into letters long enough.
-  pub reading-result : (out : List ℕ) → length xs ≤ length out → readingRun n xs ms out ≡ (gives (length xs ∷ []), written (columnReading xs ms) out)
+  pub reading-result : (out : List ℕ) → length xs ≤ length out → readingRun n xs ms cs out ≡ (gives (length xs ∷ []), written (columnReading xs ms) out)
   unfolding readingRun readingSays
-  reading-result out p = ran-answer (tableauJudgements n xs ms) (roomJudged (length xs) (length out) ∷ []) _ _ _ (tableau-passing n xs ms .1 h) (room-judged _ _ .1 p, tt)
+  reading-result out p =
+      ran-answer (countedJudgements n xs ms cs) (roomJudged (length xs) (length out) ∷ []) _ _ _ (counted-passing n xs ms cs .1 (h, c)) (room-judged _ _ .1 p, tt)
 
   -- The repeat count of a move with an index of the rank.
-  pub repeat-tableau-result : (m : Move) → 1 ≤ m .index → m .index < n → repeatTableauSays n m xs ms ≡ gives (repeatTableau m xs ms ∷ [])
+  pub repeat-tableau-result : (m : Move) → 1 ≤ m .index → m .index < n → repeatTableauSays n m xs ms cs ≡ gives (repeatTableau m xs ms ∷ [])
   unfolding repeatTableauSays
-  repeat-tableau-result m p q = first-both (tableauJudgements n xs ms) (indexJudged n (m .index) ∷ []) _ (tableau-passing n xs ms .1 h) (index-judged n (m .index) .1 (p, q), tt)
+  repeat-tableau-result m p q =
+      first-both (countedJudgements n xs ms cs) (indexJudged n (m .index) ∷ []) _ (counted-passing n xs ms cs .1 (h, c)) (index-judged n (m .index) .1 (p, q), tt)
 
+module _ (n : ℕ) (xs ms : List ℕ) (h : TableauAt n xs ms) where
   -- A viewer is made.
   pub viewer-result : viewerSays n xs ms ≡ passed
   unfolding viewerSays
@@ -99,30 +104,33 @@ module _ (n : ℕ) (xs ms : List ℕ) (h : TableauAt n xs ms) where
 
 -- ---- of a pair
 
--- The word of a pair, into letters long enough.
-pub word-result : (n : ℕ) (xs ms rs out : List ℕ) → PairAt n xs ms rs → length xs ≤ length out
-    → wordRun n xs ms rs out ≡ (gives (length xs ∷ []), written (wordOf xs rs) out)
+-- The word of a pair with true counts, into letters long enough.
+pub word-result : (n : ℕ) (xs ms rs cs out : List ℕ) → PairAt n xs ms rs → TrueCounts xs cs → length xs ≤ length out
+    → wordRun n xs ms rs cs out ≡ (gives (length xs ∷ []), written (wordOf xs rs) out)
 unfolding wordRun wordSays
-word-result n xs ms rs out h p = ran-answer (pairJudgements n xs ms rs) (roomJudged (length xs) (length out) ∷ []) _ _ _ (pair-passing n xs ms rs .1 h) (room-judged _ _ .1 p, tt)
+word-result n xs ms rs cs out h c p =
+    ran-answer (countedPairJudgements n xs ms rs cs) (roomJudged (length xs) (length out) ∷ []) _ _ _
+    (counted-pair-passing n xs ms rs cs .1 (h, c)) (room-judged _ _ .1 p, tt)
 
--- One letter inserted into fewer than 1,024 used cells, with room for one more.
-pub insert-result : (n used a : ℕ) (p : Pair) → PairAt n (take used (p .letters)) (take used (p .marks)) (take used (p .recording)) → used < 1024 → Inside n a
+-- One letter inserted into fewer than 1,024 used cells with true counts, with room for one more.
+pub insert-result : (n used a : ℕ) (p : Pair) (cs : List ℕ) → PairAt n (take used (p .letters)) (take used (p .marks)) (take used (p .recording))
+    → TrueCounts (take used (p .letters)) cs → used < 1024 → Inside n a
     → used < length (p .letters) → used < length (p .marks) → used < length (p .recording)
-    → insertRun n used a p ≡ (gives (suc used ∷ []), writtenPair (insert a (usedCells used p)) p)
+    → insertRun n used a p cs ≡ (gives (suc used ∷ []), (writtenPair (insert a (usedCells used p)) p, oneMore cs a))
 unfolding insertRun insertSays
-insert-result n used a p h few i as-letters as-marks as-recording =
+insert-result n used a p cs h c few i as-letters as-marks as-recording =
     let xs : List ℕ = take used (p .letters) in
     let ms : List ℕ = take used (p .marks) in
     let rs : List ℕ = take used (p .recording) in
     let size : length xs ≡ used = length-take-le used (p .letters) (omega arith) in
     let lengths : List ℕ = length (p .letters) ∷ length (p .marks) ∷ length (p .recording) ∷ [] in
-    let (rank, (short, (alike, (letters, (rising, (marks, (entries, (recording, t)))))))) = pair-passing n xs ms rs .1 h in
+    let (rank, (short, (alike, (letters, (rising, (marks, (counts, (entries, (recording, t))))))))) = counted-pair-passing n xs ms rs cs .1 (h, c) in
     let held = used-judged used lengths .1 (omega arith) in
     let all = letters-judged n (xs ++ a ∷ []) .1 (accepted-snoc (h .word) (omega arith) i .letters) in
     ran-answer
     (rankJudged n ∷ lengthJudged used ∷ usedJudged used lengths ∷ lettersJudged n (xs ++ a ∷ []) ∷ risingJudged xs ∷ marksJudged xs ms
-    ∷ entriesJudged used rs ∷ recordingJudged rs ms ∷ [])
+    ∷ countsJudged cs xs ∷ entriesJudged used rs ∷ recordingJudged rs ms ∷ [])
     (fullJudged used ∷ roomJudged (suc used) (length (p .letters)) ∷ roomJudged (suc used) (length (p .marks))
     ∷ roomJudged (suc used) (length (p .recording)) ∷ []) _ _ _
-    (rank, (rw size at short, (held, (all, (rising, (marks, (rw size at entries, (recording, tt))))))))
+    (rank, (rw size at short, (held, (all, (rising, (marks, (counts, (rw size at entries, (recording, tt)))))))))
     (full-judged used .1 few, (room-judged _ _ .1 as-letters, (room-judged _ _ .1 as-marks, (room-judged _ _ .1 as-recording, tt))))

@@ -12,6 +12,7 @@ use Rattle.hypoplactic.specs.Reading.{columnReading}
 use Rattle.hypoplactic.specs.Moves.{repeatWord, repeatTableau}
 use Rattle.hypoplactic.specs.Junctions.{number, junctionSet, rowsOf, sameClass}
 use Rattle.hypoplactic.specs.Weights.{compareWeights}
+use Rattle.hypoplactic.specs.Counts.{countsOf, countsJudged}
 use Rattle.hypoplactic.specs.Judgements.{rankJudged, lengthJudged, lettersJudged, indexJudged, inversionJudged, letterJudged, alikeJudged, usedJudged, risingJudged, marksJudged, entriesJudged, recordingJudged, fullJudged, roomJudged}
 use Rattle.hypoplactic.specs.WordOperations.{junctionSays, moveWordSays, moveWordRun, repeatWordSays, sameClassSays, weightsSays}
 use Rattle.hypoplactic.specs.TableauOperations.{tableauSays, tableauRun, recordingSays, recordingRun, insertSays, wordSays, wordRun, readingSays, readingRun, moveTableauSays, moveTableauRun, repeatTableauSays, viewerSays, lookSays}
@@ -21,7 +22,7 @@ use Rattle.hypoplactic.specs.Starred.{Case, starredCases, workedCases, r
 
 -- Every starred case: the meaning is what the document says.
 pub starred : map (λ (c : Case). c .meaning) starredCases ≡ map (λ (c : Case). c .document) starredCases
-unfolding starredCases output readW program tableauLine tLine nLine wLine jLine eLine decimal pairOf insert wordOf columnReading junctionSet number rowsOf ones onesIn sameClass compareWeights rankJudged lengthJudged alikeJudged lettersJudged risingJudged marksJudged entriesJudged recordingJudged indexJudged inversionJudged letterJudged roomJudged junctionSays moveWordSays moveWordRun sameClassSays weightsSays tableauSays tableauRun recordingSays recordingRun wordSays wordRun readingSays readingRun tableauLineRun
+unfolding starredCases output countsOf countsJudged readW program tableauLine tLine nLine wLine jLine eLine decimal pairOf insert wordOf columnReading junctionSet number rowsOf ones onesIn sameClass compareWeights rankJudged lengthJudged alikeJudged lettersJudged risingJudged marksJudged entriesJudged recordingJudged indexJudged inversionJudged letterJudged roomJudged junctionSays moveWordSays moveWordRun sameClassSays weightsSays tableauSays tableauRun recordingSays recordingRun wordSays wordRun readingSays readingRun tableauLineRun
 starred = refl
 
 -- Every worked example of the paper.
@@ -31,5 +32,5 @@ worked = refl
 
 -- The other checked words, and every refusal number.
 pub refusals : map (λ (c : Case). c .meaning) refusalCases ≡ map (λ (c : Case). c .document) refusalCases
-unfolding refusalCases output readTRun readNRun readW readT readN program tableauLine tLine nLine wLine jLine eLine decimal pairOf insert columnReading junctionSet number rowsOf ones onesIn sameClass repeatTableau rankJudged lengthJudged alikeJudged usedJudged lettersJudged risingJudged marksJudged entriesJudged recordingJudged indexJudged inversionJudged letterJudged fullJudged roomJudged junctionSays moveWordSays moveWordRun sameClassSays tableauSays recordingSays recordingRun insertSays wordSays moveTableauSays moveTableauRun repeatTableauSays viewerSays
+unfolding refusalCases output countsJudged readTRun readNRun readW readT readN program tableauLine tLine nLine wLine jLine eLine decimal pairOf insert columnReading junctionSet number rowsOf ones onesIn sameClass repeatTableau rankJudged lengthJudged alikeJudged usedJudged lettersJudged risingJudged marksJudged entriesJudged recordingJudged indexJudged inversionJudged letterJudged fullJudged roomJudged junctionSays moveWordSays moveWordRun sameClassSays tableauSays recordingSays recordingRun insertSays wordSays readingSays moveTableauSays moveTableauRun repeatTableauSays viewerSays
 refusals = refl

@@ -3,6 +3,7 @@
 --     pair-and-back         the ribbons of the word of a pair within the limits are that pair
 --     reading-and-back      the tableau of the column reading of a tableau within the limits is that tableau
 --     letter-by-letter      insertion into the pair of a word makes the pair of the word with the letter at its end
+-- The letter counts are those that an operation leaves: of the word, and of the letters read.
 -- Assumes nothing.
 use Prim.Native.Nat.{ℕ, suc, _+_, _-_, _≤_, _<_}
 use native.Mathlib.Omega.{arith}
@@ -15,9 +16,11 @@ use Rattle.hypoplactic.specs.Ribbons.{PairAt, TableauAt}
 use Rattle.hypoplactic.specs.Insertion.{Pair, lettersOf, marksOf, pairOf, recordingOf, wordOf}
 use Rattle.hypoplactic.specs.Reading.{columnReading}
 use Rattle.hypoplactic.specs.Replies.{gives, written}
+use Rattle.hypoplactic.specs.Counts.{countsOf}
 use Rattle.hypoplactic.specs.TableauOperations.{insertRun, recordingRun, tableauRun, usedCells, wordRun, writtenPair}
 use Rattle.hypoplactic.proofs.Theory.Closure.{pair-word-accepted, reading-accepted, word-pair-at}
 use Rattle.hypoplactic.proofs.Theory.Correspondence.{pair-of-word, word-of-pair}
+use Rattle.hypoplactic.proofs.Theory.Counts.{letters-counts, letters-true, snoc-counts}
 use Rattle.hypoplactic.proofs.Theory.Layers.{within-snoc}
 use Rattle.hypoplactic.proofs.Theory.Memory.{written-length, written-needed}
 use Rattle.hypoplactic.proofs.Theory.Pairs.{length-letters, length-marks, length-recording, length-snoc, pair-snoc}
@@ -28,30 +31,32 @@ use Rattle.hypoplactic.proofs.Theory.Results.{insert-result, recording-
 
 -- The way back from the ribbons of a word.
 pub word-and-back : (n : ℕ) (w out : List ℕ) → Accepted n w → length w ≤ length out
-    → wordRun n (lettersOf w) (marksOf w) (recordingOf w) out ≡ (gives (length w ∷ []), written w out)
+    → wordRun n (lettersOf w) (marksOf w) (recordingOf w) (countsOf w) out ≡ (gives (length w ∷ []), written w out)
 word-and-back n w out a l =
-    word-result n (lettersOf w) (marksOf w) (recordingOf w) out (word-pair-at a) (rw (length-letters w) l) ∙ rw (word-of-pair w, length-letters w)
+    word-result n (lettersOf w) (marksOf w) (recordingOf w) (countsOf w) out (word-pair-at a) (letters-true w) (rw (length-letters w) l)
+    ∙ rw (word-of-pair w, length-letters w)
 
 -- The ribbons of the word of a pair.
-pub pair-and-back : (n : ℕ) (xs ms rs letters marks entries : List ℕ) → PairAt n xs ms rs
+pub pair-and-back : (n : ℕ) (xs ms rs letters marks counts entries : List ℕ) → PairAt n xs ms rs
     → length xs ≤ length letters → length xs ≤ length marks → length xs ≤ length entries
-    → (tableauRun n (wordOf xs rs) letters marks ≡ (gives (length xs ∷ []), (written xs letters, written ms marks)))
+    → (tableauRun n (wordOf xs rs) letters marks counts ≡ (gives (length xs ∷ []), (written xs letters, (written ms marks, countsOf xs))))
     × (recordingRun n (wordOf xs rs) entries ≡ (gives (length xs ∷ []), written rs entries))
-pair-and-back n xs ms rs letters marks entries h p q r =
+pair-and-back n xs ms rs letters marks counts entries h p q r =
     let (is-letters, is-marks, is-recording) = pair-of-word (h .pair) in
     let a : Accepted n (wordOf xs rs) = pair-word-accepted h in
     let size : length (wordOf xs rs) ≡ length xs = sym (length-letters (wordOf xs rs)) ∙ ap length is-letters in (
-      tableau-result n (wordOf xs rs) a letters marks (omega arith) (omega arith) ∙ rw (size, is-letters, is-marks),
+      tableau-result n (wordOf xs rs) a letters marks counts (omega arith) (omega arith) ∙ rw (size, ← letters-counts (wordOf xs rs), is-letters, is-marks),
       recording-result n (wordOf xs rs) a entries (omega arith) ∙ rw (size, is-recording),
     )
 
 -- The tableau of a column reading.
-pub reading-and-back : (n : ℕ) (xs ms letters marks : List ℕ) → TableauAt n xs ms → length xs ≤ length letters → length xs ≤ length marks
-    → tableauRun n (columnReading xs ms) letters marks ≡ (gives (length xs ∷ []), (written xs letters, written ms marks))
-reading-and-back n xs ms letters marks h p q =
+pub reading-and-back : (n : ℕ) (xs ms letters marks counts : List ℕ) → TableauAt n xs ms → length xs ≤ length letters → length xs ≤ length marks
+    → tableauRun n (columnReading xs ms) letters marks counts ≡ (gives (length xs ∷ []), (written xs letters, (written ms marks, countsOf xs)))
+reading-and-back n xs ms letters marks counts h p q =
     let (is-letters, is-marks) = read-back xs ms (h .tableau) in
     let size : length (columnReading xs ms) ≡ length xs = sym (length-letters (columnReading xs ms)) ∙ ap length is-letters in
-    tableau-result n (columnReading xs ms) (reading-accepted h) letters marks (omega arith) (omega arith) ∙ rw (size, is-letters, is-marks)
+    tableau-result n (columnReading xs ms) (reading-accepted h) letters marks counts (omega arith) (omega arith)
+    ∙ rw (size, ← letters-counts (columnReading xs ms), is-letters, is-marks)
 
 -- ---- letter by letter
 
@@ -79,21 +84,24 @@ module _ (n a : ℕ) (w : List ℕ) (old : Pair) (h : Accepted n (w ++ (a ∷ []
   kept : (vs old : List ℕ) → length vs ≡ length w → length w < length old → length w < length (written vs old)
   kept vs old e l = rw (written-length vs old (omega arith)) l
 
-  pub letter-by-letter : insertRun n (length w) a (writtenPair (pairOf w) old) ≡ (gives (suc (length w) ∷ []), writtenPair (pairOf (w ++ (a ∷ []))) old)
+  pub letter-by-letter : insertRun n (length w) a (writtenPair (pairOf w) old) (countsOf w)
+      ≡ (gives (suc (length w) ∷ []), (writtenPair (pairOf (w ++ (a ∷ []))) old, countsOf (w ++ (a ∷ []))))
   letter-by-letter =
       let v : List ℕ = w ++ (a ∷ []) in
       let size : length v ≡ suc (length w) = length-snoc w a in
       let (within, low, high) = within-snoc n a w (h .letters) in
       let front : Accepted n w = record { rank-low = h .rank-low; rank-high = h .rank-high; short = omega (arith, h .short); letters = within } in
       let pair : PairAt n (lettersOf w) (marksOf w) (recordingOf w) = word-pair-at front in
-      insert-result n (length w) a (writtenPair (pairOf w) old)
+      insert-result n (length w) a (writtenPair (pairOf w) old) (countsOf w)
       (rw (used (lettersOf w) (old .letters) (length-letters w), used (marksOf w) (old .marks) (length-marks w), used (recordingOf w) (old .recording) (length-recording w)) pair)
+      (rw (used (lettersOf w) (old .letters) (length-letters w)) (letters-true w))
       (omega (arith, h .short)) (low, high)
       (kept (lettersOf w) (old .letters) (length-letters w) as-letters) (kept (marksOf w) (old .marks) (length-marks w) as-marks)
       (kept (recordingOf w) (old .recording) (length-recording w) as-recording)
       ∙ rw (
         all-used,
         ← pair-snoc w a,
+        snoc-counts w a (low, omega (arith, h .rank-high)),
         over (lettersOf w) (lettersOf v) (old .letters) (length-letters w) (length-letters v ∙ size),
         over (marksOf w) (marksOf v) (old .marks) (length-marks w) (length-marks v ∙ size),
         over (recordingOf w) (recordingOf v) (old .recording) (length-recording w) (length-recording v ∙ size),
