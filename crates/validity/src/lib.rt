@@ -1,3 +1,4 @@
-// Whether letters, marks and entries are a valid tableau or pair: the checks of whole tableaux and pairs, in rising number, each equal to its judgements of
-// the written meaning (crate hypoplactic).
+// Whether letters, marks, entries and letter counts are a valid tableau or pair: the checks of whole tableaux and pairs, in rising number (17 directly after
+// 6), each equal to its judgements of the written meaning (crate hypoplactic).
+pub mod counted;
 pub mod tableau;

@@ -17,7 +17,7 @@ ghost use Rattle.hypoplactic.specs.Judgements.{alikeJudged, entriesJudged, leng
 ghost use Rattle.refusals.specs.Said.{saidVerdict};
 
 // 4, 5 and 6: the cells of a tableau or of a pair.
-fn check_cells(rank: usize, letters: &[u8], marks: &[u8]) -> Verdict
+pub(crate) fn check_cells(rank: usize, letters: &[u8], marks: &[u8]) -> Verdict
     ensures { λ r. ⌜
         saidVerdict r
         ≡ first
@@ -44,7 +44,7 @@ pub fn check_ribbon(limit: usize, entries: &[u16], marks: &[u8]) -> Verdict
 }
 
 // 1, 2 and 3 of a tableau: what is judged before an element is read.
-fn check_tableau_sizes(rank: usize, letters: usize, marks: usize) -> Verdict
+pub(crate) fn check_tableau_sizes(rank: usize, letters: usize, marks: usize) -> Verdict
     ensures { λ r. ⌜ saidVerdict r ≡ first (rankJudged rank ∷ lengthJudged letters ∷ alikeJudged letters (marks ∷ []) ∷ []) passed ⌝ }
 {
     or_else(
@@ -64,7 +64,7 @@ pub fn check_tableau(rank: usize, letters: &[u8], marks: &[u8]) -> Verdict
 }
 
 // 1, 2 and 3 of a pair.
-fn check_pair_sizes(rank: usize, letters: usize, marks: usize, entries: usize) -> Verdict
+pub(crate) fn check_pair_sizes(rank: usize, letters: usize, marks: usize, entries: usize) -> Verdict
     ensures { λ r. ⌜ saidVerdict r ≡ first (rankJudged rank ∷ lengthJudged letters ∷ alikeJudged letters (marks ∷ entries ∷ []) ∷ []) passed ⌝ }
 {
     or_else(
