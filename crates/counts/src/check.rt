@@ -1,4 +1,5 @@
 // The check on letter counts, 17: the first of 64 places whose number is not how often its letter stands in the letters.
+use crate::blocks::confirmed;
 use crate::tally::tally;
 use refusals::answers::Fault;
 use refusals::answers::Verdict;
@@ -16,10 +17,13 @@ fn number_wrong(number: u16, count: usize) -> bool
     number as usize != count
 }
 
-// Where the first wrong number stands, if there is one.
+// Where the first wrong number stands, if there is one. The letters are counted only where the first pass did not confirm the numbers.
 pub fn count_fault(letters: &[u8], counts: &[u16; 64]) -> Fault
     ensures { λ r. ⌜ saidFault 17 r ≡ countsJudged (now (counts .entry)) (now (letters .entry)) ⌝ }
 {
+    if confirmed(letters, counts) {
+        return Fault::Nowhere;
+    }
     let table = tally(letters);
     let mut i = 0;
     while i < 64 {

@@ -1,5 +1,5 @@
 -- `counts::check::check_counts` meets its contract, by the laws of refusals' specs/Scanning. Assumes nothing.
-use Rattle.counts.specs.Tallies.{counting}
+use Rattle.counts.specs.Comparing.{counting}
 use Rattle.counts.proofs.check.check_counts.Statement.{statement}
 use Rattle.counts.proofs.check.check_counts.Tie as tie
 

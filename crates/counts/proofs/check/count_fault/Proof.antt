@@ -1,6 +1,6 @@
--- `counts::check::count_fault` meets its contract, by the laws of specs/Tallies. Assumes nothing.
+-- `counts::check::count_fault` meets its contract, by the laws of specs/Comparing. Assumes nothing.
 use Prim.Native.Nat.{_-_}
-use Rattle.counts.specs.Tallies.{counting, Comparing}
+use Rattle.counts.specs.Comparing.{Comparing, counting}
 use Rattle.counts.proofs.check.count_fault.Statement.{statement}
 use Rattle.counts.proofs.check.count_fault.Tie as tie
 
@@ -13,7 +13,7 @@ abbrev μ-loop : tie.MeasureT-loop
 pub count-fault-spec : {M : Type 1} → statement M
 count-fault-spec =
     tie.close
-    (tie.spec Inv-loop μ-loop (λ c κs. search counting) (λ c. search counting) (λ c. search counting)
+    (tie.spec Inv-loop μ-loop (λ c κs. search counting) (λ c. search counting) (λ c κs. search counting)
     (λ c. search counting) (λ c. search counting) (λ c. search counting) (λ c. search counting)
-    (λ c κs. search counting) (λ c. search counting) (λ c. search counting) (λ c. search counting)
-    (λ c. search counting) (λ c. search counting))
+    (λ c. search counting) (λ c. search counting) (λ c κs. search counting) (λ c. search counting)
+    (λ c. search counting) (λ c. search counting) (λ c. search counting) (λ c. search counting))

@@ -1,5 +1,5 @@
 -- `counts::check::counts_verdict` meets its contract, by the laws of refusals' specs/Scanning. Assumes nothing.
-use Rattle.counts.specs.Tallies.{counting}
+use Rattle.counts.specs.Comparing.{counting}
 use Rattle.counts.proofs.check.counts_verdict.Statement.{statement}
 use Rattle.counts.proofs.check.counts_verdict.Tie as tie
 
