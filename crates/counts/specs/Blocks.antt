@@ -8,7 +8,7 @@
 --     agreeing                  the ruleset of the pass
 -- Assumes nothing.
 use Prim.Native.Nat.{ℕ, zero, suc, _+_, _-_, _≤_, _<_}
-use mathlib.Core.Path.{_≡_, refl, sym, ap, subst, _∙_}
+use mathlib.Core.Path.{_≡_, refl, sym, subst, _∙_}
 use mathlib.Core.Bool.{Bool, true, false, true≢false}
 use mathlib.Core.List.{List, [], _∷_, _++_}
 use native.Mathlib.Numerals.{add-one}
@@ -19,7 +19,7 @@ use lib.Seq.{take-suc, take-length}
 use borrow.Author.Needs.{needs}
 use borrow.Author.Tests.{eqb-true, eqb-false, ltb-false}
 use Rattle.hypoplactic.specs.Words.{count}
-use Rattle.hypoplactic.specs.Replies.{Said, gives, Passes, refuseIf}
+use Rattle.hypoplactic.specs.Replies.{Passes, refuseIf}
 use Rattle.hypoplactic.specs.Judgements.{risingFrom, risingJudged}
 use Rattle.hypoplactic.specs.Counts.{TrueCounts}
 use Rattle.hypoplactic.proofs.Theory.Pairs.{Rising}
