@@ -1,9 +1,12 @@
 // Answers, printed: `gives` and the values, or `refused`, number and place.
 use crate::printing::print;
 use crate::printing::print_number;
+use refusals::answers::Class;
 use refusals::answers::Move;
 use refusals::answers::Numbered;
 use refusals::answers::Repeat;
+use refusals::answers::Verdict;
+use refusals::answers::Weights;
 use refusals::answers::Written;
 use refusals::refusal::Refusal;
 use refusals::refusal::number_and_place;
@@ -57,5 +60,33 @@ pub fn print_written(answer: Written) {
     match answer {
         Written::Elements(count) => print_gives(count),
         Written::Refused(refusal) => print_refusal(refusal),
+    }
+}
+
+// 1 for two words or tableaux of one class, 0 for others.
+pub fn print_class(answer: Class) {
+    match answer {
+        Class::Same => print_gives(1),
+        Class::Different => print_gives(0),
+        Class::Refused(refusal) => print_refusal(refusal),
+    }
+}
+
+// 0 for equal weights, 1 lower, 2 higher, 3 neither.
+pub fn print_weights(answer: Weights) {
+    match answer {
+        Weights::Equal => print_gives(0),
+        Weights::Lower => print_gives(1),
+        Weights::Higher => print_gives(2),
+        Weights::Neither => print_gives(3),
+        Weights::Refused(refusal) => print_refusal(refusal),
+    }
+}
+
+// A check that passes gives no value.
+pub fn print_verdict(answer: Verdict) {
+    match answer {
+        Verdict::Passed => print(b"gives"),
+        Verdict::Refused(refusal) => print_refusal(refusal),
     }
 }

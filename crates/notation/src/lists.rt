@@ -158,6 +158,14 @@ fn entries(list: &[u8], out: &mut [u16]) -> usize
     i
 }
 
+// The letter counts that are a line's argument of one of two kinds: numbers that are missing are 0.
+pub fn counts_of(kinds: &[u8], line: &[u8], kind: u8, other: u8) -> [u16; 64] {
+    let mut counts: [u16; 64] = [0; 64];
+    let out: &mut [u16] = &mut counts;
+    entries(field(line, argument(kinds, kind, other)), out);
+    counts
+}
+
 // The same for 16-bit elements: an argument of the kind e or E.
 pub fn entries_of(kinds: &[u8], line: &[u8], out: &mut [u16]) -> usize
     ensures { λ r. ⌜ r ≤ length (now (out .exit)) ⌝ }

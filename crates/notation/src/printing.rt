@@ -1,5 +1,6 @@
 // Numbers and lists, printed in the table's notation. A list of more than 16 elements that are not all equal is printed by its first eight, its length and a
-// checksum, the sum of place times element mod 65,536, places from 1; a text of more than 64 bytes by its first 32, its length and its checksum.
+// checksum, the sum of place times element mod 65,536, places from 1; a text of more than 64 bytes by its first 32, its length and its checksum. Letter counts
+// are printed up to the last that is not 0, and where all are equal as one and how often.
 use crate::fields::has;
 use libc::STDOUT_FILENO;
 ghost use Prim.Native.Nat.{_≤_};
@@ -166,5 +167,39 @@ pub fn print_lent_bytes(kinds: &[u8], kind: u8, list: &[u8]) {
 pub fn print_lent_entries(kinds: &[u8], list: &[u16]) {
     if has(kinds, b'E') {
         print_list(false, list);
+    }
+}
+
+// How many elements there are up to the last that is not 0.
+fn without_zeros(list: &[u16]) -> usize
+    ensures { λ r. ⌜ r ≤ length (now (list .entry)) ⌝ }
+{
+    let mut count = list.len();
+    while 0 < count {
+        if list[count - 1] != 0 {
+            return count;
+        }
+        count -= 1;
+    }
+    count
+}
+
+// Letter counts after the call. There is at least one.
+fn print_counts(list: &[u16]) {
+    print(b" | ");
+    if list.len() < 1 {
+        return print_byte(b'-');
+    }
+    if all_equal(list) {
+        print_first(false, list, 1);
+        return print_number(b'*', list.len());
+    }
+    print_first(false, list, without_zeros(list));
+}
+
+// The same for letter counts: an argument of the kind K.
+pub fn print_lent_counts(kinds: &[u8], counts: [u16; 64]) {
+    if has(kinds, b'K') {
+        print_counts(&counts[0..64]);
     }
 }
