@@ -71,8 +71,7 @@ fn wrong_numbered(reply: Numbered, number: u64) -> usize
 // In how many of count and letters the word with a number, of the class of a tableau, differs from an answer.
 fn compare_word(
     length: usize,
-    letters: [u8; 1024],
-    marks: [u8; 1024],
+    tableau: Tableau,
     number: u64,
     count: usize,
     answer: [u8; 1024],
@@ -80,8 +79,18 @@ fn compare_word(
     requires { ⌜ length ≤ 1024 ⌝ }
     ensures { λ r. ⌜ r ≤ 2 ⌝ }
 {
+    let letters = tableau.letters;
+    let marks = tableau.marks;
+    let counts = tableau.counts;
     let mut word = [0u8; 1024];
-    let reply = class_word(3, &letters[0..length], &marks[0..length], number, &mut word);
+    let reply = class_word(
+        3,
+        &letters[0..length],
+        &marks[0..length],
+        &counts,
+        number,
+        &mut word,
+    );
     wrong_written(reply, count) + unlike(word, answer)
 }
 
@@ -103,15 +112,17 @@ fn compare_class(
     let given = word.letters;
     let letters = tableau.letters;
     let marks = tableau.marks;
+    let counts = tableau.counts;
     let told_size = class_size(
         3,
         first_bytes(&letters, length),
         first_bytes(&marks, length),
+        &counts,
     );
     let told_number = class_number(3, first_bytes(&given, length));
     wrong_numbered(told_size, size)
         + wrong_numbered(told_number, number)
-        + compare_word(length, letters, marks, asked, count, answer)
+        + compare_word(length, tableau, asked, count, answer)
 }
 
 // The same for one of these words, which its class must give back by its number.

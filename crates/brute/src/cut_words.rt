@@ -8,6 +8,7 @@ use crate::cutting::compare_with;
 use crate::cutting::short_word;
 use plain_words::WORDS;
 use plain_words::comparing::turned;
+use plain_words::counts::turned_counts;
 use plain_words::drawn::below;
 use plain_words::one_if;
 use plain_words::tableau::Tableau;
@@ -23,7 +24,7 @@ pub(crate) struct Compared {
 
 // Short words, each cut at every place.
 pub(crate) fn compare_short() -> Compared
-    ensures { λ r. ⌜ (r .products ≤ 7 * 1093) × (r .differences ≤ 21 * 1093) ⌝ }
+    ensures { λ r. ⌜ (r .products ≤ 7 * 1093) × (r .differences ≤ 28 * 1093) ⌝ }
 {
     let mut products = 0;
     let mut differences = 0;
@@ -42,7 +43,7 @@ pub(crate) fn compare_short() -> Compared
 
 // The words of document 01 and drawn ones, each cut at one place.
 pub(crate) fn compare_drawn() -> usize
-    ensures { λ r. ⌜ r ≤ 3 * 2770 ⌝ }
+    ensures { λ r. ⌜ r ≤ 4 * 2770 ⌝ }
 {
     let mut state: u64 = 20201;
     let mut found = 0;
@@ -56,7 +57,7 @@ pub(crate) fn compare_drawn() -> usize
     found
 }
 
-// How many of three answers that are spoilt for 31 times 2 the comparison finds: the count of cells, the letters and the marks.
+// How many of four answers that are spoilt for 31 times 2 the comparison finds: the count of cells, the letters, the marks and the counts.
 pub(crate) fn products_spoilt() -> usize {
     let word = short_word(32);
     if word.length != 3 {
@@ -66,16 +67,25 @@ pub(crate) fn products_spoilt() -> usize {
     let right = plain_tableau(3, whole);
     let letters = right.letters;
     let marks = right.marks;
+    let counts = right.counts;
     let lettered = Tableau {
         letters: turned(letters),
         marks,
+        counts,
     };
     let stepped = Tableau {
         letters,
         marks: turned(marks),
+        counts,
+    };
+    let counted = Tableau {
+        letters,
+        marks,
+        counts: turned_counts(counts),
     };
     let count = compare_with(word, 2, 4, right);
     let letter = compare_with(word, 2, 3, lettered);
     let mark = compare_with(word, 2, 3, stepped);
-    one_if(count == 1) + one_if(letter == 1) + one_if(mark == 1)
+    let number = compare_with(word, 2, 3, counted);
+    one_if(count == 1) + one_if(letter == 1) + one_if(mark == 1) + one_if(number == 1)
 }

@@ -43,33 +43,19 @@ fn letters_from(cut: usize, word: [u8; 1024]) -> [u8; 1024] {
 // The tableaux of a word's first letters and of all others, multiplied: the differences from a count of cells and a tableau.
 pub(crate) fn compare_with(word: Word, cut: usize, cells: usize, answer: Tableau) -> usize
     requires { ⌜ (word .length ≤ 1024) × (cut ≤ word .length) ⌝ }
-    ensures { λ r. ⌜ r ≤ 3 ⌝ }
+    ensures { λ r. ⌜ r ≤ 4 ⌝ }
 {
     let letters = word.letters;
     let others = word.length - cut;
     let first = plain_tableau(cut, letters);
     let second = plain_tableau(others, letters_from(cut, letters));
-    let first_letters = first.letters;
-    let first_marks = first.marks;
-    let second_letters = second.letters;
-    let second_marks = second.marks;
-    compare(
-        word.rank,
-        cut,
-        first_letters,
-        first_marks,
-        others,
-        second_letters,
-        second_marks,
-        cells,
-        answer,
-    )
+    compare(word.rank, cut, first, others, second, cells, answer)
 }
 
 // The same from the tableau of the whole word.
 pub(crate) fn compare_cut(word: Word, cut: usize) -> usize
     requires { ⌜ (word .length ≤ 1024) × (cut ≤ word .length) ⌝ }
-    ensures { λ r. ⌜ r ≤ 3 ⌝ }
+    ensures { λ r. ⌜ r ≤ 4 ⌝ }
 {
     let letters = word.letters;
     compare_with(word, cut, word.length, plain_tableau(word.length, letters))
@@ -78,7 +64,7 @@ pub(crate) fn compare_cut(word: Word, cut: usize) -> usize
 // The same at every place of a short word.
 pub(crate) fn compare_cuts(word: Word) -> usize
     requires { ⌜ word .length ≤ 6 ⌝ }
-    ensures { λ r. ⌜ r ≤ 21 ⌝ }
+    ensures { λ r. ⌜ r ≤ 28 ⌝ }
 {
     let mut found = 0;
     let mut cut = 0;

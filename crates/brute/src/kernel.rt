@@ -1,6 +1,7 @@
 // The kernel's answers to the same questions. Arrays of 1,024 elements are lent whole, and compared whole. Each reply is held to the count that it must
 // tell: a refusal or another count leaves a number that is in no answer.
 use crate::comparing::filled;
+use crate::comparing::lengthened;
 use crate::comparing::put;
 use crate::comparing::put_numbers;
 use crate::comparing::widened;
@@ -54,10 +55,11 @@ fn put_back(
     letters: &[u8],
     marks: &[u8],
     entries: &[u16],
-    answers: [u64; 7168],
-) -> [u64; 7168] {
+    counts: &[u16; 64],
+    answers: [u64; 8192],
+) -> [u64; 8192] {
     let mut word = [0u8; 1024];
-    let reply = word_of_pair(rank, letters, marks, entries, &mut word);
+    let reply = word_of_pair(rank, letters, marks, entries, counts, &mut word);
     put(
         3,
         widened(wrong_written(reply, letters.len()), word),
@@ -66,9 +68,15 @@ fn put_back(
 }
 
 // The answers with the column reading of a tableau.
-fn put_reading(rank: usize, letters: &[u8], marks: &[u8], answers: [u64; 7168]) -> [u64; 7168] {
+fn put_reading(
+    rank: usize,
+    letters: &[u8],
+    marks: &[u8],
+    counts: &[u16; 64],
+    answers: [u64; 8192],
+) -> [u64; 8192] {
     let mut word = [0u8; 1024];
-    let reply = column_reading(rank, letters, marks, &mut word);
+    let reply = column_reading(rank, letters, marks, counts, &mut word);
     put(
         4,
         widened(wrong_written(reply, letters.len()), word),
@@ -77,7 +85,7 @@ fn put_reading(rank: usize, letters: &[u8], marks: &[u8], answers: [u64; 7168]) 
 }
 
 // The answers with the junction set and the rows of a word; for a refusal, rows that no word has.
-fn put_junctions(rank: usize, word: &[u8], answers: [u64; 7168]) -> [u64; 7168] {
+fn put_junctions(rank: usize, word: &[u8], answers: [u64; 8192]) -> [u64; 8192] {
     match junctions(rank, word) {
         Junctions::Found(set, rows) => put_numbers(set, rows, answers),
         Junctions::Refused(_) => put_numbers(0, 1025, answers),
@@ -91,46 +99,58 @@ fn answers_of(
     letters: [u8; 1024],
     marks: [u8; 1024],
     entries: [u16; 1024],
+    counts: [u16; 64],
     wrong: usize,
-) -> [u64; 7168]
+) -> [u64; 8192]
     requires { ⌜ length (now word) ≤ 1024 ⌝ }
 {
     let all = put(0, widened(wrong, letters), filled(0));
     let all = put(1, widened(wrong, marks), all);
-    let all = put_junctions(rank, word, put(2, entries, all));
+    let all = put(7, lengthened(counts), put(2, entries, all));
+    let all = put_junctions(rank, word, all);
     let letters = &letters[0..word.len()];
     let marks = &marks[0..word.len()];
-    let all = put_reading(rank, letters, marks, all);
-    put_back(rank, letters, marks, &entries[0..word.len()], all)
+    let all = put_reading(rank, letters, marks, &counts, all);
+    put_back(rank, letters, marks, &entries[0..word.len()], &counts, all)
 }
 
 // All answers for a word, its tableau and its recording ribbon made at once.
-pub(crate) fn answers_at_once(rank: usize, word: &[u8]) -> [u64; 7168]
+pub(crate) fn answers_at_once(rank: usize, word: &[u8]) -> [u64; 8192]
     requires { ⌜ length (now word) ≤ 1024 ⌝ }
 {
     let mut letters = [0u8; 1024];
     let mut marks = [0u8; 1024];
     let mut entries = [0u16; 1024];
-    let tableau = tableau_of_word(rank, word, &mut letters, &mut marks);
+    let mut counts = [65535u16; 64];
+    let tableau = tableau_of_word(rank, word, &mut letters, &mut marks, &mut counts);
     let recording = recording_of_word(rank, word, &mut entries);
     let wrong = wrong_written(tableau, word.len()) + wrong_written(recording, word.len());
-    answers_of(rank, word, letters, marks, entries, wrong)
+    answers_of(rank, word, letters, marks, entries, counts, wrong)
 }
 
 // All answers for a word, its letters inserted into a pair one after the other.
-pub(crate) fn answers_by_letters(rank: usize, word: &[u8]) -> [u64; 7168]
+pub(crate) fn answers_by_letters(rank: usize, word: &[u8]) -> [u64; 8192]
     requires { ⌜ length (now word) ≤ 1024 ⌝ }
 {
     let mut letters = [0u8; 1024];
     let mut marks = [0u8; 1024];
     let mut entries = [0u16; 1024];
+    let mut counts = [0u16; 64];
     let mut wrong = 0;
     let mut used = 0;
     while used < word.len() {
         let letter = number(word[used]);
-        let reply = insert_letter(rank, used, letter, &mut letters, &mut marks, &mut entries);
+        let reply = insert_letter(
+            rank,
+            used,
+            letter,
+            &mut letters,
+            &mut marks,
+            &mut entries,
+            &mut counts,
+        );
         used += 1;
         wrong += wrong_used(reply, used);
     }
-    answers_of(rank, word, letters, marks, entries, wrong)
+    answers_of(rank, word, letters, marks, entries, counts, wrong)
 }

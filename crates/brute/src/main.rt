@@ -31,7 +31,7 @@ ghost use Prim.Native.Nat.{_≤_};
 // How many differences there are for one word: by its pair made at once and, for a word of at most 64 letters, by its pair made letter by letter.
 fn compare(word: Word) -> usize
     requires { ⌜ word .length ≤ 1024 ⌝ }
-    ensures { λ r. ⌜ r ≤ 14 ⌝ }
+    ensures { λ r. ⌜ r ≤ 16 ⌝ }
 {
     let rank = word.rank;
     let length = word.length;
@@ -106,7 +106,7 @@ fn main() {
         b"products ",
         short.products + WORDS,
         differences,
-        3,
+        4,
         products_spoilt(),
     );
     print_four(b"classes ", SHORT, compare_classes(), 4, classes_spoilt());

@@ -2,6 +2,7 @@
 // lower, higher and neither at 3 to 6; words of two ranks in two classes at 7, in one at 8; and at 15 the differences from the kernel.
 use crate::kernel::compare_on_tableau;
 use crate::kernel::compare_on_two;
+use crate::kernel::compare_on_two_tableaux;
 use crate::kernel::compare_on_word;
 use crate::partners::partner;
 use crate::scanning::first_difference;
@@ -48,7 +49,6 @@ fn count_move(
     let after = tableau_after(moved, length, tableau);
     let on_word = compare_on_word(side, rank, index, length, letters, moved, times);
     let before = tableau.letters;
-    let marks = tableau.marks;
     let later = after.letters;
     let reply = moved.reply;
     let cell = first_difference(length, before, later);
@@ -57,8 +57,7 @@ fn count_move(
         rank,
         index,
         length,
-        before,
-        marks,
+        tableau,
         told(reply, cell),
         after,
         times,
@@ -87,7 +86,7 @@ pub(crate) fn count_moves(k: usize, word: Word, counts: [usize; 16]) -> [usize; 
     all
 }
 
-// One word beside another.
+// One word beside another, and their tableaux, of which the same is so.
 fn count_two(one: Word, other: Word, counts: [usize; 16]) -> [usize; 16]
     requires { ⌜ (one .length ≤ 1024) × (other .length ≤ 1024) ⌝ }
 {
@@ -105,7 +104,17 @@ fn count_two(one: Word, other: Word, counts: [usize; 16]) -> [usize; 16]
         class,
         weights,
     );
-    let all = counted(3 + weights, 0, counted(1 + class, found, counts));
+    let stored = compare_on_two_tableaux(
+        one.rank,
+        one.length,
+        plain_tableau(one.length, letters),
+        other.rank,
+        other.length,
+        plain_tableau(other.length, other_letters),
+        class,
+        weights,
+    );
+    let all = counted(3 + weights, 0, counted(1 + class, found + stored, counts));
     if one.rank == other.rank {
         return all;
     }

@@ -6,6 +6,7 @@ use operators::changes::Side;
 use operators::moves::move_word;
 use operators::moves::repeat_word;
 use plain_words::comparing::unlike;
+use plain_words::counts::unlike_counts;
 use plain_words::one_if;
 use plain_words::tableau::Tableau;
 use refusals::answers::Class;
@@ -13,6 +14,8 @@ use refusals::answers::Move;
 use refusals::answers::Repeat;
 use refusals::answers::Weights;
 use refusals::refusal::number_and_place;
+use stored_tableaux::two_tableaux::compare_weights_of_tableaux;
+use stored_tableaux::two_tableaux::same_class_of_tableaux;
 use tableaux::moves::move_tableau;
 use tableaux::moves::repeat_tableau;
 use weights::two_words::compare_weights;
@@ -40,7 +43,7 @@ fn times_number(answer: Repeat) -> usize {
     }
 }
 
-// 1 for words of one class, 0 for others, and no such number for a refusal.
+// 1 for one class, 0 for two, and no such number for a refusal.
 fn class_number(answer: Class) -> usize {
     match answer {
         Class::Same => 1,
@@ -82,36 +85,49 @@ pub(crate) fn compare_on_word(
         + one_if(times_number(count) != times)
 }
 
-// A move on a tableau: the whole reply as one number (told), letters afterwards, marks, which stay, and repeat count.
+// A move on a tableau: the whole reply as one number (told), letters afterwards, marks, which stay, counts afterwards, and repeat count.
 pub(crate) fn compare_on_tableau(
     side: Side,
     rank: usize,
     index: usize,
     length: usize,
-    letters: [u8; 1024],
-    marks: [u8; 1024],
+    before: Tableau,
     expected: usize,
     after: Tableau,
     times: usize,
 ) -> usize
     requires { ⌜ length ≤ 1024 ⌝ }
-    ensures { λ r. ⌜ r ≤ 4 ⌝ }
+    ensures { λ r. ⌜ r ≤ 5 ⌝ }
 {
+    let letters = before.letters;
+    let marks = before.marks;
+    let counts = before.counts;
     let mut changed = letters;
-    let count = repeat_tableau(side, rank, index, &letters[0..length], &marks[0..length]);
+    let mut recounted = counts;
+    let repeats = repeat_tableau(
+        side,
+        rank,
+        index,
+        &letters[0..length],
+        &marks[0..length],
+        &counts,
+    );
     let made = move_tableau(
         side,
         rank,
         index,
         &mut changed[0..length],
         &marks[0..length],
+        &mut recounted,
     );
     let own_letters = after.letters;
     let own_marks = after.marks;
+    let own_counts = after.counts;
     one_if(move_number(made) != expected)
         + unlike(changed, own_letters)
         + unlike(marks, own_marks)
-        + one_if(times_number(count) != times)
+        + unlike_counts(recounted, own_counts)
+        + one_if(times_number(repeats) != times)
 }
 
 // Class and weights of two words.
@@ -132,5 +148,48 @@ pub(crate) fn compare_on_two(
     let two = &other[0..other_length];
     let told = same_class(rank, one, other_rank, two);
     let compared = compare_weights(rank, one, other_rank, two);
+    one_if(class_number(told) != class) + one_if(weights_number(compared) != weights)
+}
+
+// Class and weights of two tableaux, from their counts.
+pub(crate) fn compare_on_two_tableaux(
+    rank: usize,
+    length: usize,
+    one: Tableau,
+    other_rank: usize,
+    other_length: usize,
+    other: Tableau,
+    class: usize,
+    weights: usize,
+) -> usize
+    requires { ⌜ (length ≤ 1024) × («other_length» ≤ 1024) ⌝ }
+    ensures { λ r. ⌜ r ≤ 2 ⌝ }
+{
+    let letters = one.letters;
+    let marks = one.marks;
+    let counts = one.counts;
+    let other_letters = other.letters;
+    let other_marks = other.marks;
+    let other_counts = other.counts;
+    let told = same_class_of_tableaux(
+        rank,
+        &letters[0..length],
+        &marks[0..length],
+        &counts,
+        other_rank,
+        &other_letters[0..other_length],
+        &other_marks[0..other_length],
+        &other_counts,
+    );
+    let compared = compare_weights_of_tableaux(
+        rank,
+        &letters[0..length],
+        &marks[0..length],
+        &counts,
+        other_rank,
+        &other_letters[0..other_length],
+        &other_marks[0..other_length],
+        &other_counts,
+    );
     one_if(class_number(told) != class) + one_if(weights_number(compared) != weights)
 }

@@ -13,6 +13,7 @@ use crate::counting::count_pair;
 use crate::spoiling::SPOILT;
 use crate::spoiling::spoilt_on_tableau;
 use crate::spoiling::spoilt_on_two;
+use crate::spoiling::spoilt_on_two_tableaux;
 use crate::spoiling::spoilt_on_word;
 use libc::STDOUT_FILENO;
 use plain_words::WORDS;
@@ -69,6 +70,7 @@ fn main() {
     print_pairs(counts);
     print(b"differences ", counts[15]);
     print(b"spoilt ", SPOILT);
-    let found = spoilt_on_word() + spoilt_on_tableau() + spoilt_on_two();
-    print(b"found ", found);
+    let on_words = spoilt_on_word() + spoilt_on_two();
+    let on_tableaux = spoilt_on_tableau() + spoilt_on_two_tableaux();
+    print(b"found ", on_words + on_tableaux);
 }

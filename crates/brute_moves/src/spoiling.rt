@@ -1,11 +1,13 @@
 // Answers of the second implementation spoilt on purpose, one at a time, to see that the comparison with the kernel finds each: of moves and repeat counts,
-// and of two words.
+// of two words and of two tableaux.
 use crate::kernel::compare_on_tableau;
 use crate::kernel::compare_on_two;
+use crate::kernel::compare_on_two_tableaux;
 use crate::kernel::compare_on_word;
 use crate::scanning::Moved;
 use operators::changes::Side;
 use plain_words::comparing::turned;
+use plain_words::counts::turned_counts;
 use plain_words::one_if;
 use plain_words::tableau::Tableau;
 use plain_words::tableau::plain_tableau;
@@ -13,7 +15,7 @@ use plain_words::word_of;
 ghost use Prim.Native.Nat.{_≤_};
 
 // How many answers are spoilt.
-pub(crate) const SPOILT: usize = 12;
+pub(crate) const SPOILT: usize = 16;
 
 // Lowering 1 in 3113 at rank 3, which gives 3123 by its place 2 and can be made twice: refusal, place, letters and count.
 pub(crate) fn spoilt_on_word() -> usize
@@ -50,9 +52,9 @@ pub(crate) fn spoilt_on_word() -> usize
     one_if(reply == 1) + one_if(place == 1) + one_if(letter == 1) + one_if(times == 1)
 }
 
-// The same on its tableau, by its cell 1: refusal, cell, letters, marks and count.
+// The same on its tableau, by its cell 1: refusal, cell, letters, marks, letter counts and repeat count.
 pub(crate) fn spoilt_on_tableau() -> usize
-    ensures { λ r. ⌜ r ≤ 5 ⌝ }
+    ensures { λ r. ⌜ r ≤ 6 ⌝ }
 {
     let word = word_of(6, 0);
     let moved = word_of(7, 0);
@@ -60,27 +62,35 @@ pub(crate) fn spoilt_on_tableau() -> usize
     let moved_letters = moved.letters;
     let before = plain_tableau(4, word_letters);
     let right = plain_tableau(4, moved_letters);
-    let from = before.letters;
-    let steps = before.marks;
     let letters = right.letters;
     let marks = right.marks;
+    let counts = right.counts;
     let wrong = Tableau {
         letters: turned(letters),
         marks,
+        counts,
     };
     let stepped = Tableau {
         letters,
         marks: turned(marks),
+        counts,
     };
-    let reply = compare_on_tableau(Side::Lowering, 3, 1, 4, from, steps, 2058, right, 2);
-    let cell = compare_on_tableau(Side::Lowering, 3, 1, 4, from, steps, 2, right, 2);
-    let letter = compare_on_tableau(Side::Lowering, 3, 1, 4, from, steps, 1, wrong, 2);
-    let mark = compare_on_tableau(Side::Lowering, 3, 1, 4, from, steps, 1, stepped, 2);
-    let times = compare_on_tableau(Side::Lowering, 3, 1, 4, from, steps, 1, right, 3);
+    let counted = Tableau {
+        letters,
+        marks,
+        counts: turned_counts(counts),
+    };
+    let reply = compare_on_tableau(Side::Lowering, 3, 1, 4, before, 2058, right, 2);
+    let cell = compare_on_tableau(Side::Lowering, 3, 1, 4, before, 2, right, 2);
+    let letter = compare_on_tableau(Side::Lowering, 3, 1, 4, before, 1, wrong, 2);
+    let mark = compare_on_tableau(Side::Lowering, 3, 1, 4, before, 1, stepped, 2);
+    let number = compare_on_tableau(Side::Lowering, 3, 1, 4, before, 1, counted, 2);
+    let times = compare_on_tableau(Side::Lowering, 3, 1, 4, before, 1, right, 3);
     one_if(reply == 1)
         + one_if(cell == 1)
         + one_if(letter == 1)
         + one_if(mark == 1)
+        + one_if(number == 1)
         + one_if(times == 1)
 }
 
@@ -95,5 +105,21 @@ pub(crate) fn spoilt_on_two() -> usize
     let class = compare_on_two(4, 4, letters, 4, 4, other_letters, 0, 0);
     let weights = compare_on_two(4, 4, letters, 4, 4, other_letters, 1, 1);
     let of_ranks = compare_on_two(4, 4, letters, 6, 4, other_letters, 0, 0);
+    one_if(class == 1) + one_if(weights == 1) + one_if(of_ranks == 1)
+}
+
+// The same of their tableaux.
+pub(crate) fn spoilt_on_two_tableaux() -> usize
+    ensures { λ r. ⌜ r ≤ 3 ⌝ }
+{
+    let one = word_of(12, 0);
+    let other = word_of(0, 0);
+    let letters = one.letters;
+    let other_letters = other.letters;
+    let first = plain_tableau(4, letters);
+    let second = plain_tableau(4, other_letters);
+    let class = compare_on_two_tableaux(4, 4, first, 4, 4, second, 0, 0);
+    let weights = compare_on_two_tableaux(4, 4, first, 4, 4, second, 1, 1);
+    let of_ranks = compare_on_two_tableaux(4, 4, first, 6, 4, second, 0, 0);
     one_if(class == 1) + one_if(weights == 1) + one_if(of_ranks == 1)
 }

@@ -3,4 +3,5 @@ pub mod on_classes;
 pub mod on_lines;
 pub mod on_pairs;
 pub mod on_tableaux;
+pub mod on_two_tableaux;
 pub mod on_words;

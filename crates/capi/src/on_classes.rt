@@ -13,10 +13,15 @@ ghost use Rattle.structs.specs.Replies.{countOf, replied, valueOf};
 
 // How many words have a tableau.
 #[no_mangle]
-pub extern "C" fn luchtrav_class_size(rank: usize, letters: &[u8], marks: &[u8]) -> ValueReply
-    ensures { λ r. ⌜ r ≡ valueOf (classSizeSays rank (now (letters .entry)) (now (marks .entry))) ⌝ }
+pub extern "C" fn luchtrav_class_size(
+    rank: usize,
+    letters: &[u8],
+    marks: &[u8],
+    counts: &[u16; 64],
+) -> ValueReply
+    ensures { λ r. ⌜ r ≡ valueOf (classSizeSays rank (now (letters .entry)) (now (marks .entry)) (now (counts .entry))) ⌝ }
 {
-    value_reply(class_size(rank, letters, marks))
+    value_reply(class_size(rank, letters, marks, counts))
 }
 
 // The word with a number, of those that have a tableau, into a lent word.
@@ -25,15 +30,16 @@ pub extern "C" fn luchtrav_class_word(
     rank: usize,
     letters: &[u8],
     marks: &[u8],
+    counts: &[u16; 64],
     number: u64,
     word: &mut [u8],
 ) -> CountReply
     ensures { λ r. ⌜
         (r, now (word .exit))
-        ≡ replied countOf (classWordRun rank (now (letters .entry)) (now (marks .entry)) number (now (word .entry)))
+        ≡ replied countOf (classWordRun rank (now (letters .entry)) (now (marks .entry)) (now (counts .entry)) number (now (word .entry)))
         ⌝ }
 {
-    count_written(class_word(rank, letters, marks, number, word))
+    count_written(class_word(rank, letters, marks, counts, number, word))
 }
 
 // The number of a word, of those that have its tableau.

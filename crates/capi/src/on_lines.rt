@@ -93,19 +93,20 @@ pub extern "C" fn luchtrav_read_word_line(text: &[u8], letters: &mut [u8]) -> Li
     word_line_reply(read_word_line(text, letters))
 }
 
-// A T line, into lent letters and marks.
+// A T line, into lent letters, marks and counts.
 #[no_mangle]
 pub extern "C" fn luchtrav_read_tableau_line(
     text: &[u8],
     letters: &mut [u8],
     marks: &mut [u8],
+    counts: &mut [u16; 64],
 ) -> LineReply
     ensures { λ r. ⌜
-        (r, (now (letters .exit), now (marks .exit)))
-        ≡ replied lineOf (readTRun (now (text .entry)) (now (letters .entry)) (now (marks .entry)))
+        (r, (now (letters .exit), (now (marks .exit), now (counts .exit))))
+        ≡ replied lineOf (readTRun (now (text .entry)) (now (letters .entry)) (now (marks .entry)) (now (counts .entry)))
         ⌝ }
 {
-    tableau_line_reply(read_tableau_line(text, letters, marks))
+    tableau_line_reply(read_tableau_line(text, letters, marks, counts))
 }
 
 // An N line, into lent entries.

@@ -7,9 +7,10 @@ use structs::counts::count_written;
 use structs::counts::done_verdict;
 use structs::replies::CountReply;
 use structs::replies::DoneReply;
+use validity::counted::check_counted_pair;
 use validity::tableau::check_pair;
 ghost use mathlib.Core.Path.{_≡_};
-ghost use Rattle.hypoplactic.specs.Judgements.{pairJudgements};
+ghost use Rattle.hypoplactic.specs.Judgements.{countedPairJudgements, pairJudgements};
 ghost use Rattle.hypoplactic.specs.Replies.{first, passed};
 ghost use Rattle.hypoplactic.specs.TableauOperations.{insertRun, wordRun};
 ghost use Rattle.structs.specs.Replies.{countOf, doneOf, replied};
@@ -27,7 +28,25 @@ pub extern "C" fn luchtrav_check_pair(
     done_verdict(check_pair(rank, letters, marks, entries))
 }
 
-// One letter into the pair in the first cells of three lent lists.
+// 1 to 6 of a pair, 17 of its letter counts, 7 and 8.
+#[no_mangle]
+pub extern "C" fn luchtrav_check_counted_pair(
+    rank: usize,
+    letters: &[u8],
+    marks: &[u8],
+    entries: &[u16],
+    counts: &[u16; 64],
+) -> DoneReply
+    ensures { λ r. ⌜
+        r
+        ≡ doneOf
+        (first (countedPairJudgements rank (now (letters .entry)) (now (marks .entry)) (now (entries .entry)) (now (counts .entry))) passed)
+        ⌝ }
+{
+    done_verdict(check_counted_pair(rank, letters, marks, entries, counts))
+}
+
+// One letter into the pair in the first cells of three lent lists, and its count into the lent counts.
 #[no_mangle]
 pub extern "C" fn luchtrav_insert_letter(
     rank: usize,
@@ -36,13 +55,20 @@ pub extern "C" fn luchtrav_insert_letter(
     letters: &mut [u8],
     marks: &mut [u8],
     entries: &mut [u16],
+    counts: &mut [u16; 64],
 ) -> CountReply
     ensures { λ r. ⌜
-        (r, record { letters = now (letters .exit); marks = now (marks .exit); recording = now (entries .exit) })
-        ≡ replied countOf (insertRun rank used letter (record { letters = now (letters .entry); marks = now (marks .entry); recording = now (entries .entry) }))
+        (r, (record { letters = now (letters .exit); marks = now (marks .exit); recording = now (entries .exit) }, now (counts .exit)))
+        ≡ replied countOf
+        (insertRun
+        rank
+        used
+        letter
+        (record { letters = now (letters .entry); marks = now (marks .entry); recording = now (entries .entry) })
+        (now (counts .entry)))
         ⌝ }
 {
-    count_inserted(insert_letter(rank, used, letter, letters, marks, entries))
+    count_inserted(insert_letter(rank, used, letter, letters, marks, entries, counts))
 }
 
 // The word of a pair, into a lent word.
@@ -52,12 +78,13 @@ pub extern "C" fn luchtrav_word_of_pair(
     letters: &[u8],
     marks: &[u8],
     entries: &[u16],
+    counts: &[u16; 64],
     word: &mut [u8],
 ) -> CountReply
     ensures { λ r. ⌜
         (r, now (word .exit))
-        ≡ replied countOf (wordRun rank (now (letters .entry)) (now (marks .entry)) (now (entries .entry)) (now (word .entry)))
+        ≡ replied countOf (wordRun rank (now (letters .entry)) (now (marks .entry)) (now (entries .entry)) (now (counts .entry)) (now (word .entry)))
         ⌝ }
 {
-    count_written(word_of_pair(rank, letters, marks, entries, word))
+    count_written(word_of_pair(rank, letters, marks, entries, counts, word))
 }

@@ -1,8 +1,7 @@
-// The C interface to tableaux: checks, column reading, moves, a look at a cell, the product of two. Each function is one of the kernel's, its answer as a
-// struct of numbers.
+// The C interface to one tableau: checks, column reading, moves, a look at a cell. Letter counts pass as one pointer to 64 numbers. Each function is one of the
+// kernel's, its answer as a struct of numbers.
 use columns::reading::column_reading;
 use coordinates::cells::cell_at;
-use multiplication::product::product;
 use structs::converters::cell_reply;
 use structs::converters::move_reply;
 use structs::counts::count_repeat;
@@ -16,14 +15,14 @@ use tableaux::moves::lower_count_tableau;
 use tableaux::moves::lower_tableau;
 use tableaux::moves::raise_count_tableau;
 use tableaux::moves::raise_tableau;
+use validity::counted::check_counted_tableau;
 use validity::tableau::check_tableau;
 use viewer::viewers::look_once;
 ghost use mathlib.Core.Path.{_≡_};
-ghost use Rattle.hypoplactic.specs.Judgements.{tableauJudgements};
+ghost use Rattle.hypoplactic.specs.Judgements.{countedJudgements, tableauJudgements};
 ghost use Rattle.hypoplactic.specs.Moves.{lowering, raising};
 ghost use Rattle.hypoplactic.specs.Replies.{first, gives, passed};
 ghost use Rattle.hypoplactic.specs.TableauOperations.{cellAt, lookSays, moveTableauRun, readingRun, repeatTableauSays};
-ghost use Rattle.products.specs.Products.{productRun};
 ghost use Rattle.structs.specs.Replies.{cellOf, countOf, doneOf, moveOf, replied};
 
 // 1 to 6 of a tableau: the making of a ribbon viewer.
@@ -34,49 +33,69 @@ pub extern "C" fn luchtrav_check_tableau(rank: usize, letters: &[u8], marks: &[u
     done_verdict(check_tableau(rank, letters, marks))
 }
 
+// 1 to 6 of a tableau, and 17 of its letter counts.
+#[no_mangle]
+pub extern "C" fn luchtrav_check_counted_tableau(
+    rank: usize,
+    letters: &[u8],
+    marks: &[u8],
+    counts: &[u16; 64],
+) -> DoneReply
+    ensures { λ r. ⌜ r ≡ doneOf (first (countedJudgements rank (now (letters .entry)) (now (marks .entry)) (now (counts .entry))) passed) ⌝ }
+{
+    done_verdict(check_counted_tableau(rank, letters, marks, counts))
+}
+
 // The column reading of a tableau, into a lent word.
 #[no_mangle]
 pub extern "C" fn luchtrav_column_reading(
     rank: usize,
     letters: &[u8],
     marks: &[u8],
+    counts: &[u16; 64],
     word: &mut [u8],
 ) -> CountReply
-    ensures { λ r. ⌜ (r, now (word .exit)) ≡ replied countOf (readingRun rank (now (letters .entry)) (now (marks .entry)) (now (word .entry))) ⌝ }
+    ensures { λ r. ⌜
+        (r, now (word .exit)) ≡ replied countOf (readingRun rank (now (letters .entry)) (now (marks .entry)) (now (counts .entry)) (now (word .entry)))
+        ⌝ }
 {
-    count_written(column_reading(rank, letters, marks, word))
+    count_written(column_reading(rank, letters, marks, counts, word))
 }
 
-// Raising, in the lent letters.
+// Raising, in the lent letters and counts.
 #[no_mangle]
 pub extern "C" fn luchtrav_raise_tableau(
     rank: usize,
     index: usize,
     letters: &mut [u8],
     marks: &[u8],
+    counts: &mut [u16; 64],
 ) -> MoveReply
     ensures { λ r. ⌜
-        (r, now (letters .exit))
-        ≡ replied moveOf (moveTableauRun rank (record { side = raising; index = index }) (now (letters .entry)) (now (marks .entry)))
+        (r, (now (letters .exit), now (counts .exit)))
+        ≡ replied moveOf
+        (moveTableauRun rank (record { side = raising; index = index }) (now (letters .entry)) (now (marks .entry)) (now (counts .entry)))
         ⌝ }
 {
-    move_reply(raise_tableau(rank, index, letters, marks))
+    move_reply(raise_tableau(rank, index, letters, marks, counts))
 }
 
-// Lowering, in the lent letters.
+// Lowering, in the lent letters and counts.
 #[no_mangle]
 pub extern "C" fn luchtrav_lower_tableau(
     rank: usize,
     index: usize,
     letters: &mut [u8],
     marks: &[u8],
+    counts: &mut [u16; 64],
 ) -> MoveReply
     ensures { λ r. ⌜
-        (r, now (letters .exit))
-        ≡ replied moveOf (moveTableauRun rank (record { side = lowering; index = index }) (now (letters .entry)) (now (marks .entry)))
+        (r, (now (letters .exit), now (counts .exit)))
+        ≡ replied moveOf
+        (moveTableauRun rank (record { side = lowering; index = index }) (now (letters .entry)) (now (marks .entry)) (now (counts .entry)))
         ⌝ }
 {
-    move_reply(lower_tableau(rank, index, letters, marks))
+    move_reply(lower_tableau(rank, index, letters, marks, counts))
 }
 
 // How often raising can be repeated.
@@ -86,10 +105,13 @@ pub extern "C" fn luchtrav_raise_count_tableau(
     index: usize,
     letters: &[u8],
     marks: &[u8],
+    counts: &[u16; 64],
 ) -> CountReply
-    ensures { λ r. ⌜ r ≡ countOf (repeatTableauSays rank (record { side = raising; index = index }) (now (letters .entry)) (now (marks .entry))) ⌝ }
+    ensures { λ r. ⌜
+        r ≡ countOf (repeatTableauSays rank (record { side = raising; index = index }) (now (letters .entry)) (now (marks .entry)) (now (counts .entry)))
+        ⌝ }
 {
-    count_repeat(raise_count_tableau(rank, index, letters, marks))
+    count_repeat(raise_count_tableau(rank, index, letters, marks, counts))
 }
 
 // How often lowering can be repeated.
@@ -99,10 +121,13 @@ pub extern "C" fn luchtrav_lower_count_tableau(
     index: usize,
     letters: &[u8],
     marks: &[u8],
+    counts: &[u16; 64],
 ) -> CountReply
-    ensures { λ r. ⌜ r ≡ countOf (repeatTableauSays rank (record { side = lowering; index = index }) (now (letters .entry)) (now (marks .entry))) ⌝ }
+    ensures { λ r. ⌜
+        r ≡ countOf (repeatTableauSays rank (record { side = lowering; index = index }) (now (letters .entry)) (now (marks .entry)) (now (counts .entry)))
+        ⌝ }
 {
-    count_repeat(lower_count_tableau(rank, index, letters, marks))
+    count_repeat(lower_count_tableau(rank, index, letters, marks, counts))
 }
 
 // One look through a ribbon viewer that is made for it.
@@ -124,39 +149,4 @@ pub extern "C" fn luchtrav_cell_at(letters: &[u8], marks: &[u8], place: usize) -
     ensures { λ r. ⌜ r ≡ cellOf (gives (cellAt (now (letters .entry)) (now (marks .entry)) place)) ⌝ }
 {
     cell_reply(cell_at(letters, marks, place))
-}
-
-// The product of two tableaux of one rank, into lent letters and marks.
-#[no_mangle]
-pub extern "C" fn luchtrav_product(
-    rank: usize,
-    first_letters: &[u8],
-    first_marks: &[u8],
-    second_letters: &[u8],
-    second_marks: &[u8],
-    letters: &mut [u8],
-    marks: &mut [u8],
-) -> CountReply
-    ensures { λ r. ⌜
-        (r, (now (letters .exit), now (marks .exit)))
-        ≡ replied countOf
-        (productRun
-        rank
-        (now («first_letters» .entry))
-        (now («first_marks» .entry))
-        (now («second_letters» .entry))
-        (now («second_marks» .entry))
-        (now (letters .entry))
-        (now (marks .entry)))
-        ⌝ }
-{
-    count_written(product(
-        rank,
-        first_letters,
-        first_marks,
-        second_letters,
-        second_marks,
-        letters,
-        marks,
-    ))
 }

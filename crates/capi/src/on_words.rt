@@ -39,20 +39,21 @@ pub extern "C" fn luchtrav_check_word(rank: usize, word: &[u8]) -> DoneReply
     done_verdict(check_word(rank, word))
 }
 
-// The quasi-ribbon tableau of a word, into lent letters and marks.
+// The quasi-ribbon tableau of a word, into lent letters, marks and counts.
 #[no_mangle]
 pub extern "C" fn luchtrav_tableau_of_word(
     rank: usize,
     word: &[u8],
     letters: &mut [u8],
     marks: &mut [u8],
+    counts: &mut [u16; 64],
 ) -> CountReply
     ensures { λ r. ⌜
-        (r, (now (letters .exit), now (marks .exit)))
-        ≡ replied countOf (tableauRun rank (now (word .entry)) (now (letters .entry)) (now (marks .entry)))
+        (r, (now (letters .exit), (now (marks .exit), now (counts .exit))))
+        ≡ replied countOf (tableauRun rank (now (word .entry)) (now (letters .entry)) (now (marks .entry)) (now (counts .entry)))
         ⌝ }
 {
-    count_written(tableau_of_word(rank, word, letters, marks))
+    count_written(tableau_of_word(rank, word, letters, marks, counts))
 }
 
 // The recording ribbon of a word, into lent entries.

@@ -1,6 +1,7 @@
 // The words that the programs brute and brute_moves compare with the kernel, and their pairs and tableaux by plain insertion. Nothing here is
 // of the kernel, and no contract says what a word or a pair is: that is compared by running. Contracts give what callers must know to be safe.
 pub mod comparing;
+pub mod counts;
 pub mod drawn;
 pub mod insertion;
 mod known;

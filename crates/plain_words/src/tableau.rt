@@ -1,12 +1,14 @@
 // The tableau of a word by plain insertion, as the kernel gives and takes it.
+use crate::counts::plain_counts;
 use crate::insertion::plain_pair;
 ghost use mathlib.Core.Path.{_≡_};
 ghost use lib.ListN.{length};
 
-// Letters and marks in the first cells of two arrays.
+// Letters and marks in the first cells of two arrays, and the letter counts.
 pub struct Tableau {
     pub letters: [u8; 1024],
     pub marks: [u8; 1024],
+    pub counts: [u16; 64],
 }
 
 // Numbers as bytes.
@@ -24,7 +26,7 @@ fn narrowed(list: [u16; 1024]) -> [u8; 1024]
 
 // The tableau of a word.
 pub fn plain_tableau(count: usize, word: [u8; 1024]) -> Tableau
-    ensures { λ r. ⌜ (length (r .letters) ≡ 1024) × (length (r .marks) ≡ 1024) ⌝ }
+    ensures { λ r. ⌜ (length (r .letters) ≡ 1024) × (length (r .marks) ≡ 1024) × (length (r .counts) ≡ 64) ⌝ }
 {
     let pair = plain_pair(count, word);
     let letters = pair.letters;
@@ -32,5 +34,6 @@ pub fn plain_tableau(count: usize, word: [u8; 1024]) -> Tableau
     Tableau {
         letters: narrowed(letters),
         marks: narrowed(marks),
+        counts: plain_counts(count, word),
     }
 }

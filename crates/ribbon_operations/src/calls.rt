@@ -6,6 +6,7 @@ use notation::answers::print_gives_two;
 use notation::answers::print_move;
 use notation::answers::print_refusal;
 use notation::answers::print_repeat;
+use notation::answers::print_verdict;
 use notation::answers::print_written;
 use notation::fields::number;
 use notation::printing::print;
@@ -23,6 +24,8 @@ use tableaux::moves::lower_count_tableau;
 use tableaux::moves::lower_tableau;
 use tableaux::moves::raise_count_tableau;
 use tableaux::moves::raise_tableau;
+use validity::counted::check_counted_pair;
+use validity::counted::check_counted_tableau;
 use viewer::viewers::look_once;
 use writers::line::write_recording_line;
 use writers::line::write_tableau_line;
@@ -63,30 +66,46 @@ fn print_inserted(answer: Inserted) {
     }
 }
 
-// Moves, 0 and 1, questions, 2 to 4, and word and line of a tableau, 5 and 6: one list of bytes is lent at most.
-fn call_on_list(operation: usize, rank: usize, index: usize, a: &[u8], b: &[u8], out: &mut [u8]) {
+// Questions about a tableau, 0 to 3: nothing is lent.
+fn ask(operation: usize, rank: usize, index: usize, a: &[u8], b: &[u8], counts: &[u16; 64]) {
     if operation == 0 {
-        return print_move(raise_tableau(rank, index, out, a));
+        return print_repeat(raise_count_tableau(rank, index, a, b, counts));
     }
     if operation == 1 {
-        return print_move(lower_tableau(rank, index, out, a));
+        return print_repeat(lower_count_tableau(rank, index, a, b, counts));
     }
     if operation == 2 {
-        return print_repeat(raise_count_tableau(rank, index, a, b));
-    }
-    if operation == 3 {
-        return print_repeat(lower_count_tableau(rank, index, a, b));
-    }
-    if operation == 4 {
         return print_cell(look_once(rank, a, b, index));
     }
-    if operation == 5 {
-        return print_written(column_reading(rank, a, b, out));
-    }
-    print_written(write_tableau_line(rank, a, b, out))
+    print_verdict(check_counted_tableau(rank, a, b, counts))
 }
 
-// Calls from 9 on, which write into letters and marks, or into entries too, or into entries alone.
+// Calls that are given a tableau, or a pair: word and line of a tableau, 4 and 5, and the check, the word and the line of a pair or its entries.
+fn call_on_given(
+    operation: usize,
+    rank: usize,
+    a: &[u8],
+    b: &[u8],
+    entries: &[u16],
+    counts: &[u16; 64],
+    out: &mut [u8],
+) {
+    if operation == 4 {
+        return print_written(column_reading(rank, a, b, counts, out));
+    }
+    if operation == 5 {
+        return print_written(write_tableau_line(rank, a, b, out));
+    }
+    if operation == 6 {
+        return print_verdict(check_counted_pair(rank, a, b, entries, counts));
+    }
+    if operation == 7 {
+        return print_written(word_of_pair(rank, a, b, entries, counts, out));
+    }
+    print_written(write_recording_line(entries, out))
+}
+
+// Calls from 11 on, which write into letters, marks and counts, or into entries too, or into entries alone.
 fn call_on_parts(
     operation: usize,
     line: &[u8],
@@ -94,26 +113,27 @@ fn call_on_parts(
     letters: &mut [u8],
     marks: &mut [u8],
     entries: &mut [u16],
+    counts: &mut [u16; 64],
 ) {
     let rank = number(line, 1);
-    if operation == 9 {
-        return print_tableau(read_tableau_line(a, letters, marks));
-    }
-    if operation == 10 {
-        let used = number(line, 2);
-        let letter = number(line, 3);
-        return print_inserted(insert_letter(rank, used, letter, letters, marks, entries));
-    }
     if operation == 11 {
-        return print_written(tableau_of_word(rank, a, letters, marks));
+        return print_tableau(read_tableau_line(a, letters, marks, counts));
     }
     if operation == 12 {
+        let used = number(line, 2);
+        let letter = number(line, 3);
+        return print_inserted(insert_letter(rank, used, letter, letters, marks, entries, counts));
+    }
+    if operation == 13 {
+        return print_written(tableau_of_word(rank, a, letters, marks, counts));
+    }
+    if operation == 14 {
         return print_written(recording_of_word(rank, a, entries));
     }
     print_recording(read_recording_line(a, entries))
 }
 
-// Any call. 7 and 8 are given entries.
+// Any call. Moves, 9 and 10, change lent letters and counts.
 pub(crate) fn call(
     operation: usize,
     line: &[u8],
@@ -122,16 +142,21 @@ pub(crate) fn call(
     letters: &mut [u8],
     marks: &mut [u8],
     entries: &mut [u16],
+    counts: &mut [u16; 64],
 ) {
     let rank = number(line, 1);
-    if operation < 7 {
-        return call_on_list(operation, rank, number(line, 2), a, b, letters);
+    let index = number(line, 2);
+    if operation < 4 {
+        return ask(operation, rank, index, a, b, counts);
     }
-    if operation == 7 {
-        return print_written(word_of_pair(rank, a, b, entries, letters));
+    if operation < 9 {
+        return call_on_given(operation, rank, a, b, entries, counts, letters);
     }
-    if operation == 8 {
-        return print_written(write_recording_line(entries, letters));
+    if operation == 9 {
+        return print_move(raise_tableau(rank, index, letters, a, counts));
     }
-    call_on_parts(operation, line, a, letters, marks, entries)
+    if operation == 10 {
+        return print_move(lower_tableau(rank, index, letters, a, counts));
+    }
+    call_on_parts(operation, line, a, letters, marks, entries, counts)
 }

@@ -3,11 +3,13 @@
 use crate::calls::call;
 use notation::fields::field;
 use notation::lists::bytes_of;
+use notation::lists::counts_of;
 use notation::lists::entries_of;
 use notation::printing::print_lent_bytes;
+use notation::printing::print_lent_counts;
 use notation::printing::print_lent_entries;
 
-// Lends letters, marks and entries to the call.
+// Lends letters, marks, entries and counts to the call.
 fn lend(operation: usize, kinds: &[u8], line: &[u8], a: &[u8], b: &[u8]) {
     let mut letters_space: [u8; 4200] = [0; 4200];
     let mut marks_space: [u8; 1100] = [0; 1100];
@@ -18,6 +20,7 @@ fn lend(operation: usize, kinds: &[u8], line: &[u8], a: &[u8], b: &[u8]) {
     let in_letters = bytes_of(kinds, line, b'L', b'T', letters);
     let in_marks = bytes_of(kinds, line, b'M', b'M', marks);
     let in_entries = entries_of(kinds, line, entries);
+    let mut counts = counts_of(kinds, line, b'k', b'K');
     let lent_letters = &mut letters[0..in_letters];
     let lent_marks = &mut marks[0..in_marks];
     let lent_entries = &mut entries[0..in_entries];
@@ -29,11 +32,13 @@ fn lend(operation: usize, kinds: &[u8], line: &[u8], a: &[u8], b: &[u8]) {
         lent_letters,
         lent_marks,
         lent_entries,
+        &mut counts,
     );
     print_lent_bytes(kinds, b'L', lent_letters);
     print_lent_bytes(kinds, b'T', lent_letters);
     print_lent_bytes(kinds, b'M', lent_marks);
     print_lent_entries(kinds, lent_entries);
+    print_lent_counts(kinds, counts);
 }
 
 // Gives the lists that are not lent.
@@ -50,8 +55,10 @@ fn give(operation: usize, kinds: &[u8], line: &[u8]) {
 }
 
 // The call of a line. The kinds of arguments, in the order of the calls: n is a number, t a text, a and b are lists of bytes, e is a list of 16-bit
-// elements; L and M are lists of bytes that are lent, T is one that a text is written into, E is a lent list of 16-bit elements.
+// elements, k are letter counts; L and M are lists of bytes that are lent, T is one that a text is written into, E is a lent list of 16-bit elements, K are lent
+// letter counts.
 pub(crate) fn make_call(operation: usize, line: &[u8]) {
-    let kinds = b"nnLa nnLa nnab nnab nnab nabL nabT nabeL eT tLM nnnLME naLM naE tE";
+    let kinds =
+        b"nnabk nnabk nnab nabk nabkL nabT nabek nabekL eT nnLaK nnLaK tLMK nnnLMEK naLMK naE tE";
     give(operation, field(kinds, operation), line);
 }

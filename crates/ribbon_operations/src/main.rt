@@ -1,22 +1,22 @@
 // Makes every call of operations that make or take tableaux and recording ribbons, or their lines, that a table names, and prints each line of the table with
 // what came of its call (notation).
 mod calls;
-mod factors;
 mod lending;
+mod two_tableaux;
 
-use factors::multiply;
 use lending::make_call;
 use notation::fields::field;
 use notation::fields::field_of;
 use notation::fields::place_of;
 use notation::printing::print;
 use notation::source::read_argument;
+use two_tableaux::call_on_two;
 
-// The place of a line's operation in the order of the calls, the product last; 15 where there is no such operation.
+// The place of a line's operation in the order of the calls, those on two tableaux last; 19 where there is no such operation.
 fn operation_of(line: &[u8]) -> usize {
     let names =
-        b"raise_tableau lower_tableau raise_count_tableau lower_count_tableau look_once column_reading write_tableau_line word_of_pair write_recording_line read_tableau_line insert_letter tableau_of_word recording_of_word read_recording_line product";
-    field_of(names, field(line, 0), 15)
+        b"raise_count_tableau lower_count_tableau look_once check_counted_tableau column_reading write_tableau_line check_counted_pair word_of_pair write_recording_line raise_tableau lower_tableau read_tableau_line insert_letter tableau_of_word recording_of_word read_recording_line product same_class_of_tableaux compare_weights_of_tableaux";
+    field_of(names, field(line, 0), 19)
 }
 
 // A line, and what came of its call.
@@ -24,12 +24,12 @@ fn answer_line(line: &[u8]) {
     let operation = operation_of(line);
     print(line);
     print(b" = ");
-    if operation < 14 {
+    if operation < 16 {
         make_call(operation, line);
         return print(b"\n");
     }
-    if operation == 14 {
-        multiply(line);
+    if operation < 19 {
+        call_on_two(operation - 16, line);
         return print(b"\n");
     }
     print(b"unknown\n");

@@ -4,51 +4,31 @@ use class_numbers::classes::class_size;
 use class_numbers::classes::class_word;
 use classes::two_words::same_class;
 use lines::tableau::tableau_line_of_word;
-use notation::answers::print_gives;
+use notation::answers::print_class;
 use notation::answers::print_gives_two;
 use notation::answers::print_move;
 use notation::answers::print_numbered;
 use notation::answers::print_refusal;
 use notation::answers::print_repeat;
+use notation::answers::print_weights;
 use notation::answers::print_written;
 use notation::fields::field;
 use notation::fields::large_number;
 use notation::fields::number;
 use notation::lists::bytes_of;
+use notation::lists::counts_of;
 use notation::printing::print_lent_bytes;
 use operators::moves::lower_count_word;
 use operators::moves::lower_word;
 use operators::moves::raise_count_word;
 use operators::moves::raise_word;
 use readers::word::read_word_line;
-use refusals::answers::Class;
 use refusals::answers::Junctions;
-use refusals::answers::Weights;
 use refusals::answers::WordLine;
 use weights::two_words::compare_weights;
 use words::junctions::junctions;
 use writers::line::write_junction_line;
 use writers::line::write_word_line;
-
-// 1 for two words of one class, 0 for others.
-fn print_class(answer: Class) {
-    match answer {
-        Class::Same => print_gives(1),
-        Class::Different => print_gives(0),
-        Class::Refused(refusal) => print_refusal(refusal),
-    }
-}
-
-// 0 for equal weights, 1 lower, 2 higher, 3 neither.
-fn print_weights(answer: Weights) {
-    match answer {
-        Weights::Equal => print_gives(0),
-        Weights::Lower => print_gives(1),
-        Weights::Higher => print_gives(2),
-        Weights::Neither => print_gives(3),
-        Weights::Refused(refusal) => print_refusal(refusal),
-    }
-}
 
 // The junction set, then the rows.
 fn print_junctions(answer: Junctions) {
@@ -84,20 +64,21 @@ fn ask(operation: usize, rank: usize, index: usize, a: &[u8], b: &[u8]) {
 }
 
 // Words of a class by number, 11 to 13. The second number of a line is that of a word.
-fn call_on_class(operation: usize, line: &[u8], a: &[u8], b: &[u8], out: &mut [u8]) {
+fn call_on_class(operation: usize, kinds: &[u8], line: &[u8], a: &[u8], b: &[u8], out: &mut [u8]) {
     let rank = number(line, 1);
+    let counts = counts_of(kinds, line, b'k', b'k');
     if operation == 11 {
-        return print_numbered(class_size(rank, a, b));
+        return print_numbered(class_size(rank, a, b, &counts));
     }
     if operation == 12 {
         let asked = large_number(field(line, 2)) as u64;
-        return print_written(class_word(rank, a, b, asked, out));
+        return print_written(class_word(rank, a, b, &counts, asked, out));
     }
     print_numbered(class_number(rank, a))
 }
 
 // Any call. Moves, 0 and 1, and lines read and written, 7 to 10, have one list of bytes lent.
-fn call(operation: usize, line: &[u8], a: &[u8], b: &[u8], out: &mut [u8]) {
+fn call(operation: usize, kinds: &[u8], line: &[u8], a: &[u8], b: &[u8], out: &mut [u8]) {
     let rank = number(line, 1);
     let index = number(line, 2);
     if operation == 0 {
@@ -121,7 +102,7 @@ fn call(operation: usize, line: &[u8], a: &[u8], b: &[u8], out: &mut [u8]) {
     if operation == 10 {
         return print_written(tableau_line_of_word(rank, a, out));
     }
-    call_on_class(operation, line, a, b, out)
+    call_on_class(operation, kinds, line, a, b, out)
 }
 
 // Each list of a line in memory of its own that is given or lent to the call; a list that the operation does not have is empty.
@@ -138,14 +119,21 @@ fn lend(operation: usize, kinds: &[u8], line: &[u8]) {
     let a = &first[..];
     let b = &second[..];
     let out = &mut lent[0..in_lent];
-    call(operation, line, &a[0..in_first], &b[0..in_second], out);
+    call(
+        operation,
+        kinds,
+        line,
+        &a[0..in_first],
+        &b[0..in_second],
+        out,
+    );
     print_lent_bytes(kinds, b'L', out);
     print_lent_bytes(kinds, b'T', out);
 }
 
-// The call of a line. The kinds of arguments, in the order of the calls: n is a number, t a text, a and b are lists of bytes, L is a list of bytes that is
-// lent, T one that a text is written into.
+// The call of a line. The kinds of arguments, in the order of the calls: n is a number, t a text, a and b are lists of bytes, k are letter counts, L is a
+// list of bytes that is lent, T one that a text is written into.
 pub(crate) fn make_call(operation: usize, line: &[u8]) {
-    let kinds = b"nnL nnL nna nna nnab nnab na tL naT naT naT nab nnabL na";
+    let kinds = b"nnL nnL nna nna nnab nnab na tL naT naT naT nabk nnabkL na";
     lend(operation, field(kinds, operation), line);
 }
