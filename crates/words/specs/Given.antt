@@ -4,6 +4,7 @@
 --     refused-counts, passed-counts     the table of a refused word and of an accepted one
 --     refused-set, passed-set           the same of the set
 --     accepted-counts, accepted-set     of an accepted word they are the counts and the set themselves
+--     counts-given                      and no other 64 numbers are the counts
 --     giving                            the ruleset of both
 -- Assumes nothing.
 use Prim.Native.Nat.{ℕ, _≤_}
@@ -12,9 +13,11 @@ use mathlib.Core.List.{List}
 use lib.ListN.{length, replicate, getD-replicate}
 use borrow.Author.Needs.{needs}
 use Rattle.hypoplactic.specs.Words.{Accepted, Within, count}
+use Rattle.hypoplactic.specs.Counts.{countsOf}
 use Rattle.hypoplactic.specs.Junctions.{junctionSet}
 use Rattle.hypoplactic.specs.Replies.{Said, passed, first, after}
 use Rattle.hypoplactic.specs.Judgements.{wordJudgements}
+use Rattle.hypoplactic.proofs.Theory.Counts.{counts-whole}
 use Rattle.hypoplactic.proofs.Theory.Judged.{word-judged}
 use Rattle.hypoplactic.proofs.Theory.Limits.{accepted-within}
 use Rattle.refusals.specs.declared.refusal.Refusal.{Refusal}
@@ -70,6 +73,9 @@ module _ {n : ℕ} {w : List ℕ} (h : Accepted n w) where
   pub accepted-counts : {xs : List ℕ} → Table (countGiven n w) xs → Counts w xs
   unfolding countGiven
   accepted-counts t = record { size = t .size; entry = λ j l. t .entry j l ∙ told _ }
+
+  pub counts-given : {xs : List ℕ} → Table (countGiven n w) xs → xs ≡ countsOf w
+  counts-given {xs} t = let c : Counts w xs = accepted-counts t in counts-whole w xs (c .size) (record { entry = c .entry })
 
   pub accepted-set : {s : ℕ} → s ≡ junctionGiven n w → s ≡ junctionSet w
   unfolding junctionGiven
