@@ -15,7 +15,7 @@ use borrow.Author.Needs.{needs}
 use borrow.Rule.Slice.PartMut.{midOf, putMid, mid-len, put-same, same-len-mid}
 use Rattle.hypoplactic.specs.Reading.{columnReading, readFrom}
 use Rattle.hypoplactic.specs.Replies.{gives, written}
-use Rattle.hypoplactic.specs.Judgements.{roomJudged, tableauJudgements}
+use Rattle.hypoplactic.specs.Judgements.{countedJudgements, roomJudged}
 use Rattle.hypoplactic.specs.TableauOperations.{readingRun, readingSays}
 use Rattle.hypoplactic.proofs.Theory.Judgements.{alike-judged, room-judged}
 use Rattle.buffers.specs.Copies.{copied, copied-all}
@@ -131,15 +131,16 @@ end-reading {xs} {ms} {copy} {now} {at} old r f l h =
 
 -- ---- the operation
 
--- The verdict of 1 to 6 on the tableau and of 13,
-module _ {v : Verdict} (n : ℕ) (xs ms old : List ℕ) (e : saidVerdict v ≡ checksThen (tableauJudgements n xs ms) (roomJudged (length xs) (length old) ∷ [])) where
+-- The verdict of 1 to 6 and 17 on the tableau and of 13,
+module _ {v : Verdict} (n : ℕ) (xs ms cs old : List ℕ)
+    (e : saidVerdict v ≡ checksThen (countedJudgements n xs ms cs) (roomJudged (length xs) (length old) ∷ [])) where
   -- which refuses, and the word is as it was,
-  pub reading-refused : (r : Refusal) → v ≡ Refused r → (saidRefusal r, old) ≡ readingRun n xs ms old
+  pub reading-refused : (r : Refusal) → v ≡ Refused r → (saidRefusal r, old) ≡ readingRun n xs ms cs old
   unfolding readingRun readingSays
   reading-refused r q = run-refused _ _ e _ _ old r q
 
   -- or passes, and the reading is written,
-  pub reading-passed : (now : List ℕ) → v ≡ Passed → now ≡ written (columnReading xs ms) old → (gives (length xs ∷ []), now) ≡ readingRun n xs ms old
+  pub reading-passed : (now : List ℕ) → v ≡ Passed → now ≡ written (columnReading xs ms) old → (gives (length xs ∷ []), now) ≡ readingRun n xs ms cs old
   unfolding readingRun readingSays
   reading-passed now q h = run-passed _ _ e _ _ old now q h
 

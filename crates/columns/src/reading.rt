@@ -5,12 +5,12 @@ use refusals::answers::Verdict;
 use refusals::answers::Written;
 use refusals::chains::or_else;
 use refusals::numbers::check_room;
-use validity::tableau::check_tableau;
+use validity::counted::check_counted_tableau;
 ghost use Prim.Native.Nat.{_<_, _≤_};
 ghost use mathlib.Core.List.{[], _∷_, reverse};
 ghost use mathlib.Core.Path.{_≡_};
 ghost use lib.ListN.{length};
-ghost use Rattle.hypoplactic.specs.Judgements.{roomJudged, tableauJudgements};
+ghost use Rattle.hypoplactic.specs.Judgements.{countedJudgements, roomJudged};
 ghost use Rattle.hypoplactic.specs.Reading.{columnReading};
 ghost use Rattle.hypoplactic.specs.Replies.{written};
 ghost use Rattle.hypoplactic.specs.TableauOperations.{readingRun};
@@ -94,27 +94,39 @@ fn write_reading(letters: &[u8], marks: &[u8], word: &mut [u8])
     }
 }
 
-// 1 to 6 of the tableau, and 13 of a word of so many elements.
-fn check_reading(rank: usize, letters: &[u8], marks: &[u8], room: usize) -> Verdict
+// 1 to 6 of the tableau, 17 of its letter counts, and 13 of a word of so many elements.
+fn check_reading(
+    rank: usize,
+    letters: &[u8],
+    marks: &[u8],
+    counts: &[u16; 64],
+    room: usize,
+) -> Verdict
     ensures { λ r. ⌜
         saidVerdict r
         ≡ checksThen
-        (tableauJudgements rank (now (letters .entry)) (now (marks .entry)))
+        (countedJudgements rank (now (letters .entry)) (now (marks .entry)) (now (counts .entry)))
         (roomJudged (length (now (letters .entry))) room ∷ [])
         ⌝ }
 {
-    let tableau = check_tableau(rank, letters, marks);
+    let tableau = check_counted_tableau(rank, letters, marks, counts);
     or_else(tableau, check_room(letters.len(), room))
 }
 
-// The column reading of a tableau, into a lent word.
-pub fn column_reading(rank: usize, letters: &[u8], marks: &[u8], word: &mut [u8]) -> Written
+// The column reading of a tableau that brings its letter counts, into a lent word.
+pub fn column_reading(
+    rank: usize,
+    letters: &[u8],
+    marks: &[u8],
+    counts: &[u16; 64],
+    word: &mut [u8],
+) -> Written
     ensures { λ r. ⌜
         (saidWritten r, now (word .exit))
-        ≡ readingRun rank (now (letters .entry)) (now (marks .entry)) (now (word .entry))
+        ≡ readingRun rank (now (letters .entry)) (now (marks .entry)) (now (counts .entry)) (now (word .entry))
         ⌝ }
 {
-    if let Verdict::Refused(refusal) = check_reading(rank, letters, marks, word.len()) {
+    if let Verdict::Refused(refusal) = check_reading(rank, letters, marks, counts, word.len()) {
         return Written::Refused(refusal);
     }
     write_reading(letters, marks, word);
