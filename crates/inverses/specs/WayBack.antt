@@ -22,10 +22,10 @@ use Rattle.hypoplactic.specs.Words.{Within, count}
 use Rattle.hypoplactic.specs.Ribbons.{PairAt}
 use Rattle.hypoplactic.specs.Insertion.{wordOf}
 use Rattle.hypoplactic.specs.Replies.{gives, written}
-use Rattle.hypoplactic.specs.Judgements.{pairJudgements, roomJudged}
+use Rattle.hypoplactic.specs.Judgements.{countedPairJudgements, roomJudged}
 use Rattle.hypoplactic.specs.TableauOperations.{wordRun, wordSays}
 use Rattle.hypoplactic.proofs.Theory.Contents.{within-at}
-use Rattle.hypoplactic.proofs.Theory.Judged.{pair-passing}
+use Rattle.hypoplactic.proofs.Theory.Judged.{counted-pair-passing}
 use Rattle.hypoplactic.proofs.Theory.Judgements.{alike-judged, room-judged}
 use Rattle.hypoplactic.proofs.Theory.Memory.{written-length}
 use Rattle.hypoplactic.proofs.Theory.Occurrences.{count-tail}
@@ -121,15 +121,16 @@ end-writing {xs} {rs} {old} {now} {k} h w l =
 
 -- ---- the reply
 
--- The verdict of 1 to 8 on the pair and of 13,
-module _ {v : Verdict} (n : ℕ) (xs ms rs out : List ℕ) (e : saidVerdict v ≡ checksThen (pairJudgements n xs ms rs) (roomJudged (length xs) (length out) ∷ [])) where
+-- The verdict of 1 to 8 and 17 on the pair and of 13,
+module _ {v : Verdict} (n : ℕ) (xs ms rs cs out : List ℕ)
+    (e : saidVerdict v ≡ checksThen (countedPairJudgements n xs ms rs cs) (roomJudged (length xs) (length out) ∷ [])) where
   -- which refuses, and nothing changes,
-  pub way-back-refused : (r : Refusal) → v ≡ Refused r → (saidRefusal r, out) ≡ wordRun n xs ms rs out
+  pub way-back-refused : (r : Refusal) → v ≡ Refused r → (saidRefusal r, out) ≡ wordRun n xs ms rs cs out
   unfolding wordRun wordSays
   way-back-refused r q = run-refused _ _ e _ _ out r q
 
   -- or passes, and the word is written,
-  pub way-back-passed : (now : List ℕ) → v ≡ Passed → now ≡ written (wordOf xs rs) out → (gives (length xs ∷ []), now) ≡ wordRun n xs ms rs out
+  pub way-back-passed : (now : List ℕ) → v ≡ Passed → now ≡ written (wordOf xs rs) out → (gives (length xs ∷ []), now) ≡ wordRun n xs ms rs cs out
   unfolding wordRun wordSays
   way-back-passed now q h = run-passed _ _ e _ _ out now q h
 
@@ -137,7 +138,7 @@ module _ {v : Verdict} (n : ℕ) (xs ms rs out : List ℕ) (e : saidVerdict v �
   pub way-back-recorded : v ≡ Passed → Recorded xs rs (length out)
   way-back-recorded q =
       let (checks, (room, t)) = then-passing _ _ e q in
-      let pair : PairAt n xs ms rs = pair-passing n xs ms rs .0 checks in
+      let pair : PairAt n xs ms rs = counted-pair-passing n xs ms rs cs .0 checks .0 in
       record { alike = alike-judged _ _ .0 (checks .1 .1 .0) .1 .0; once = pair .pair .recording .once; roomy = room-judged _ _ .0 room }
 
 pub ruleset going-back = (

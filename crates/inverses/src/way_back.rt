@@ -4,13 +4,13 @@ use refusals::answers::Verdict;
 use refusals::answers::Written;
 use refusals::chains::or_else;
 use refusals::numbers::check_room;
-use validity::tableau::check_pair;
+use validity::counted::check_counted_pair;
 ghost use mathlib.Core.Path.{_≡_};
 ghost use mathlib.Core.List.{[], _∷_};
 ghost use Prim.Native.Nat.{_<_};
 ghost use lib.ListN.{length};
 ghost use Rattle.hypoplactic.specs.Insertion.{wordOf};
-ghost use Rattle.hypoplactic.specs.Judgements.{pairJudgements, roomJudged};
+ghost use Rattle.hypoplactic.specs.Judgements.{countedPairJudgements, roomJudged};
 ghost use Rattle.hypoplactic.specs.Replies.{written};
 ghost use Rattle.hypoplactic.specs.TableauOperations.{wordRun};
 ghost use Rattle.hypoplactic.specs.Words.{Within};
@@ -19,22 +19,23 @@ ghost use Rattle.refusals.specs.Said.{saidVerdict, saidWritten};
 ghost use Rattle.inverses.specs.Recorded.{Recorded};
 ghost use Rattle.inverses.specs.WayBack.{Told};
 
-// 1 to 8 of the pair, and 13: room for as many letters as it has cells.
+// 1 to 6 of the pair, 17 of its letter counts, 7 and 8, and 13: room for as many letters as it has cells.
 fn check_way_back(
     rank: usize,
     letters: &[u8],
     marks: &[u8],
     entries: &[u16],
+    counts: &[u16; 64],
     room: usize,
 ) -> Verdict
     ensures { λ r. ⌜
         saidVerdict r
         ≡ checksThen
-        (pairJudgements rank (now (letters .entry)) (now (marks .entry)) (now (entries .entry)))
+        (countedPairJudgements rank (now (letters .entry)) (now (marks .entry)) (now (entries .entry)) (now (counts .entry)))
         (roomJudged (length (now (letters .entry))) room ∷ [])
         ⌝ }
 {
-    let pair = check_pair(rank, letters, marks, entries);
+    let pair = check_counted_pair(rank, letters, marks, entries, counts);
     or_else(pair, check_room(letters.len(), room))
 }
 
@@ -59,20 +60,28 @@ fn write_word(letters: &[u8], entries: &[u16], word: &mut [u8])
     }
 }
 
-// Pair back to word, into the lent word; what stands in it beyond the letters keeps its value.
+// Pair back to word, the pair with its letter counts, into the lent word; what stands in it beyond the letters keeps its value.
 pub fn word_of_pair(
     rank: usize,
     letters: &[u8],
     marks: &[u8],
     entries: &[u16],
+    counts: &[u16; 64],
     word: &mut [u8],
 ) -> Written
     ensures { λ r. ⌜
         (saidWritten r, now (word .exit))
-        ≡ wordRun rank (now (letters .entry)) (now (marks .entry)) (now (entries .entry)) (now (word .entry))
+        ≡ wordRun rank (now (letters .entry)) (now (marks .entry)) (now (entries .entry)) (now (counts .entry)) (now (word .entry))
         ⌝ }
 {
-    if let Verdict::Refused(refusal) = check_way_back(rank, letters, marks, entries, word.len()) {
+    if let Verdict::Refused(refusal) = check_way_back(
+        rank,
+        letters,
+        marks,
+        entries,
+        counts,
+        word.len(),
+    ) {
         return Written::Refused(refusal);
     }
     write_word(letters, entries, word);
