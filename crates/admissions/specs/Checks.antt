@@ -1,11 +1,11 @@
 -- The checks of insertion.
 --     pairWith xs ms rs              three lists as a pair
---     sizeJudgements, cellJudgements, roomJudgements     1 2 3; 4 to 8 of the used cells and the new letter; 12 and 13
+--     sizeJudgements, cellJudgements, roomJudgements     1 2 3; 4 5 6 17 7 8 of the used cells and the new letter; 12 and 13
 --     usedJudgements, freeJudgements     the same of the lists of a pair
---     usedChecks, insertChecks       what 4 to 8, 12 and 13, and what all of them say
+--     usedChecks, insertChecks       what 4 to 8 and 17, 12 and 13, and what all of them say
 --     Held                           the used cells are there
 --     all-letters                    4 of the used letters and then of the new one, whose place is their number
---     used-checked                   4 to 8, 12 and 13 from the verdicts on cells and rooms
+--     used-checked                   4 to 8 and 17, 12 and 13 from the verdicts on cells and rooms
 --     sizes-refused, sizes-passed, sizes-held     what follows from the verdict on 1, 2 and 3
 --     checking                       the ruleset of the checks
 -- Assumes nothing.
@@ -20,6 +20,7 @@ use lib.ListN.{length, take}
 use borrow.Author.Needs.{needs}
 use Rattle.hypoplactic.specs.Insertion.{Pair}
 use Rattle.hypoplactic.specs.Replies.{Said, passed, orElse, first, refuseIf}
+use Rattle.hypoplactic.specs.Counts.{countsJudged}
 use Rattle.hypoplactic.specs.Judgements.{entriesJudged, fullJudged, lengthJudged, lettersFrom, lettersJudged, marksJudged, outside, rankJudged, recordingJudged, risingJudged, roomJudged, usedJudged}
 use Rattle.hypoplactic.proofs.Theory.Judgements.{length-judged, used-judged}
 use Rattle.refusals.specs.Chains.{chained}
@@ -37,30 +38,30 @@ pairWith xs ms rs = record { letters = xs; marks = ms; recording = rs }
 abbrev pub sizeJudgements : ℕ → ℕ → ℕ → ℕ → ℕ → List Said
 sizeJudgements n used letters marks entries = rankJudged n ∷ lengthJudged used ∷ usedJudged used (letters ∷ marks ∷ entries ∷ []) ∷ []
 
--- 4 to 8 of the used cells and the new letter.
-abbrev pub cellJudgements : ℕ → ℕ → ℕ → List ℕ → List ℕ → List ℕ → List Said
-cellJudgements n used a xs ms rs =
-    lettersJudged n (xs ++ a ∷ []) ∷ risingJudged xs ∷ marksJudged xs ms ∷ entriesJudged used rs ∷ recordingJudged rs ms ∷ []
+-- 4 to 8 of the used cells and the new letter, and 17 of the counts of the used letters.
+abbrev pub cellJudgements : ℕ → ℕ → ℕ → List ℕ → List ℕ → List ℕ → List ℕ → List Said
+cellJudgements n used a xs ms rs cs =
+    lettersJudged n (xs ++ a ∷ []) ∷ risingJudged xs ∷ marksJudged xs ms ∷ countsJudged cs xs ∷ entriesJudged used rs ∷ recordingJudged rs ms ∷ []
 
 -- 12 and 13, from the lengths of the three lists.
 abbrev pub roomJudgements : ℕ → ℕ → ℕ → ℕ → ℕ → List Said
 roomJudgements used need letters marks entries = fullJudged used ∷ roomJudged need letters ∷ roomJudged need marks ∷ roomJudged need entries ∷ []
 
--- 4 to 8 of the used cells of a pair and the new letter, and 12 and 13 of its lists.
-abbrev pub usedJudgements : ℕ → ℕ → ℕ → Pair → List Said
-usedJudgements n used a p = cellJudgements n used a (take used (p .letters)) (take used (p .marks)) (take used (p .recording))
+-- 4 to 8 and 17 of the used cells of a pair and the new letter, and 12 and 13 of its lists.
+abbrev pub usedJudgements : ℕ → ℕ → ℕ → Pair → List ℕ → List Said
+usedJudgements n used a p cs = cellJudgements n used a (take used (p .letters)) (take used (p .marks)) (take used (p .recording)) cs
 
 abbrev pub freeJudgements : ℕ → Pair → List Said
 freeJudgements used p = roomJudgements used (suc used) (length (p .letters)) (length (p .marks)) (length (p .recording))
 
--- What 4 to 8, 12 and 13 say.
-abbrev pub usedChecks : ℕ → ℕ → ℕ → Pair → Said
-usedChecks n used a p = checksThen (usedJudgements n used a p) (freeJudgements used p)
+-- What 4 to 8 and 17, 12 and 13 say.
+abbrev pub usedChecks : ℕ → ℕ → ℕ → Pair → List ℕ → Said
+usedChecks n used a p cs = checksThen (usedJudgements n used a p cs) (freeJudgements used p)
 
 -- What all checks of insertion say.
-abbrev pub insertChecks : ℕ → ℕ → ℕ → Pair → Said
-insertChecks n used a p =
-    checksThen (sizeJudgements n used (length (p .letters)) (length (p .marks)) (length (p .recording))) (usedJudgements n used a p ++ freeJudgements used p)
+abbrev pub insertChecks : ℕ → ℕ → ℕ → Pair → List ℕ → Said
+insertChecks n used a p cs =
+    checksThen (sizeJudgements n used (length (p .letters)) (length (p .marks)) (length (p .recording))) (usedJudgements n used a p cs ++ freeJudgements used p)
 
 -- At most 1,024 cells are used, and each of the three lists has them.
 pub record Held (used letters marks entries : ℕ) : Type 0 where
@@ -95,21 +96,21 @@ all-letters t u v n a xs e f g h =
 -- ---- the checks
 
 -- The cells, then the rooms.
-pub used-checked : (t u v : Verdict) (n used a : ℕ) (xs ms rs : List ℕ) → saidVerdict t ≡ orElse (saidVerdict u) (saidVerdict v)
-    → saidVerdict u ≡ first (cellJudgements n used a (take (used - 0) xs) (take (used - 0) ms) (take (used - 0) rs)) passed
+pub used-checked : (t u v : Verdict) (n used a : ℕ) (xs ms rs cs : List ℕ) → saidVerdict t ≡ orElse (saidVerdict u) (saidVerdict v)
+    → saidVerdict u ≡ first (cellJudgements n used a (take (used - 0) xs) (take (used - 0) ms) (take (used - 0) rs) cs) passed
     → saidVerdict v ≡ first (roomJudgements used (used + 1) (length xs) (length ms) (length rs)) passed
-    → saidVerdict t ≡ usedChecks n used a (pairWith xs ms rs)
-used-checked t u v n used a xs ms rs e f g = checked-then t u v _ e (rw sub-zero at f) _ (rw add-one at g)
+    → saidVerdict t ≡ usedChecks n used a (pairWith xs ms rs) cs
+used-checked t u v n used a xs ms rs cs e f g = checked-then t u v _ e (rw sub-zero at f) _ (rw add-one at g)
 
 -- The verdict on the sizes,
-module _ {v : Verdict} (n used a : ℕ) (xs ms rs : List ℕ)
+module _ {v : Verdict} (n used a : ℕ) (xs ms rs cs : List ℕ)
     (e : saidVerdict v ≡ first (sizeJudgements n used (length xs) (length ms) (length rs)) passed) where
   -- which refuses,
-  pub sizes-refused : (r : Refusal) → v ≡ Refused r → saidRefusal r ≡ insertChecks n used a (pairWith xs ms rs)
+  pub sizes-refused : (r : Refusal) → v ≡ Refused r → saidRefusal r ≡ insertChecks n used a (pairWith xs ms rs) cs
   sizes-refused r q = stops-there _ e _ r q
 
   -- or passes, and the other checks decide,
-  pub sizes-passed : {s : Said} → v ≡ Passed → s ≡ usedChecks n used a (pairWith xs ms rs) → s ≡ insertChecks n used a (pairWith xs ms rs)
+  pub sizes-passed : {s : Said} → v ≡ Passed → s ≡ usedChecks n used a (pairWith xs ms rs) cs → s ≡ insertChecks n used a (pairWith xs ms rs) cs
   sizes-passed q h = goes-further _ e _ _ q h
 
 -- the used cells being there.

@@ -1,6 +1,7 @@
 // The checks of insertion in rising number, each over the whole input. The used cells can be looked at once 1, 2 and 3 have passed; every later check is
 // total and linear, so all of them are made and the first refusal counts.
 use acceptance::letters::check_letters;
+use counts::check::check_counts;
 use refusals::answers::Verdict;
 use refusals::chains::check_limits;
 use refusals::chains::or_else;
@@ -43,7 +44,7 @@ fn check_all_letters(rank: usize, letter: usize, letters: &[u8]) -> Verdict
     )
 }
 
-// 4 to 8 of the used cells, of which there are so many, and of the new letter.
+// 4 to 8 of the used cells, of which there are so many, and of the new letter, and 17 of the counts of the used letters.
 fn check_cells(
     rank: usize,
     used: usize,
@@ -51,18 +52,21 @@ fn check_cells(
     letters: &[u8],
     marks: &[u8],
     entries: &[u16],
+    counts: &[u16; 64],
 ) -> Verdict
     ensures { λ r. ⌜
-        saidVerdict r ≡ first (cellJudgements rank used letter (now (letters .entry)) (now (marks .entry)) (now (entries .entry))) passed
+        saidVerdict r
+        ≡ first
+        (cellJudgements rank used letter (now (letters .entry)) (now (marks .entry)) (now (entries .entry)) (now (counts .entry)))
+        passed
         ⌝ }
 {
     let inside = check_all_letters(rank, letter, letters);
     let rising = check_rising(letters);
     let marked = check_marks(letters, marks);
-    or_else(
-        inside,
-        or_else(rising, or_else(marked, check_ribbon(used, entries, marks))),
-    )
+    let counted = check_counts(letters, counts);
+    let rest = or_else(counted, check_ribbon(used, entries, marks));
+    or_else(inside, or_else(rising, or_else(marked, rest)))
 }
 
 // 12 and 13: a free cell, and room for it in each of the three lists.
@@ -78,7 +82,7 @@ fn check_rooms(used: usize, letters: usize, marks: usize, entries: usize) -> Ver
     or_else(check_full(used), rooms)
 }
 
-// 4 to 8, 12 and 13, once the used count is above none of the lengths.
+// 4 to 8 and 17, 12 and 13, once the used count is above none of the lengths.
 fn check_used_cells(
     rank: usize,
     used: usize,
@@ -86,10 +90,12 @@ fn check_used_cells(
     letters: &[u8],
     marks: &[u8],
     entries: &[u16],
+    counts: &[u16; 64],
 ) -> Verdict
     requires { ⌜ Held used (length (now letters)) (length (now marks)) (length (now entries)) ⌝ }
     ensures { λ r. ⌜
-        saidVerdict r ≡ usedChecks rank used letter (pairWith (now (letters .entry)) (now (marks .entry)) (now (entries .entry)))
+        saidVerdict r
+        ≡ usedChecks rank used letter (pairWith (now (letters .entry)) (now (marks .entry)) (now (entries .entry))) (now (counts .entry))
         ⌝ }
 {
     let rooms = check_rooms(used, letters.len(), marks.len(), entries.len());
@@ -100,11 +106,12 @@ fn check_used_cells(
         &letters[0..used],
         &marks[0..used],
         &entries[0..used],
+        counts,
     );
     or_else(cells, rooms)
 }
 
-// All checks of insertion: 1 to 8, 12 and 13.
+// All checks of insertion: 1 to 6, 17, 7, 8, 12 and 13.
 pub fn check_insertion(
     rank: usize,
     used: usize,
@@ -112,9 +119,11 @@ pub fn check_insertion(
     letters: &[u8],
     marks: &[u8],
     entries: &[u16],
+    counts: &[u16; 64],
 ) -> Verdict
     ensures { λ r. ⌜
-        saidVerdict r ≡ insertChecks rank used letter (pairWith (now (letters .entry)) (now (marks .entry)) (now (entries .entry)))
+        saidVerdict r
+        ≡ insertChecks rank used letter (pairWith (now (letters .entry)) (now (marks .entry)) (now (entries .entry))) (now (counts .entry))
         ⌝ }
 {
     if let Verdict::Refused(refusal) = check_sizes(
@@ -126,5 +135,5 @@ pub fn check_insertion(
     ) {
         return Verdict::Refused(refusal);
     }
-    check_used_cells(rank, used, letter, letters, marks, entries)
+    check_used_cells(rank, used, letter, letters, marks, entries, counts)
 }
