@@ -1,6 +1,8 @@
 -- The same-class test decides equality of tableaux, for words with letters 1 to 64 (document 01, "Same class"; document 02, N5).
 --     same-class      the test passes exactly when letters and marks of the two tableaux are equal
 --     before-neighbours     the order of neighbouring letters, by the junction of the smaller
+--     tested-counts, counts-tested     the test of the counts passes exactly for equal counts of the letters that it looks at
+--     by-range        what is equal for the letters 1 to n and for every other number is equal for all
 -- Assumes nothing.
 use Prim.Native.Nat.{ℕ, zero, suc, _+_, _≤_, _<_}
 use mathlib.Core.Path.{_≡_, refl, sym, ap, ap₂, _∙_}
@@ -28,7 +30,7 @@ use Rattle.hypoplactic.proofs.Theory.Occurrences.{before-absent, occurs
 -- ---- the test of the counts
 
 -- It looks at the letters k, .., k + n - 1.
-tested-counts : (n k : ℕ) (u v : List ℕ) → sameCounts n k u v ≡ true → (a : ℕ) → k ≤ a → a < k + n → count a u ≡ count a v
+pub tested-counts : (n k : ℕ) (u v : List ℕ) → sameCounts n k u v ≡ true → (a : ℕ) → k ≤ a → a < k + n → count a u ≡ count a v
 tested-counts zero k u v e a l h = let z : ⊥ = omega arith in absurd z
 tested-counts (suc n) k u v e a l h = go (λ m. tested-counts n (suc k) u v (both .1) a m (omega arith)) (eq-or-lt-of-le l)
   where
@@ -39,14 +41,14 @@ tested-counts (suc n) k u v e a l h = go (λ m. tested-counts n (suc k) u v (bot
     go rest (inl q) = rw (← q) (eqb-true _ _ (both .0))
     go rest (inr m) = rest m
 
-counts-tested : (n k : ℕ) (u v : List ℕ) → ((a : ℕ) → count a u ≡ count a v) → sameCounts n k u v ≡ true
+pub counts-tested : (n k : ℕ) (u v : List ℕ) → ((a : ℕ) → count a u ≡ count a v) → sameCounts n k u v ≡ true
 counts-tested zero k u v e = refl
 counts-tested (suc n) k u v e = ap₂ _&&_ (eq-eqb _ _ (e k)) (counts-tested n (suc k) u v e)
 
 -- ---- from the letters 1 to n to all numbers
 
 -- What is equal for the letters 1 to n, and for every other number, is equal for all.
-by-range : (n : ℕ) {A : Type 0} (f g : ℕ → A) → ((a : ℕ) → 1 ≤ a → a ≤ n → f a ≡ g a) → ((a : ℕ) → ¬ Inside n a → f a ≡ g a) → (a : ℕ) → f a ≡ g a
+pub by-range : (n : ℕ) {A : Type 0} (f g : ℕ → A) → ((a : ℕ) → 1 ≤ a → a ≤ n → f a ≡ g a) → ((a : ℕ) → ¬ Inside n a → f a ≡ g a) → (a : ℕ) → f a ≡ g a
 by-range n f g within outside a = dite (Dec·and (decLe 1 a) (decLe a n)) (λ h. within a (h .0) (h .1)) (outside a)
 
 -- A letter outside 1 to n has no junction in a word within n.

@@ -1,0 +1,2 @@
+pub mod TwoTableaux
+pub mod Cases
