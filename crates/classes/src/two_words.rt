@@ -1,46 +1,26 @@
 // The same-class test: equal count of each letter, equal junction set. The ranks bound the letters and decide nothing else.
+use crate::tables::same_counts;
 use refusals::answers::Class;
 use refusals::answers::Verdict;
-use second_inputs::ranks::larger;
 use second_inputs::two_words::check_words;
 use words::junctions::junction_set;
 use words::tables::letter_counts;
 ghost use mathlib.Core.List.{[], _∷_};
 ghost use mathlib.Core.Path.{_≡_};
-ghost use Prim.Native.Nat.{_≤_};
 ghost use Rattle.hypoplactic.specs.Junctions.{sameClass};
 ghost use Rattle.hypoplactic.specs.Replies.{gives};
 ghost use Rattle.hypoplactic.specs.WordOperations.{sameClassSays};
 ghost use Rattle.hypoplactic.specs.Words.{Accepted, tick};
 ghost use Rattle.refusals.specs.Said.{saidClass};
-ghost use Rattle.classes.specs.Classes.{sameFrom};
 
-// Whether two tables of counts agree on the letters 1 to top. The first difference decides.
-fn same_counts(top: usize, first: &[u16; 64], second: &[u16; 64]) -> bool
-    requires { ⌜ top ≤ 64 ⌝ }
-    ensures { λ r. ⌜ r ≡ sameFrom top 0 (now (first .entry)) (now (second .entry)) ⌝ }
-{
-    let mut i = 0;
-    while i < top {
-        let count = first[i];
-        let other = second[i];
-        if count != other {
-            return false;
-        }
-        i += 1;
-    }
-    true
-}
-
-// The test of two accepted words. Above the larger rank neither has a letter.
+// The test of two accepted words.
 fn match_words(first_rank: usize, first: &[u8], second_rank: usize, second: &[u8]) -> Class
     requires { ⌜ Accepted «first_rank» (now first) × Accepted «second_rank» (now second) ⌝ }
     ensures { λ r. ⌜ saidClass r ≡ gives (tick (sameClass (now (first .entry)) (now (second .entry))) 0 ∷ []) ⌝ }
 {
-    let top = larger(first_rank, second_rank);
     let first_counts = letter_counts(first_rank, first);
     let second_counts = letter_counts(second_rank, second);
-    if !same_counts(top, &first_counts, &second_counts) {
+    if !same_counts(&first_counts, &second_counts) {
         return Class::Different;
     }
     let first_set = junction_set(first_rank, first);

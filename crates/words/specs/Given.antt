@@ -3,7 +3,7 @@
 --     junctionGiven n w                 its junction set
 --     refused-counts, passed-counts     the table of a refused word and of an accepted one
 --     refused-set, passed-set           the same of the set
---     accepted-counts, accepted-set     of an accepted word they are the counts and the set themselves
+--     accepted-counts, accepted-set     of an accepted word they are the counts and the set themselves; accepted-true: true counts
 --     counts-given                      and no other 64 numbers are the counts
 --     giving                            the ruleset of both
 -- Assumes nothing.
@@ -13,7 +13,7 @@ use mathlib.Core.List.{List}
 use lib.ListN.{length, replicate, getD-replicate}
 use borrow.Author.Needs.{needs}
 use Rattle.hypoplactic.specs.Words.{Accepted, Within, count}
-use Rattle.hypoplactic.specs.Counts.{countsOf}
+use Rattle.hypoplactic.specs.Counts.{TrueCounts, countsOf}
 use Rattle.hypoplactic.specs.Junctions.{junctionSet}
 use Rattle.hypoplactic.specs.Replies.{Said, passed, first, after}
 use Rattle.hypoplactic.specs.Judgements.{wordJudgements}
@@ -25,7 +25,7 @@ use Rattle.refusals.specs.declared.answers.Verdict.{Verdict}
 use Rattle.refusals.specs.declared.answers.Verdict.the-variants.{Passed, Refused}
 use Rattle.refusals.specs.Said.{saidVerdict}
 use Rattle.acceptance.specs.Passed.{accepted-word}
-use Rattle.words.specs.Tables.{Table, Counts}
+use Rattle.words.specs.Tables.{Table, Counts, true-counts}
 
 -- A number of an accepted word, 0 of a refused one.
 abbrev given : ℕ → List ℕ → ℕ → ℕ
@@ -74,8 +74,11 @@ module _ {n : ℕ} {w : List ℕ} (h : Accepted n w) where
   unfolding countGiven
   accepted-counts t = record { size = t .size; entry = λ j l. t .entry j l ∙ told _ }
 
+  pub accepted-true : {xs : List ℕ} → Table (countGiven n w) xs → TrueCounts w xs
+  accepted-true t = true-counts (accepted-counts t)
+
   pub counts-given : {xs : List ℕ} → Table (countGiven n w) xs → xs ≡ countsOf w
-  counts-given {xs} t = let c : Counts w xs = accepted-counts t in counts-whole w xs (c .size) (record { entry = c .entry })
+  counts-given {xs} t = counts-whole w xs (t .size) (accepted-true t)
 
   pub accepted-set : {s : ℕ} → s ≡ junctionGiven n w → s ≡ junctionSet w
   unfolding junctionGiven
