@@ -1,4 +1,4 @@
-// The comparison on two tables of letter counts: the sums of the first k counts of each, for every k, carried along from k to k + 1.
+// The comparison on two arrays of letter counts: the sums of the first k counts of each, for every k, carried along from k to k + 1.
 use crate::sums::Sums;
 use crate::sums::next_sums;
 use refusals::answers::Weights;
@@ -10,7 +10,7 @@ ghost use Rattle.hypoplactic.specs.Replies.{gives};
 ghost use Rattle.hypoplactic.specs.Weights.{comparison};
 ghost use Rattle.hypoplactic.specs.WordOperations.{comparisonNumber};
 ghost use Rattle.refusals.specs.Said.{saidWeights};
-ghost use Rattle.weights.specs.Tables.{Bounded, compareTables};
+ghost use Rattle.weights.specs.Tables.{compareTables};
 
 // Whether every sum so far was at most the other word's, and this one is.
 fn still(before: bool, sum: usize, other: usize) -> bool
@@ -32,10 +32,9 @@ fn answer(low: bool, high: bool) -> Weights
     }
 }
 
-// The comparison over the letters 1 to top.
-pub(crate) fn compare_counts(top: usize, first: &[u16; 64], second: &[u16; 64]) -> Weights
-    requires { ⌜ Bounded top (now first) (now second) ⌝ }
-    ensures { λ r. ⌜ saidWeights r ≡ gives (comparisonNumber (compareTables top (now (first .entry)) (now (second .entry))) ∷ []) ⌝ }
+// The comparison over all 64 letters.
+pub fn compare_counts(first: &[u16; 64], second: &[u16; 64]) -> Weights
+    ensures { λ r. ⌜ saidWeights r ≡ gives (comparisonNumber (compareTables (now (first .entry)) (now (second .entry))) ∷ []) ⌝ }
 {
     let mut sums = Sums {
         first: 0,
@@ -44,7 +43,7 @@ pub(crate) fn compare_counts(top: usize, first: &[u16; 64], second: &[u16; 64]) 
     let mut at_most = true;
     let mut at_least = true;
     let mut i = 0;
-    while i < top {
+    while i < 64 {
         let next = next_sums(sums, first[i], second[i]);
         at_most = still(at_most, next.first, next.second);
         at_least = still(at_least, next.second, next.first);

@@ -2,7 +2,6 @@
 use crate::tables::compare_counts;
 use refusals::answers::Verdict;
 use refusals::answers::Weights;
-use second_inputs::ranks::larger;
 use second_inputs::two_words::check_words;
 use words::tables::letter_counts;
 ghost use mathlib.Core.Path.{_≡_};
@@ -18,10 +17,9 @@ fn weigh(first_rank: usize, first: &[u8], second_rank: usize, second: &[u8]) -> 
     requires { ⌜ Accepted «first_rank» (now first) × Accepted «second_rank» (now second) ⌝ }
     ensures { λ r. ⌜ saidWeights r ≡ gives (comparisonNumber (compareWeights (now (first .entry)) (now (second .entry))) ∷ []) ⌝ }
 {
-    let top = larger(first_rank, second_rank);
     let first_counts = letter_counts(first_rank, first);
     let second_counts = letter_counts(second_rank, second);
-    compare_counts(top, &first_counts, &second_counts)
+    compare_counts(&first_counts, &second_counts)
 }
 
 // The first word's weight against the second's.

@@ -5,10 +5,10 @@ use Rattle.weights.proofs.tables.compare_counts.Statement.{statement}
 use Rattle.weights.proofs.tables.compare_counts.Tie as tie
 
 abbrev Inv-loop : tie.InvT-loop
-Inv-loop top first second sums₀ at-most₀ at-least₀ i₀ sums at-most at-least i = Summing first second top i (sums .first) (sums .second) at-most at-least
+Inv-loop first second sums₀ at-most₀ at-least₀ i₀ sums at-most at-least i = Summing first second i (sums .first) (sums .second) at-most at-least
 
 abbrev μ-loop : tie.MeasureT-loop
-μ-loop top first second sums₀ at-most₀ at-least₀ i₀ sums at-most at-least i = top - i
+μ-loop first second sums₀ at-most₀ at-least₀ i₀ sums at-most at-least i = 64 - i
 
 pub compare-counts-spec : {M : Type 1} → statement M
 compare-counts-spec =

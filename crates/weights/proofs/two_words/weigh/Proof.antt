@@ -6,5 +6,4 @@ use Rattle.weights.proofs.two_words.weigh.Tie as tie
 pub weigh-spec : {M : Type 1} → statement M
 weigh-spec =
     tie.close
-    (tie.spec (λ c κs. search weighing) (λ c κs. search weighing) (λ c κs. search weighing)
-    (λ c κs. search weighing) (λ c. search weighing))
+    (tie.spec (λ c κs. search weighing) (λ c κs. search weighing) (λ c κs. search weighing) (λ c. search weighing))
