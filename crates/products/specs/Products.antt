@@ -2,13 +2,15 @@
 -- replies to every input, and what lent memory then holds (the checks in order; each over the first factor, then over the second).
 --     productWord xs ms ys ns           the column reading of the first factor, then that of the second
 --     productLetters, productMarks      the letters and the marks of that word's tableau
---     factorsJudgements                 1 to 6 of two factors of one rank: 2 on the cells together, places in the second counting on from the first's length
---     productSays, productRun           1 to 6, 13               gives the cells written
---     leftLetters, leftMarks            the first elements of both outputs, as a call has left them
+--     factorsJudgements                 1 to 6 and 17 of two factors of one rank: 2 on the cells together, places in the second counting on from the first's
+--                                       length, those of 17 from 64
+--     productSays, productRun           1 to 6, 17, 13           gives the cells written; the letter counts are given too
+--     leftLetters, leftMarks            the first elements of both outputs, as a call has left them; leftCounts: the letter counts
 -- Nothing is judged across the factors: the first may end in a larger letter than the second begins with. Assumes nothing.
 use Prim.Native.Nat.{ℕ, _+_}
 use mathlib.Core.List.{List, [], _∷_, _++_}
 use lib.ListN.{length, take}
+use Rattle.hypoplactic.specs.Counts.{countsJudged, countsOf}
 use Rattle.hypoplactic.specs.Insertion.{lettersOf, marksOf}
 use Rattle.hypoplactic.specs.Reading.{columnReading}
 use Rattle.hypoplactic.specs.Replies.{Said, gives, countOn, first, ranTo, written}
@@ -26,31 +28,37 @@ productLetters xs ms ys ns = lettersOf (productWord xs ms ys ns)
 abbrev pub productMarks : List ℕ → List ℕ → List ℕ → List ℕ → List ℕ
 productMarks xs ms ys ns = marksOf (productWord xs ms ys ns)
 
--- 1 to 6 of two factors.
-abbrev pub factorsJudgements : ℕ → List ℕ → List ℕ → List ℕ → List ℕ → List Said
-factorsJudgements n xs ms ys ns =
+-- 1 to 6 of two factors, and 17 of the letter counts that each brings.
+abbrev pub factorsJudgements : ℕ → List ℕ → List ℕ → List ℕ → List ℕ → List ℕ → List ℕ → List Said
+factorsJudgements n xs ms cs ys ns ds =
     rankJudged n ∷ lengthJudged (length xs + length ys)
     ∷ alikeJudged (length xs) (length ms ∷ []) ∷ alikeJudged (length ys) (length ns ∷ [])
     ∷ lettersJudged n xs ∷ countOn (length xs) (lettersJudged n ys)
     ∷ risingJudged xs ∷ countOn (length xs) (risingJudged ys)
-    ∷ marksJudged xs ms ∷ countOn (length xs) (marksJudged ys ns) ∷ []
+    ∷ marksJudged xs ms ∷ countOn (length xs) (marksJudged ys ns)
+    ∷ countsJudged cs xs ∷ countOn 64 (countsJudged ds ys) ∷ []
 
--- The product, into lent letters and marks.
-unfoldable pub productSays : ℕ → List ℕ → List ℕ → List ℕ → List ℕ → ℕ → ℕ → Said
-productSays n xs ms ys ns letters marks =
+-- The product, into lent letters, marks and counts.
+unfoldable pub productSays : ℕ → List ℕ → List ℕ → List ℕ → List ℕ → List ℕ → List ℕ → ℕ → ℕ → Said
+productSays n xs ms cs ys ns ds letters marks =
     first
-    (factorsJudgements n xs ms ys ns ++ tableauRooms (length xs + length ys) letters marks)
+    (factorsJudgements n xs ms cs ys ns ds ++ tableauRooms (length xs + length ys) letters marks)
     (gives ((length xs + length ys) ∷ []))
 
-unfoldable pub productRun : ℕ → List ℕ → List ℕ → List ℕ → List ℕ → List ℕ → List ℕ → Said × (List ℕ × List ℕ)
-productRun n xs ms ys ns letters marks =
-    ranTo (productSays n xs ms ys ns (length letters) (length marks))
-    (written (productLetters xs ms ys ns) letters, written (productMarks xs ms ys ns) marks) (letters, marks)
+unfoldable pub productRun : ℕ → List ℕ → List ℕ → List ℕ → List ℕ → List ℕ → List ℕ → List ℕ → List ℕ → List ℕ → Said × (List ℕ × (List ℕ × List ℕ))
+productRun n xs ms cs ys ns ds letters marks counts =
+    ranTo (productSays n xs ms cs ys ns ds (length letters) (length marks))
+    (written (productLetters xs ms ys ns) letters, (written (productMarks xs ms ys ns) marks, countsOf (productWord xs ms ys ns)))
+    (letters, (marks, counts))
 
 -- The first k letters of lent memory after a call,
-abbrev pub leftLetters : ℕ → Said × (List ℕ × List ℕ) → List ℕ
+abbrev pub leftLetters : ℕ → Said × (List ℕ × (List ℕ × List ℕ)) → List ℕ
 leftLetters k run = take k (run .1 .0)
 
--- and the first k marks.
-abbrev pub leftMarks : ℕ → Said × (List ℕ × List ℕ) → List ℕ
-leftMarks k run = take k (run .1 .1)
+-- the first k marks,
+abbrev pub leftMarks : ℕ → Said × (List ℕ × (List ℕ × List ℕ)) → List ℕ
+leftMarks k run = take k (run .1 .1 .0)
+
+-- and the letter counts.
+abbrev pub leftCounts : Said × (List ℕ × (List ℕ × List ℕ)) → List ℕ
+leftCounts run = run .1 .1 .1

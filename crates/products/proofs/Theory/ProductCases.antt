@@ -5,6 +5,7 @@
 -- Assumes nothing.
 use mathlib.Core.Path.{_≡_, refl}
 use mathlib.Core.List.{map}
+use Rattle.hypoplactic.specs.Counts.{countsJudged, countsOf}
 use Rattle.hypoplactic.specs.Insertion.{insert, pairOf}
 use Rattle.hypoplactic.specs.Reading.{columnReading}
 use Rattle.hypoplactic.specs.Judgements.{alikeJudged, lengthJudged, lettersJudged, marksJudged, rankJudged, risingJudged, roomJudged}
@@ -14,15 +15,15 @@ use Rattle.products.specs.Products.{productRun, productSays, productWord
 
 -- Every product: the meaning is what is expected.
 pub worked-products : map (λ (c : Case). c .meaning) productCases ≡ map (λ (c : Case). c .document) productCases
-unfolding pairOf insert columnReading rankJudged lengthJudged alikeJudged lettersJudged risingJudged marksJudged roomJudged productWord productSays productRun
+unfolding countsOf countsJudged pairOf insert columnReading rankJudged lengthJudged alikeJudged lettersJudged risingJudged marksJudged roomJudged productWord productSays productRun
 worked-products = refl
 
 -- Every refusal.
 pub refused-products : map (λ (c : Case). c .meaning) productRefusals ≡ map (λ (c : Case). c .document) productRefusals
-unfolding rankJudged lengthJudged alikeJudged lettersJudged risingJudged marksJudged roomJudged productSays productRun
+unfolding countsOf countsJudged rankJudged lengthJudged alikeJudged lettersJudged risingJudged marksJudged roomJudged productSays productRun
 refused-products = refl
 
 -- 1,024 cells together.
 pub largest-products : map (λ (c : Case). c .meaning) productLimits ≡ map (λ (c : Case). c .document) productLimits
-unfolding rankJudged lengthJudged alikeJudged lettersJudged risingJudged marksJudged roomJudged productSays
+unfolding countsOf countsJudged rankJudged lengthJudged alikeJudged lettersJudged risingJudged marksJudged roomJudged productSays
 largest-products = refl

@@ -1,23 +1,26 @@
 -- What the product holds: the letters of both factors, each as often as in both together. Its down steps stand in ProductSteps.
 --     reading-count       each letter stands in a column reading as often as in the tableau
 --     product-count       each letter stands in the product word as often as in both factors; product-letters-count: so in the product's letters
+--     product-entry       its letter counts are the sums of true letter counts of both; product-counts: they are those of the product's letters
 --     product-length      the product word is as long as both; product-cells: so many letters and marks has the product
 --     product-next        the next larger letter in the product word is that in the letters of both
 --     product-accepted    factors within the limits that fit together: the product word is accepted
 --     product-at          and the product is a tableau within the limits
 -- Assumes nothing.
-use Prim.Native.Nat.{ℕ, _+_, _≤_, _<_}
+use Prim.Native.Nat.{ℕ, suc, _+_, _≤_, _<_}
 use native.Mathlib.Omega.{arith}
 use mathlib.Core.Path.{_≡_, ap, ap₂, sym, _∙_}
 use mathlib.Core.Logic.{_⊎_, inl, inr}
 use mathlib.Core.List.{List, _++_}
-use lib.ListN.{length, length-append}
+use lib.ListN.{getD, length, length-append}
 use Rattle.hypoplactic.specs.Words.{Accepted, Inside, count}
+use Rattle.hypoplactic.specs.Counts.{TrueCounts, countsOf}
 use Rattle.hypoplactic.specs.Ribbons.{Tableau, TableauAt}
 use Rattle.hypoplactic.specs.Reading.{columnReading}
 use Rattle.hypoplactic.specs.Junctions.{nextLarger}
 use Rattle.hypoplactic.proofs.Theory.Closure.{word-tableau-at}
 use Rattle.hypoplactic.proofs.Theory.Contents.{within-counts}
+use Rattle.hypoplactic.proofs.Theory.Counts.{counts-true, letters-counts}
 use Rattle.hypoplactic.proofs.Theory.Letters.{count-letters}
 use Rattle.hypoplactic.proofs.Theory.NextLarger.{next-same}
 use Rattle.hypoplactic.proofs.Theory.Occurrences.{count-append}
@@ -57,6 +60,15 @@ module _ (xs ms ys ns : List ℕ) (h : Tableau xs ms) (k : Tableau ys ns) where
   -- Each letter stands in the product as often as in both factors.
   pub product-letters-count : (a : ℕ) → count a (productLetters xs ms ys ns) ≡ count a xs + count a ys
   product-letters-count a = count-letters a (productWord xs ms ys ns) ∙ product-count a
+
+  -- The letter counts that the operation gives are those of its letters,
+  pub product-counts : countsOf (productWord xs ms ys ns) ≡ countsOf (productLetters xs ms ys ns)
+  product-counts = sym (letters-counts (productWord xs ms ys ns))
+
+  -- and each is the sum of what the factors bring.
+  pub product-entry : {cs ds : List ℕ} → TrueCounts xs cs → TrueCounts ys ds → (i : ℕ) → i < 64
+      → getD (countsOf (productWord xs ms ys ns)) i 0 ≡ getD cs i 0 + getD ds i 0
+  product-entry c d i l = counts-true (productWord xs ms ys ns) .entry i l ∙ product-count (suc i) ∙ sym (ap₂ _+_ (c .entry i l) (d .entry i l))
 
   -- It has as many letters and as many marks as both have cells.
   pub product-cells : (length (productLetters xs ms ys ns) ≡ length xs + length ys) × (length (productMarks xs ms ys ns) ≡ length xs + length ys)
