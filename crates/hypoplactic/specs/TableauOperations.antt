@@ -39,23 +39,28 @@ recordingSays n w entries = first (wordJudgements n w ++ (roomJudged (length w) 
 unfoldable pub recordingRun : ℕ → List ℕ → List ℕ → Said × List ℕ
 recordingRun n w entries = ranTo (recordingSays n w (length entries)) (written (recordingOf w) entries) entries
 
--- Insertion of a into the pair in the first cells of three lent lists, of which so many are used, beside the counts of the used letters. The letter to be
--- inserted has the used count as its place.
-unfoldable pub insertSays : ℕ → ℕ → ℕ → Pair → List ℕ → Said
-insertSays n used a p cs =
-    let xs : List ℕ = take used (p .letters) in
-    let ms : List ℕ = take used (p .marks) in
-    let rs : List ℕ = take used (p .recording) in
-    first
-    (rankJudged n ∷ lengthJudged used ∷ usedJudged used (length (p .letters) ∷ length (p .marks) ∷ length (p .recording) ∷ [])
-    ∷ lettersJudged n (xs ++ a ∷ []) ∷ risingJudged xs ∷ marksJudged xs ms ∷ countsJudged cs xs ∷ entriesJudged used rs
-    ∷ recordingJudged rs ms ∷ fullJudged used ∷ roomJudged (suc used) (length (p .letters)) ∷ roomJudged (suc used) (length (p .marks))
-    ∷ roomJudged (suc used) (length (p .recording)) ∷ [])
-    (gives (suc used ∷ []))
-
 -- The used cells of three lent lists.
 abbrev pub usedCells : ℕ → Pair → Pair
 usedCells used p = record { letters = take used (p .letters); marks = take used (p .marks); recording = take used (p .recording) }
+
+-- 1 to 6 of a letter a and of the pair in the first cells of three lent lists, of which so many are used, 17 of the counts of the used letters, 7 and 8.
+-- The letter to be inserted has the used count as its place.
+abbrev pub insertJudgements : ℕ → ℕ → ℕ → Pair → List ℕ → List Said
+insertJudgements n used a p cs =
+    let xs : List ℕ = take used (p .letters) in
+    let ms : List ℕ = take used (p .marks) in
+    let rs : List ℕ = take used (p .recording) in
+    rankJudged n ∷ lengthJudged used ∷ usedJudged used (length (p .letters) ∷ length (p .marks) ∷ length (p .recording) ∷ [])
+    ∷ lettersJudged n (xs ++ a ∷ []) ∷ risingJudged xs ∷ marksJudged xs ms ∷ countsJudged cs xs ∷ entriesJudged used rs ∷ recordingJudged rs ms ∷ []
+
+-- Insertion of a.
+unfoldable pub insertSays : ℕ → ℕ → ℕ → Pair → List ℕ → Said
+insertSays n used a p cs =
+    first
+    (insertJudgements n used a p cs
+    ++ (fullJudged used ∷ roomJudged (suc used) (length (p .letters)) ∷ roomJudged (suc used) (length (p .marks))
+    ∷ roomJudged (suc used) (length (p .recording)) ∷ []))
+    (gives (suc used ∷ []))
 
 -- A pair at the beginning of three lent lists.
 abbrev pub writtenPair : Pair → Pair → Pair

@@ -113,8 +113,8 @@ more-counts u v a (low, high) e o =
     let is : suc s ≡ a = omega arith in
     let room : s < length (countsOf u) = omega (arith, counts-size u) in
     let held : getD (countsOf u) s 0 ≡ count a u = counts-true u .entry s (omega arith) ∙ ap (λ (b : ℕ). count b u) is in
-    counts-whole v (oneMore (countsOf u) a) (length-set (countsOf u) s _ ∙ counts-size u) (record {
-      entry = set-entries (λ b. count b u) (λ b. count b v) (countsOf u) s (suc (getD (countsOf u) s 0)) room (rw (held, is) (sym e))
+    counts-whole v (oneMore (countsOf u) a) (length-set (countsOf u) _ _ ∙ counts-size u) (record {
+      entry = set-entries (λ b. count b u) (λ b. count b v) (countsOf u) _ _ room (rw (held, is) (sym e))
           (λ b n. o b (λ q. n (is ∙ q))) (counts-true u .entry);
     })
 
@@ -134,6 +134,7 @@ over-counts u v a b (low, high) (low′, high′) n x =
     let size : length (oneLess (countsOf u) a) ≡ 64 = length-set (countsOf u) s _ ∙ counts-size u in
     let t : ℕ = b - 1 in
     let is′ : suc t ≡ b = omega arith in
+    let room′ : t < length (oneLess (countsOf u) a) = omega arith in
     let apart : t ≢ s = λ q. n (sym is ∙ ap suc (sym q) ∙ is′) in
     let held′ : getD (oneLess (countsOf u) a) t 0 ≡ count b u
     = getD-set-other (countsOf u) s t _ 0 apart ∙ counts-true u .entry t (omega arith) ∙ ap (λ (c : ℕ). count c u) is′ in
@@ -142,8 +143,8 @@ over-counts u v a b (low, high) (low′, high′) n x =
     let less : getD (countsOf u) s 0 - 1 ≡ between (suc s) = rw (held, is, ne-eqb a b n) (omega (arith, x .fewer)) in
     let first : (j : ℕ) → j < 64 → getD (oneLess (countsOf u) a) j 0 ≡ between (suc j)
     = set-entries (λ c. count c u) between (countsOf u) s _ room less (λ c m. as-before c (λ q. m (is ∙ q)) (eqb c b) refl) (counts-true u .entry) in
-    counts-whole v (oneOver (countsOf u) a b) (length-set (oneLess (countsOf u) a) t _ ∙ size) (record {
-      entry = set-entries between (λ c. count c v) (oneLess (countsOf u) a) t _ (omega arith) (rw (held′, is′) (sym (x .more)))
+    counts-whole v (oneOver (countsOf u) a b) (length-set (oneLess (countsOf u) a) _ _ ∙ size) (record {
+      entry = set-entries between (λ c. count c v) (oneLess (countsOf u) a) _ _ room′ (rw (held′, is′) (sym (x .more)))
           (λ c m. rw (ne-eqb c b (λ q. m (is′ ∙ sym q)))) first;
     })
   where

@@ -20,10 +20,10 @@ use Rattle.hypoplactic.specs.Moves.{Move, repeatTableau, repeatWord}
 use Rattle.hypoplactic.specs.Junctions.{junctionSet, rowsOf, sameClass}
 use Rattle.hypoplactic.specs.Weights.{compareWeights}
 use Rattle.hypoplactic.specs.Replies.{gives, passed, written}
-use Rattle.hypoplactic.specs.Counts.{TrueCounts, countsJudged, countsOf, oneMore}
-use Rattle.hypoplactic.specs.Judgements.{countedJudgements, countedPairJudgements, entriesJudged, fullJudged, indexJudged, lengthJudged, lettersJudged, marksJudged, rankJudged, recordingJudged, risingJudged, roomJudged, tableauJudgements, usedJudged, wordJudgements}
+use Rattle.hypoplactic.specs.Counts.{TrueCounts, countsOf, oneMore}
+use Rattle.hypoplactic.specs.Judgements.{countedJudgements, countedPairJudgements, fullJudged, indexJudged, lettersJudged, roomJudged, tableauJudgements, wordJudgements}
 use Rattle.hypoplactic.specs.WordOperations.{comparisonNumber, junctionSays, repeatWordSays, sameClassSays, weightsSays, wordsJudgements}
-use Rattle.hypoplactic.specs.TableauOperations.{cellAt, insertRun, insertSays, lookSays, readingRun, readingSays, recordingRun, recordingSays, repeatTableauSays, tableauRun, tableauSays, usedCells, viewerSays, wordRun, wordSays, writtenPair}
+use Rattle.hypoplactic.specs.TableauOperations.{cellAt, insertJudgements, insertRun, insertSays, lookSays, readingRun, readingSays, recordingRun, recordingSays, repeatTableauSays, tableauRun, tableauSays, usedCells, viewerSays, wordRun, wordSays, writtenPair}
 use Rattle.hypoplactic.proofs.Theory.Passing.{Passing, first-answer, first-both, passes-further, ran-answer}
 use Rattle.hypoplactic.proofs.Theory.Contents.{accepted-snoc}
 use Rattle.hypoplactic.proofs.Theory.Judgements.{full-judged, index-judged, letters-judged, room-judged, used-judged}
@@ -127,9 +127,7 @@ insert-result n used a p cs h c few i as-letters as-marks as-recording =
     let (rank, (short, (alike, (letters, (rising, (marks, (counts, (entries, (recording, t))))))))) = counted-pair-passing n xs ms rs cs .1 (h, c) in
     let held = used-judged used lengths .1 (omega arith) in
     let all = letters-judged n (xs ++ a ∷ []) .1 (accepted-snoc (h .word) (omega arith) i .letters) in
-    ran-answer
-    (rankJudged n ∷ lengthJudged used ∷ usedJudged used lengths ∷ lettersJudged n (xs ++ a ∷ []) ∷ risingJudged xs ∷ marksJudged xs ms
-    ∷ countsJudged cs xs ∷ entriesJudged used rs ∷ recordingJudged rs ms ∷ [])
+    ran-answer (insertJudgements n used a p cs)
     (fullJudged used ∷ roomJudged (suc used) (length (p .letters)) ∷ roomJudged (suc used) (length (p .marks))
     ∷ roomJudged (suc used) (length (p .recording)) ∷ []) _ _ _
     (rank, (rw size at short, (held, (all, (rising, (marks, (counts, (rw size at entries, (recording, tt)))))))))
