@@ -1,9 +1,10 @@
--- Places in a second word or factor.
+-- Places in a second word or tableau.
 --     further k f                             the fault f at a place k further on
 --     FurtherFits k f                         that place fits 64 bits
 --     further-fits, further-at                the step from a fault to that one
 --     judged-further                          what a check says that takes it
 --     letter-fits, rising-fits, mark-fits     the place that 4, 5 or 6 names fits, counted on from the length of a slice
+--     count-fits                              so does the place that 17 names, counted on from 64
 --     counting                                the ruleset of the checks that count on
 -- Assumes nothing.
 use Prim.Native.Nat.{ℕ, _+_, _*_, _^_, _<_, _≤_}
@@ -15,6 +16,7 @@ use lib.ListN.{length}
 use mir.Syntax.{w64}
 use mir.Val.{Fits}
 use borrow.Author.Needs.{needs}
+use Rattle.hypoplactic.specs.Counts.{countFault, countsJudged}
 use Rattle.hypoplactic.specs.Replies.{Said, countOn}
 use Rattle.hypoplactic.specs.Judgements.{lettersJudged, marksJudged, risingJudged}
 use Rattle.hypoplactic.specs.FirstPlaces.{scan, shorter}
@@ -77,4 +79,9 @@ unfolding risingJudged
 rising-fits f k [] e few less = named-fits 5 0 0 (λ q. false) f k e (omega arith)
 rising-fits f k (x ∷ xs) e few less = named-fits 5 1 (length xs) _ f k (e ∙ rising-scan x xs) (omega arith)
 
-pub ruleset counting = (further-fits, further-at, judged-further, letter-fits, rising-fits, mark-fits, needs)
+-- 17 names one of 64 places.
+pub count-fits : (f : Fault) (xs cs : List ℕ) → saidFault 17 f ≡ countsJudged cs xs → FurtherFits 64 f
+unfolding countsJudged
+count-fits f xs cs e = named-fits 17 0 64 (countFault cs xs) f 64 e (omega arith)
+
+pub ruleset counting = (further-fits, further-at, judged-further, letter-fits, rising-fits, mark-fits, count-fits, needs)

@@ -1,6 +1,4 @@
-// Whether two words are accepted, and whether two tableaux are valid factors: the checks 1 to 6 of both. Each is a total function over numbers and slices,
-// equal to its judgements of the written meaning (crates hypoplactic and products). And the larger of two ranks.
-mod counting;
-pub mod factors;
-pub mod ranks;
+// Whether two words are accepted, and the checks that name places in a second word or tableau. Each public function is a total function over numbers and
+// slices, equal to its judgements of the written meaning (crate hypoplactic).
+pub mod counting;
 pub mod two_words;

@@ -13,8 +13,8 @@ ghost use Rattle.hypoplactic.specs.Judgements.{lengthJudged, rankJudged};
 ghost use Rattle.hypoplactic.specs.WordOperations.{wordsJudgements};
 ghost use Rattle.refusals.specs.Said.{saidVerdict};
 
-// 1 and 2 of two words: each over the first, then over the second.
-fn check_two_limits(
+// 1 and 2 of two words or tableaux: each over the first, then over the second.
+pub fn check_two_limits(
     first_rank: usize,
     first_length: usize,
     second_rank: usize,
