@@ -19,6 +19,7 @@ use lib.Bits.{bitOr}
 use lib.Dec.{ltb}
 use lib.ListN.{getD}
 use borrow.Author.Needs.{needs}
+use Rattle.hypoplactic.specs.Counts.{TrueCounts}
 use Rattle.hypoplactic.specs.Junctions.{downOut, junction, junctionSet, nextLarger, number}
 use Rattle.hypoplactic.specs.Ribbons.{TableauAt}
 use Rattle.hypoplactic.specs.Words.{count, occurs, tick}
@@ -30,7 +31,7 @@ use Rattle.products.specs.Products.{productWord}
 use Rattle.products.proofs.Theory.ProductSteps.{product-junction, product-no-junction}
 use Rattle.words.specs.Bits.{number-none, number-more, under-power, or-bit}
 use Rattle.words.specs.Junctions.{next-step}
-use Rattle.words.specs.Tables.{Table, Counts}
+use Rattle.words.specs.Tables.{Table}
 
 -- ---- one bit
 
@@ -58,9 +59,9 @@ module _ {from within across : Bool} (first-next second-next first-down second-c
 pub record Tables (n : ℕ) (xs ms ys ns cs ds es gs : List ℕ) : Type 0 where
   pub first : TableauAt n xs ms
   pub second : TableauAt n ys ns
-  pub first-counts : Counts xs cs
+  pub first-counts : TrueCounts xs cs
   pub first-downs : Table (λ a. tick (downOut a xs ms) 0) ds
-  pub second-counts : Counts ys es
+  pub second-counts : TrueCounts ys es
   pub second-downs : Table (λ a. tick (downOut a ys ns) 0) gs
 
 -- The set is that of the product of any factors with these tables.

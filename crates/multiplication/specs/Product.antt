@@ -1,9 +1,9 @@
 -- The product of two tableaux: what the operation over tables of both factors replies, and what lent memory then holds.
---     productChecked                     what 1 to 6 of the factors say, and then 13 of both outputs; checked-factors, checked-rooms: by their verdicts
---     Factors n xs ms ys ns              two tableaux of a rank that fit together
+--     productChecked                     what 1 to 6 and 17 of the factors say, and then 13 of both outputs; checked-factors, checked-rooms: by their verdicts
+--     Factors n xs ms cs ys ns es        two tableaux of a rank that fit together, with their letter counts
 --     filled-product                     filled by the counts of both, added, and the set that both make, outputs hold the product
 --     first-cells, .. counts-fit         what the tables and their sums ask, once the checks have passed
---     refused-product, passed-product    the reply, and both outputs, from the verdict of the checks on
+--     refused-product, passed-product    the reply, and all outputs, from the verdict of the checks on
 --     checking, replying                 the rulesets of the checks and of the operation
 -- Assumes nothing.
 use Prim.Native.Nat.{ℕ, suc, _+_, _≤_}
@@ -14,11 +14,13 @@ use lib.ListN.{length}
 use mir.Syntax.{w64}
 use mir.Val.{Fits}
 use borrow.Author.Needs.{needs}
+use Rattle.hypoplactic.specs.Counts.{TrueCounts, countsOf}
 use Rattle.hypoplactic.specs.Junctions.{downOut}
 use Rattle.hypoplactic.specs.Judgements.{roomJudged, tableauRooms}
 use Rattle.hypoplactic.specs.Replies.{Said, gives, first, orElse, passed, written}
 use Rattle.hypoplactic.specs.Ribbons.{LetterStep, TableauAt}
 use Rattle.hypoplactic.specs.Words.{Within, tick}
+use Rattle.hypoplactic.proofs.Theory.Counts.{counts-whole}
 use Rattle.hypoplactic.proofs.Theory.Judgements.{room-judged}
 use Rattle.hypoplactic.proofs.Theory.Limits.{accepted-within}
 use Rattle.hypoplactic.proofs.Theory.Occurrences.{count-length}
@@ -33,8 +35,7 @@ use Rattle.refusals.specs.Said.{saidRefusal, saidVerdict}
 use Rattle.refusals.specs.declared.refusal.Refusal.{Refusal}
 use Rattle.refusals.specs.declared.answers.Verdict.{Verdict}
 use Rattle.refusals.specs.declared.answers.Verdict.the-variants.{Passed, Refused}
-use Rattle.words.specs.Given.{accepted-counts, countGiven}
-use Rattle.words.specs.Tables.{Table, Counts}
+use Rattle.words.specs.Tables.{Table, Counts, true-counts}
 use Rattle.fillings.specs.Filled.{filled}
 use Rattle.fillings.specs.Tableau.{filled-word}
 use Rattle.multiplication.specs.Merging.{Merged, Tables}
@@ -42,56 +43,56 @@ use Rattle.multiplication.specs.Sums.{Sums, SumsFit}
 
 -- ---- the checks
 
--- What 1 to 6 of the factors say, and then 13 of outputs of so many elements.
-unfoldable pub productChecked : ℕ → List ℕ → List ℕ → List ℕ → List ℕ → ℕ → ℕ → Said
-productChecked n xs ms ys ns letters marks = checksThen (factorsJudgements n xs ms ys ns) (tableauRooms (length xs + length ys) letters marks)
+-- What 1 to 6 and 17 of the factors say, and then 13 of outputs of so many elements.
+unfoldable pub productChecked : ℕ → List ℕ → List ℕ → List ℕ → List ℕ → List ℕ → List ℕ → ℕ → ℕ → Said
+productChecked n xs ms cs ys ns es letters marks =
+    checksThen (factorsJudgements n xs ms cs ys ns es) (tableauRooms (length xs + length ys) letters marks)
 
--- 1 to 6 refuse, or what follows decides.
-module _ {v : Verdict} (n : ℕ) (xs ms ys ns : List ℕ) (e : saidVerdict v ≡ first (factorsJudgements n xs ms ys ns) passed) where
-  pub checked-factors : (letters marks : ℕ) (r : Refusal) → v ≡ Refused r → saidRefusal r ≡ productChecked n xs ms ys ns letters marks
+-- The factors are refused, or what follows decides.
+module _ {v : Verdict} (n : ℕ) (xs ms cs ys ns es : List ℕ) (e : saidVerdict v ≡ first (factorsJudgements n xs ms cs ys ns es) passed) where
+  pub checked-factors : (letters marks : ℕ) (r : Refusal) → v ≡ Refused r → saidRefusal r ≡ productChecked n xs ms cs ys ns es letters marks
   unfolding productChecked
-  checked-factors letters marks r q = stops-there (factorsJudgements n xs ms ys ns) e _ r q
+  checked-factors letters marks r q = stops-there (factorsJudgements n xs ms cs ys ns es) e _ r q
 
   pub checked-rooms : {s : Said} (letters marks : ℕ) → v ≡ Passed
       → s ≡ orElse (roomJudged (length xs + length ys) letters) (orElse (roomJudged (length xs + length ys) marks) passed)
-      → s ≡ productChecked n xs ms ys ns letters marks
+      → s ≡ productChecked n xs ms cs ys ns es letters marks
   unfolding productChecked checksThen
   checked-rooms letters marks q g =
-      goes-on (first (factorsJudgements n xs ms ys ns) passed) _ e q g
-      ∙ sym (first-append (factorsJudgements n xs ms ys ns) (tableauRooms (length xs + length ys) letters marks) passed)
+      goes-on (first (factorsJudgements n xs ms cs ys ns es) passed) _ e q g
+      ∙ sym (first-append (factorsJudgements n xs ms cs ys ns es) (tableauRooms (length xs + length ys) letters marks) passed)
 
 pub ruleset checking = (checked-factors, checked-rooms, chaining)
 
 -- ---- two factors
 
--- Tableaux of one rank that fit together.
-record Factors (n : ℕ) (xs ms ys ns : List ℕ) : Type 0 where
+-- Tableaux of one rank that fit together, and bring true letter counts.
+record Factors (n : ℕ) (xs ms cs ys ns es : List ℕ) : Type 0 where
   first : TableauAt n xs ms
   second : TableauAt n ys ns
   few : length xs + length ys ≤ 1024
+  first-counts : TrueCounts xs cs
+  second-counts : TrueCounts ys es
 
-module _ {n : ℕ} {xs ms ys ns cs es : List ℕ} (h : Factors n xs ms ys ns) (c : Table (countGiven n xs) cs) (e : Table (countGiven n ys) es) where
-  -- The counts of both,
-  first-counts : Counts xs cs
-  first-counts = accepted-counts (h .first .word) c
-
-  second-counts : Counts ys es
-  second-counts = accepted-counts (h .second .word) e
-
-  -- added, fit 16 bits,
+module _ {n : ℕ} {xs ms cs ys ns es : List ℕ} (h : Factors n xs ms cs ys ns es) where
+  -- The counts of both, added, fit 16 bits,
   fit : SumsFit cs es
   fit = record {
-    fit = λ j l. omega (arith, first-counts .entry j l, second-counts .entry j l, count-length (suc j) xs, count-length (suc j) ys, h .few);
+    fit = λ j l. omega (arith, h .first-counts .entry j l, h .second-counts .entry j l, count-length (suc j) xs, count-length (suc j) ys, h .few);
   }
 
-  -- and are the counts of the product.
+  -- and are the counts of the product:
   added : {sums : List ℕ} → Sums cs es sums → Counts (productWord xs ms ys ns) sums
   added s = record {
     size = s .size;
     entry = λ j l.
-        s .entry j l ∙ ap₂ _+_ (first-counts .entry j l) (second-counts .entry j l)
+        s .entry j l ∙ ap₂ _+_ (h .first-counts .entry j l) (h .second-counts .entry j l)
         ∙ sym (product-count xs ms ys ns (h .first .tableau) (h .second .tableau) (suc j));
   }
+
+  -- all 64 of them.
+  sums-counts : {sums : List ℕ} → Sums cs es sums → sums ≡ countsOf (productWord xs ms ys ns)
+  sums-counts {sums} s = counts-whole (productWord xs ms ys ns) sums (s .size) (true-counts (added s))
 
   -- Filled by these and by the set that both make, lists that have room hold the product.
   filled-product : {ds gs sums : List ℕ} {set : ℕ} (letters marks : List ℕ) → Table (λ a. tick (downOut a xs ms) 0) ds
@@ -102,9 +103,9 @@ module _ {n : ℕ} {xs ms ys ns cs es : List ℕ} (h : Factors n xs ms ys ns) (c
       let tables : Tables n xs ms ys ns cs _ es _ = record {
         first = h .first;
         second = h .second;
-        first-counts = first-counts;
+        first-counts = h .first-counts;
         first-downs = d;
-        second-counts = second-counts;
+        second-counts = h .second-counts;
         second-downs = g;
       } in
       let cells : length (productWord xs ms ys ns) ≡ length xs + length ys = product-length xs ms ys ns (h .first .tableau) (h .second .tableau) in
@@ -113,15 +114,15 @@ module _ {n : ℕ} {xs ms ys ns cs es : List ℕ} (h : Factors n xs ms ys ns) (c
 
 -- ---- the operation
 
--- The verdict of 1 to 6 on the factors and of 13 passes.
-module _ {v : Verdict} (n : ℕ) (xs ms ys ns : List ℕ) (letters marks : ℕ) (e : saidVerdict v ≡ productChecked n xs ms ys ns letters marks)
-    (q : v ≡ Passed) where
-  -- Both are tableaux that fit together,
-  factors : Factors n xs ms ys ns
+-- The verdict of 1 to 6 and 17 on the factors and of 13 passes.
+module _ {v : Verdict} (n : ℕ) (xs ms cs ys ns es : List ℕ) (letters marks : ℕ)
+    (e : saidVerdict v ≡ productChecked n xs ms cs ys ns es letters marks) (q : v ≡ Passed) where
+  -- Both are tableaux that fit together, with true letter counts,
+  factors : Factors n xs ms cs ys ns es
   unfolding productChecked
   factors =
-      let (one, other, few) = factors-passing n xs ms ys ns .0 (then-passing _ _ e q .0) in
-      record { first = one; second = other; few = few }
+      let (one, other, few, counts, counts′) = factors-passing n xs ms cs ys ns es .0 (then-passing _ _ e q .0) in
+      record { first = one; second = other; few = few; first-counts = counts; second-counts = counts′ }
 
   -- and the outputs have room for them.
   room : (length xs + length ys ≤ letters) × (length xs + length ys ≤ marks)
@@ -144,24 +145,28 @@ module _ {v : Verdict} (n : ℕ) (xs ms ys ns : List ℕ) (letters marks : ℕ) 
   rank-high = factors .first .word .rank-high
 
   -- and the counts can be added.
-  pub counts-fit : {cs es : List ℕ} → Table (countGiven n xs) cs → Table (countGiven n ys) es → SumsFit cs es
-  counts-fit c t = fit factors c t
+  pub counts-fit : SumsFit cs es
+  counts-fit = fit factors
 
 -- The operation, from that verdict on:
-module _ {v : Verdict} (n : ℕ) (xs ms ys ns letters marks : List ℕ) (e : saidVerdict v ≡ productChecked n xs ms ys ns (length letters) (length marks)) where
-  -- a refusal, and both outputs are as they were,
-  pub refused-product : (r : Refusal) → v ≡ Refused r → (saidRefusal r, (letters, marks)) ≡ productRun n xs ms ys ns letters marks
+module _ {v : Verdict} (n : ℕ) (xs ms cs ys ns es letters marks counts : List ℕ)
+    (e : saidVerdict v ≡ productChecked n xs ms cs ys ns es (length letters) (length marks)) where
+  -- a refusal, and all outputs are as they were,
+  pub refused-product : (r : Refusal) → v ≡ Refused r
+      → (saidRefusal r, (letters, (marks, counts))) ≡ productRun n xs ms cs ys ns es letters marks counts
   unfolding productRun productSays productChecked
-  refused-product r q = run-refused _ _ e _ _ (letters, marks) r q
+  refused-product r q = run-refused _ _ e _ _ (letters, (marks, counts)) r q
 
-  -- or both, filled by the counts of both factors and the set that these make, hold the product.
-  pub passed-product : {cs ds es gs sums : List ℕ} {set : ℕ} (ls ks : List ℕ) → v ≡ Passed → Table (countGiven n xs) cs → Table (countGiven n ys) es
-      → Table (λ a. tick (downOut a xs ms) 0) ds → Table (λ a. tick (downOut a ys ns) 0) gs → Merged n cs ds es gs set → Sums cs es sums
-      → (ls, ks) ≡ filled n sums set letters marks → (gives ((length xs + length ys) ∷ []), (ls, ks)) ≡ productRun n xs ms ys ns letters marks
+  -- or letters and marks, filled by the counts of both factors and the set that these make, hold the product, beside the sums of both counts.
+  pub passed-product : {ds gs sums : List ℕ} {set : ℕ} (ls ks : List ℕ) → v ≡ Passed → Table (λ a. tick (downOut a xs ms) 0) ds
+      → Table (λ a. tick (downOut a ys ns) 0) gs → Merged n cs ds es gs set → Sums cs es sums → (ls, ks) ≡ filled n sums set letters marks
+      → (gives ((length xs + length ys) ∷ []), (ls, (ks, sums))) ≡ productRun n xs ms cs ys ns es letters marks counts
   unfolding productRun productSays productChecked
-  passed-product ls ks q c t d g m s f =
-      let (as-letters, as-marks) = room n xs ms ys ns (length letters) (length marks) e q in
-      run-passed _ _ e _ _ (letters, marks) (ls, ks) q
-      (f ∙ filled-product (factors n xs ms ys ns (length letters) (length marks) e q) c t letters marks d g m s as-letters as-marks)
+  passed-product {sums = sums} ls ks q d g m s f =
+      let (as-letters, as-marks) = room n xs ms cs ys ns es (length letters) (length marks) e q in
+      let both : Factors n xs ms cs ys ns es = factors n xs ms cs ys ns es (length letters) (length marks) e q in
+      let cells = f ∙ filled-product both letters marks d g m s as-letters as-marks in
+      run-passed _ _ e _ _ (letters, (marks, counts)) (ls, (ks, sums)) q
+      (ap₂ (λ (c : List ℕ × List ℕ) (t : List ℕ). (c .0, (c .1, t))) cells (sums-counts both s))
 
 pub ruleset replying = (cells-fit, rank-high, counts-fit, passed-product, refused-product, needs)
