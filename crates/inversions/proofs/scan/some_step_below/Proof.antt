@@ -1,8 +1,8 @@
--- `tableaux::moves::some_step_below` meets its contract, by the laws of specs/Moves. Assumes nothing.
+-- `inversions::scan::some_step_below` meets its contract, by the laws of specs/Walking. Assumes nothing.
 use Prim.Native.Nat.{_-_}
-use Rattle.tableaux.specs.Moves.{walking, Walking}
-use Rattle.tableaux.proofs.moves.some_step_below.Statement.{statement}
-use Rattle.tableaux.proofs.moves.some_step_below.Tie as tie
+use Rattle.inversions.specs.Walking.{walking, Walking}
+use Rattle.inversions.proofs.scan.some_step_below.Statement.{statement}
+use Rattle.inversions.proofs.scan.some_step_below.Tie as tie
 
 abbrev Inv-loop : tie.InvT-loop
 Inv-loop here letters marks size next found₀ i₀ found i = Walking here letters marks i found
