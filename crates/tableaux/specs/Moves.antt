@@ -1,138 +1,183 @@
--- Moves and repeat counts on a tableau: the scan for i+1 directly below i, and what is replied past the tableau's own checks.
---     Walking i xs ms p found     the scan's invariant: found, before place p, or in what is left
---     none-below                  an index whose next letter is no byte
---     stepping, walking           the rulesets of one step and of the scan
---     moving, repeating           the rulesets of moves and of repeat counts
--- What follows the checks and the inversion is in Changes of operators. Assumes nothing.
-use Prim.Native.Nat.{ℕ, suc, _+_, _-_, _≤_, _<_, min}
-use mathlib.Core.Path.{_≡_, refl, sym, _∙_}
-use mathlib.Core.Logic.{_⊎_, inl, inr}
-use mathlib.Core.List.{List, [], _∷_}
-use mathlib.Core.Bool.{Bool, false, _&&_, _||_, and-false, or-assoc, or-false}
-use native.Mathlib.Numerals.{add-one}
+-- Moves and repeat counts on a tableau that brings its letter counts: what is replied past its checks, and what lent memory then holds.
+--     moveCellsRun n m xs ms cs       a move without the change of counts: what is replied, and the letters afterwards
+--     cells-refused, cells-passed     it, from the verdict of the checks
+--     move-stopped, move-made         the whole move, from it: refused, or made and the counts changed
+--     move-movable                    the counts of a move that is made can be changed
+--     repeat-refused, repeat-inverted, repeat-counted     a repeat count: refused; under an inversion; the stored count of the letter that the move takes
+--     shifting, moving, repeating     the rulesets of letters, of moves and of repeat counts
+-- What follows the checks and the inversion in letters is in Changes of operators. Assumes nothing.
+use Prim.Native.Nat.{ℕ, suc, _-_, _≤_, _<_}
+use mathlib.Core.Path.{_≡_, sym, ap, subst, _∙_}
+use mathlib.Core.List.{List, [], _∷_, _++_}
+use mathlib.Core.Bool.{Bool, true, false}
 use native.Mathlib.Omega.{arith}
-use mir.Syntax.{w8}
-use mir.Val.{Fits}
-use lib.Dec.{eqb}
-use lib.ListN.{length, getD, drop, drop-of-length-le}
-use lib.Seq.{drop-cons}
+use lib.ListN.{length, getD}
 use borrow.Author.Needs.{needs}
-use borrow.Author.Tests.{ne-eqb}
-use Rattle.hypoplactic.specs.Moves.{below, fromTo, movedTableau, repeatTableau}
-use Rattle.hypoplactic.specs.Ribbons.{downAfter}
-use Rattle.hypoplactic.specs.Replies.{Said, gives, passed, first}
-use Rattle.hypoplactic.specs.Judgements.{alikeJudged, indexJudged, lettersJudged, marksJudged, risingJudged, tableauJudgements}
-use Rattle.hypoplactic.specs.WordOperations.{moveJudgements, orSame}
+use Rattle.hypoplactic.specs.Words.{count}
+use Rattle.hypoplactic.specs.Ribbons.{TableauAt}
+use Rattle.hypoplactic.specs.Moves.{Move, Side, raising, lowering, below, changedPlace, given, movedTableau, repeatTableau, taken}
+use Rattle.hypoplactic.specs.Replies.{Said, gives, refused, passed, Passes, orElse, first, ranTo}
+use Rattle.hypoplactic.specs.Counts.{TrueCounts, countsJudged, oneOver}
+use Rattle.hypoplactic.specs.Judgements.{alikeJudged, countedJudgements, indexJudged, lettersJudged, marksJudged, risingJudged}
+use Rattle.hypoplactic.specs.WordOperations.{moveJudgements, orSame, placeTold}
 use Rattle.hypoplactic.specs.TableauOperations.{moveTableauRun, moveTableauSays, repeatTableauSays}
-use Rattle.hypoplactic.proofs.Theory.Pairs.{le-or-lt}
-use Rattle.hypoplactic.proofs.Theory.Passing.{first-append}
-use Rattle.refusals.specs.Running.{all-passing, run-stopped}
-use Rattle.refusals.specs.Said.{saidRefusal, saidVerdict}
+use Rattle.hypoplactic.proofs.Theory.Judged.{counted-passing}
+use Rattle.hypoplactic.proofs.Theory.Judgements.{index-judged, letter-judged}
+use Rattle.hypoplactic.proofs.Theory.Occurrences.{count-length}
+use Rattle.hypoplactic.proofs.Theory.Passing.{Passing, first-else, passing-append, passing-first}
+use Rattle.refusals.specs.Running.{all-passing, checksThen, run-stopped, then-passing}
+use Rattle.refusals.specs.Said.{number, place, saidMove, saidRefusal, saidVerdict}
 use Rattle.refusals.specs.declared.refusal.Refusal.{Refusal}
+use Rattle.refusals.specs.declared.answers.Move.{Move as Answer}
+use Rattle.refusals.specs.declared.answers.Move.the-variants as answer
 use Rattle.refusals.specs.declared.answers.Verdict.{Verdict}
 use Rattle.refusals.specs.declared.answers.Verdict.the-variants.{Passed, Refused}
-use Rattle.operators.specs.Changes.{moveLettersRun, repeatLettersSays, move-on, repeat-on}
-use Rattle.operators.specs.Targets.{moveBy}
+use Rattle.operators.specs.Changes.{moveLettersRun, move-on}
+use Rattle.operators.specs.Targets.{moveBy, sideOf}
 use Rattle.operators.specs.declared.changes.Side.{Side as Chosen}
+use Rattle.tableaux.specs.Counts.{Movable}
 
--- ---- one step
+-- A move without the change of counts: what is replied, and the letters afterwards.
+unfoldable pub moveCellsRun : ℕ → Move → List ℕ → List ℕ → List ℕ → Said × List ℕ
+moveCellsRun n m xs ms cs = ranTo (moveTableauSays n m xs ms cs) (orSame (movedTableau m xs ms) xs) xs
 
--- The three tests, with the letter after i in hand.
-pub steps-next : {j : ℕ} {both r : Bool} (i x y m : ℕ) → j ≡ i + 1 → both ≡ (eqb x i && eqb y j) → r ≡ (both && eqb m 1) → r ≡ (fromTo i x y && eqb m 1)
-steps-next i x y m e f g = g ∙ rw (f, e, add-one i)
+-- ---- true counts
 
-pub ruleset stepping = (steps-next, needs)
-
--- ---- the scan
-
--- An i+1 directly below i was found before place p, or stands in what is left.
-pub record Walking (i : ℕ) (xs ms : List ℕ) (p : ℕ) (found : Bool) : Type 0 where
-  pub low : 1 ≤ p
-  pub whole : below i xs ms ≡ (found || downAfter (fromTo i) (getD xs (p - 1) 0) (drop p xs) (drop p ms))
-
-no-marks : (f : ℕ → ℕ → Bool) (x : ℕ) (xs : List ℕ) → downAfter f x xs [] ≡ false
-no-marks f x [] = refl
-no-marks f x (y ∷ ys) = refl
-
--- The first step is the one into the second cell.
-pub walk-start : (i : ℕ) (xs ms : List ℕ) → Walking i xs ms 1 false
-walk-start i xs ms = record { low = omega arith; whole = go xs ms }
+-- The number of the letter that a move takes.
+taken-true : (s : Side) (i : ℕ) (xs cs : List ℕ) → TrueCounts xs cs → 0 < i → i < 64 → getD cs (taken s i - 1) 0 ≡ count (taken s i) xs
+taken-true s i xs cs t l h = let (low, is) = slot s in t .entry (taken s i - 1) low ∙ ap (λ (a : ℕ). count a xs) is
   where
-    go : (xs ms : List ℕ) → below i xs ms ≡ downAfter (fromTo i) (getD xs (1 - 1) 0) (drop 1 xs) (drop 1 ms)
-    go [] ms = refl
-    go (x ∷ xs) [] = sym (no-marks (fromTo i) x xs)
-    go (x ∷ xs) (m ∷ ms) = refl
+    slot : (s : Side) → (taken s i - 1 < 64) × (suc (taken s i - 1) ≡ taken s i)
+    slot raising = (omega arith, omega arith)
+    slot lowering = (omega arith, omega arith)
 
-module _ {i : ℕ} {xs ms : List ℕ} {p size : ℕ} {found : Bool} where
-  -- Where a cell follows, what is left begins with the step into it.
-  pub walk-turn : {b next : Bool} → next ≡ (found || b) → Walking i xs ms p found
-      → b ≡ (fromTo i (getD xs (p - 1) 0) (getD xs p 0) && eqb (getD ms p 0) 1) → size ≡ min (length xs) (length ms) → p < size
-      → Walking i xs ms (p + 1) next
-  walk-turn {b} f s e h l = record {
-    low = omega arith;
-    whole =
-        let k : p < length xs = omega arith in
-        let j : p < length ms = omega arith in
-        let z : p + 1 - 1 ≡ p = omega arith in
-        s .whole
-        ∙ rw (drop-cons xs p 0 k, drop-cons ms p 0 j, ← e, f, z, add-one p)
-        (sym (or-assoc found b (downAfter (fromTo i) (getD xs p 0) (drop (suc p) xs) (drop (suc p) ms))));
-  }
+-- Where there is a letter to take, its count and the other one can be changed.
+movable : (s : Side) (n i : ℕ) (xs ms cs : List ℕ) → TableauAt n xs ms → TrueCounts xs cs → 0 < i → i < n → 1 ≤ count (taken s i) xs → Movable s i cs
+movable s n i xs ms cs a t l h c =
+    let high : i < 64 = omega (arith, a .word .rank-high) in
+    record {
+      low = l;
+      high = high;
+      some-taken = rw (taken-true s i xs cs t l high) c;
+      few = λ j l. rw (t .entry j l) (omega (arith, count-length (suc j) xs, a .word .short));
+    }
 
-  -- Past the last cell nothing is left.
-  pub walk-end : Walking i xs ms p found → size ≡ min (length xs) (length ms) → size ≤ p → found ≡ below i xs ms
-  walk-end s h l = sym (s .whole ∙ rw (go (le-or-lt (length xs) p) (le-or-lt (length ms) p)) (or-false found))
-    where
-      go : (length xs ≤ p) ⊎ (p < length xs) → (length ms ≤ p) ⊎ (p < length ms)
-          → downAfter (fromTo i) (getD xs (p - 1) 0) (drop p xs) (drop p ms) ≡ false
-      go (inl k) j = rw (drop-of-length-le xs k)
-      go (inr k) (inl j) = rw (drop-of-length-le ms j) (no-marks (fromTo i) (getD xs (p - 1) 0) (drop p xs))
-      go (inr k) (inr j) = let z : ⊥ = omega arith in absurd z
+-- ---- moves
 
--- Where i+1 is no byte, it is no letter, and stands below nothing.
-none-after : (i x : ℕ) (xs ms : List ℕ) → 254 < i → ((k : ℕ) → Fits w8 (getD xs k 0)) → downAfter (fromTo i) x xs ms ≡ false
-none-after i x [] ms l h = refl
-none-after i x (y ∷ ys) [] l h = refl
-none-after i x (y ∷ ys) (m ∷ ms) l h =
-    rw (ne-eqb y (suc i) (λ e. omega (arith, h 0 .fits)), and-false (eqb x i)) (none-after i y ys ms l (λ k. h (suc k)))
+-- A reply and the letters, and beside them the counts: as they were where it refuses,
+beside-kept : {r : Said} {ys : List ℕ} (t : Said) (new old ds cs : List ℕ) (k p : ℕ) → (r, ys) ≡ ranTo t new old → r ≡ refused k p
+    → (r, (ys, cs)) ≡ ranTo {A = List ℕ × List ℕ} t (new, ds) (old, cs)
+beside-kept (gives vs) new old ds cs k p e q = absurd (subst Passes (sym (ap (λ (z : Said × List ℕ). z .0) e) ∙ q) tt)
+beside-kept (refused j i) new old ds cs k p e q = ap (λ (z : Said × List ℕ). (z .0, (z .1, cs))) e
 
-pub none-below : (i : ℕ) (xs ms : List ℕ) → 254 < i → ((k : ℕ) → Fits w8 (getD xs k 0)) → false ≡ below i xs ms
-none-below i [] ms l h = refl
-none-below i (x ∷ xs) [] l h = refl
-none-below i (x ∷ xs) (m ∷ ms) l h = sym (none-after i x xs ms l (λ k. h (suc k)))
+-- new where it does not.
+beside-new : {r : Said} {ys : List ℕ} (t : Said) (new old ds cs vs : List ℕ) → (r, ys) ≡ ranTo t new old → r ≡ gives vs
+    → (r, (ys, ds)) ≡ ranTo {A = List ℕ × List ℕ} t (new, ds) (old, cs)
+beside-new (gives us) new old ds cs vs e q = ap (λ (z : Said × List ℕ). (z .0, (z .1, ds))) e
+beside-new (refused j i) new old ds cs vs e q = absurd (subst Passes (sym q ∙ ap (λ (z : Said × List ℕ). z .0) e) tt)
 
-pub ruleset walking = (walk-start, walk-turn, walk-end, none-below, needs)
+-- The checks that follow 1 and 2.
+abbrev laterJudgements : ℕ → List ℕ → List ℕ → List ℕ → List Said
+laterJudgements n xs ms cs =
+    alikeJudged (length xs) (length ms ∷ []) ∷ lettersJudged n xs ∷ risingJudged xs ∷ marksJudged xs ms ∷ countsJudged cs xs ∷ []
 
--- ---- moves and repeat counts
-
--- The checks of a tableau that follow 1 and 2.
-abbrev laterJudgements : ℕ → List ℕ → List ℕ → List Said
-laterJudgements n xs ms = alikeJudged (length xs) (length ms ∷ []) ∷ lettersJudged n xs ∷ risingJudged xs ∷ marksJudged xs ms ∷ []
-
--- The verdict of the tableau's checks,
-module _ {v : Verdict} (n i : ℕ) (xs ms : List ℕ) (e : saidVerdict v ≡ first (tableauJudgements n xs ms) passed) where
+-- The verdict of 1 to 6 and 17,
+module _ {v : Verdict} (n i : ℕ) (xs ms cs : List ℕ) (e : saidVerdict v ≡ first (countedJudgements n xs ms cs) passed) where
   -- which refuses, and nothing changes,
-  pub move-refused : (s : Chosen) (r : Refusal) → v ≡ Refused r → (saidRefusal r, xs) ≡ moveTableauRun n (moveBy s i) xs ms
-  unfolding moveTableauRun moveTableauSays
-  move-refused s r q =
-      run-stopped (tableauJudgements n xs ms) (moveJudgements n (moveBy s i) (below i xs ms) xs) _ (orSame (movedTableau (moveBy s i) xs ms) xs) xs r e q
+  pub cells-refused : (s : Chosen) (r : Refusal) → v ≡ Refused r → (saidRefusal r, xs) ≡ moveCellsRun n (moveBy s i) xs ms cs
+  unfolding moveCellsRun moveTableauSays
+  cells-refused s r q =
+      run-stopped (countedJudgements n xs ms cs) (moveJudgements n (moveBy s i) (below i xs ms) xs) _ (orSame (movedTableau (moveBy s i) xs ms) xs) xs r e q
 
-  pub repeat-refused : (s : Chosen) (r : Refusal) → v ≡ Refused r → saidRefusal r ≡ repeatTableauSays n (moveBy s i) xs ms
-  unfolding repeatTableauSays
-  repeat-refused s r q =
-      sym (first-append (tableauJudgements n xs ms) (indexJudged n i ∷ []) (gives (repeatTableau (moveBy s i) xs ms ∷ [])) ∙ rw (← e, q))
+  -- or passes, and the letters are moved as the inversion tells.
+  pub cells-passed : {b : Bool} {r : Said × List ℕ} (s : Chosen) → v ≡ Passed → b ≡ below i xs ms → r ≡ moveLettersRun n (moveBy s i) b xs
+      → r ≡ moveCellsRun n (moveBy s i) xs ms cs
+  unfolding moveCellsRun moveTableauSays
+  cells-passed s q f h =
+      h ∙ rw f (move-on n (moveBy s i) (below i xs ms) xs (laterJudgements n xs ms cs) (all-passing (countedJudgements n xs ms cs) e q))
 
-  -- or passes, and the letters are moved or counted as the inversion tells.
-  pub move-passed : {b : Bool} {r : Said × List ℕ} (s : Chosen) → v ≡ Passed → b ≡ below i xs ms → r ≡ moveLettersRun n (moveBy s i) b xs
-      → r ≡ moveTableauRun n (moveBy s i) xs ms
-  unfolding moveTableauRun moveTableauSays
-  move-passed s q f h = h ∙ rw f (move-on n (moveBy s i) (below i xs ms) xs (laterJudgements n xs ms) (all-passing (tableauJudgements n xs ms) e q))
+pub ruleset shifting = (cells-refused, cells-passed, needs)
 
-  pub repeat-passed : {b : Bool} {r : Said} (s : Chosen) → v ≡ Passed → b ≡ below i xs ms → r ≡ repeatLettersSays n (moveBy s i) b xs
-      → r ≡ repeatTableauSays n (moveBy s i) xs ms
-  unfolding repeatTableauSays repeatTableau
-  repeat-passed s q f h = h ∙ rw f (repeat-on n (moveBy s i) (below i xs ms) xs (laterJudgements n xs ms) (all-passing (tableauJudgements n xs ms) e q))
+-- The answer, and the letters then.
+module _ {a : Answer} {ys : List ℕ} (n i : ℕ) (xs ms cs : List ℕ) (s : Chosen) (h : (saidMove a, ys) ≡ moveCellsRun n (moveBy s i) xs ms cs) where
+  -- A refusal leaves the counts,
+  pub move-stopped : (r : Refusal) → a ≡ answer.Refused r → (saidRefusal r, (ys, cs)) ≡ moveTableauRun n (moveBy s i) xs ms cs
+  unfolding moveTableauRun moveCellsRun
+  move-stopped r p =
+      let d : saidMove a ≡ saidRefusal r = ap saidMove p in
+      ap (λ (t : Said). (t, (ys, cs))) (sym d)
+      ∙ beside-kept (moveTableauSays n (moveBy s i) xs ms cs) _ xs (oneOver cs (taken (sideOf s) i) (given (sideOf s) i)) cs (number r) (place r) h d
 
-pub ruleset moving = (move-refused, move-passed, needs)
+  module _ (p : ℕ) (g : a ≡ answer.Made p) where
+    -- a move that is made has changed them,
+    pub move-made : {ds : List ℕ} → ds ≡ oneOver cs (taken (sideOf s) i) (given (sideOf s) i)
+        → (saidMove a, (ys, ds)) ≡ moveTableauRun n (moveBy s i) xs ms cs
+    unfolding moveTableauRun moveCellsRun
+    move-made k =
+        rw k
+        (beside-new (moveTableauSays n (moveBy s i) xs ms cs) _ xs (oneOver cs (taken (sideOf s) i) (given (sideOf s) i)) cs (p ∷ []) h (ap saidMove g))
 
-pub ruleset repeating = (repeat-refused, repeat-passed, needs)
+    -- as it can, for all checks have passed.
+    pub move-movable : Movable (sideOf s) i cs
+    unfolding moveTableauSays moveCellsRun
+    move-movable =
+        let js : List Said = countedJudgements n xs ms cs in
+        let ks : List Said = moveJudgements n (moveBy s i) (below i xs ms) xs in
+        go
+        (passing-append js ks .0
+        (passing-first (js ++ ks) (placeTold (changedPlace (below i xs ms) (moveBy s i) xs))
+        (subst Passes (sym (ap saidMove g) ∙ ap (λ (z : Said × List ℕ). z .0) h) tt)))
+      where
+        go : Passing (countedJudgements n xs ms cs) × Passing (moveJudgements n (moveBy s i) (below i xs ms) xs) → Movable (sideOf s) i cs
+        go (checks, (index, (inversion, (letter, t)))) =
+            let (tableau, counted) = counted-passing n xs ms cs .0 checks in
+            let (low, high) = index-judged n i .0 index in
+            movable (sideOf s) n i xs ms cs tableau counted low high (letter-judged (taken (sideOf s) i) xs .0 letter)
+
+pub ruleset moving = (move-stopped, move-made, move-movable, needs)
+
+-- ---- repeat counts
+
+-- What is said is what 1 to 6, 17 and 9 say, or else the count.
+says-count : (n i : ℕ) (xs ms cs : List ℕ) (u : Said) (s : Chosen) → u ≡ checksThen (countedJudgements n xs ms cs) (indexJudged n i ∷ [])
+    → repeatTableauSays n (moveBy s i) xs ms cs ≡ orElse u (gives (repeatTableau (moveBy s i) xs ms ∷ []))
+unfolding repeatTableauSays checksThen
+says-count n i xs ms cs u s e =
+    let a : Said = gives (repeatTableau (moveBy s i) xs ms ∷ []) in
+    sym (first-else (countedJudgements n xs ms cs ++ (indexJudged n i ∷ [])) a) ∙ ap (λ (t : Said). orElse t a) (sym e)
+
+-- The verdict of 1 to 6, 17 and 9,
+module _ {v : Verdict} (n i : ℕ) (xs ms cs : List ℕ) (e : saidVerdict v ≡ checksThen (countedJudgements n xs ms cs) (indexJudged n i ∷ [])) where
+  -- which refuses,
+  pub repeat-refused : (s : Chosen) (r : Refusal) → v ≡ Refused r → saidRefusal r ≡ repeatTableauSays n (moveBy s i) xs ms cs
+  repeat-refused s r q = sym (says-count n i xs ms cs (saidVerdict v) s e ∙ rw q)
+
+  -- or passes, and the index is that of a letter,
+  repeat-index : v ≡ Passed → (0 < i) × (i < 64)
+  repeat-index q =
+      let (checks, index) = then-passing (countedJudgements n xs ms cs) (indexJudged n i ∷ []) e q in
+      let (low, high) = index-judged n i .0 (index .0) in
+      let (tableau, counted) = counted-passing n xs ms cs .0 checks in
+      (low, omega (arith, tableau .word .rank-high))
+
+  pub repeat-low : v ≡ Passed → 0 < i
+  repeat-low q = repeat-index q .0
+
+  pub repeat-high : v ≡ Passed → i < 64
+  repeat-high q = repeat-index q .1
+
+  -- whose stored count is the answer, unless there is an inversion.
+  module _ {b : Bool} (s : Chosen) (q : v ≡ Passed) (f : b ≡ below i xs ms) where
+    pub repeat-inverted : b ≡ true → gives (0 ∷ []) ≡ repeatTableauSays n (moveBy s i) xs ms cs
+    unfolding repeatTableau
+    repeat-inverted t = sym (says-count n i xs ms cs (saidVerdict v) s e ∙ rw (q, ← f, t))
+
+    pub repeat-counted : {k : ℕ} → b ≡ false → k ≡ getD cs (taken (sideOf s) i - 1) 0 → gives (k ∷ []) ≡ repeatTableauSays n (moveBy s i) xs ms cs
+    unfolding repeatTableau
+    repeat-counted t h =
+        let (checks, index) = then-passing (countedJudgements n xs ms cs) (indexJudged n i ∷ []) e q in
+        let (low, high) = repeat-index q in
+        let is = h ∙ taken-true (sideOf s) i xs cs (counted-passing n xs ms cs .0 checks .1) low high in
+        rw is (sym (says-count n i xs ms cs (saidVerdict v) s e ∙ rw (q, ← f, t)))
+
+pub ruleset repeating = (repeat-refused, repeat-low, repeat-high, repeat-inverted, repeat-counted, needs)
