@@ -15,6 +15,7 @@ use native.Mathlib.Omega.{arith}
 use lib.ListN.{length, drop, take, length-drop, length-map, length-take}
 use borrow.Author.Needs.{needs}
 use Rattle.grammar.specs.Reading.{Read, broken, got, letters, marks}
+use Rattle.hypoplactic.specs.Counts.{countsOf}
 use Rattle.hypoplactic.specs.Judgements.{alikeJudged, entriesJudged, lengthJudged, lettersJudged, marksJudged, rankJudged, risingJudged, roomJudged}
 use Rattle.hypoplactic.specs.LineReadings.{readNRun, readTRun, readWRun, recordingRead, tableauRead, wordRead}
 use Rattle.hypoplactic.specs.Replies.{Said, first, gives, passed, refused, written}
@@ -139,13 +140,13 @@ pub ruleset reading-words = (limit-part, limit-few, letters-room, word-broken, w
 -- ---- T lines
 
 module _ {text old-letters old-marks xs ms : List ℕ} {cells : List (ℕ × ℕ)} {r : Line} (s : Scanned text true (readWhole 84 true true text) cells old-letters old-marks xs ms r)
-    (out-letters out-marks : List ℕ) where
-  pub tableau-broken : {p : ℕ} → r ≡ line.Broken p → (refused 14 p, (out-letters, out-marks)) ≡ readTRun text out-letters out-marks
+    (out-letters out-marks out-counts : List ℕ) where
+  pub tableau-broken : {p : ℕ} → r ≡ line.Broken p → (refused 14 p, (out-letters, (out-marks, out-counts))) ≡ readTRun text out-letters out-marks out-counts
   unfolding readTRun
   tableau-broken {p} e = let f = line-broken s e in rw (tableau-whole text, f .says, break-place text p (f .within))
 
   module _ {n k next : ℕ} (e : r ≡ line.Read n k next) where
-    tableau-is : readTRun text out-letters out-marks ≡ tableauRead out-letters out-marks n (letters cells) (marks cells)
+    tableau-is : readTRun text out-letters out-marks out-counts ≡ tableauRead out-letters out-marks out-counts n (letters cells) (marks cells)
     unfolding readTRun
     tableau-is = rw (tableau-whole text, line-read s e)
 
@@ -154,29 +155,29 @@ module _ {text old-letters old-marks xs ms : List ℕ} {cells : List (ℕ × ℕ
     marks-kept = rw (s .marks-are) (kept-agrees (marks cells) old-marks)
 
     module _ {v : Verdict} (h : saidVerdict v ≡ first (rankJudged n ∷ lengthJudged k ∷ []) passed) where
-      pub tableau-stopped : {f : Refusal} → v ≡ Refused f → (saidRefusal f, (out-letters, out-marks)) ≡ readTRun text out-letters out-marks
+      pub tableau-stopped : {f : Refusal} → v ≡ Refused f → (saidRefusal f, (out-letters, (out-marks, out-counts))) ≡ readTRun text out-letters out-marks out-counts
       tableau-stopped {f} q =
           let ws = letters cells in
           let us = marks cells in
           run-stopped (rankJudged n ∷ lengthJudged (length ws) ∷ [])
           (alikeJudged (length ws) (length us ∷ []) ∷ lettersJudged n ws ∷ risingJudged ws ∷ marksJudged ws us ∷ roomJudged (length ws) (length out-letters)
           ∷ roomJudged (length ws) (length out-marks) ∷ [])
-          (n ∷ length ws ∷ []) (written ws out-letters, written us out-marks) (out-letters, out-marks) f (rw (letters-long s e) h) q
+          (n ∷ length ws ∷ []) (written ws out-letters, (written us out-marks, countsOf ws)) (out-letters, (out-marks, out-counts)) f (rw (letters-long s e) h) q
           ∙ sym tableau-is
 
-      pub tableau-stored : (bytes : List ℕ) {said : Said × (List ℕ × List ℕ)} → v ≡ Passed → length old-letters ≡ 1024 → length old-marks ≡ 1024
+      pub tableau-stored : (bytes : List ℕ) {said : Said × (List ℕ × (List ℕ × List ℕ))} → v ≡ Passed → length old-letters ≡ 1024 → length old-marks ≡ 1024
           → length bytes ≡ 1024 → Agree (map narrowed (take (k - 0) xs)) bytes
-          → said ≡ tableauRead out-letters out-marks n (take (k - 0) bytes) (take (k - 0) ms) → said ≡ readTRun text out-letters out-marks
+          → said ≡ tableauRead out-letters out-marks out-counts n (take (k - 0) bytes) (take (k - 0) ms) → said ≡ readTRun text out-letters out-marks out-counts
       tableau-stored bytes q l o m a w =
           let is : take (k - 0) bytes ≡ map narrowed (letters cells) =
           bytes-all s e bytes a (limit-part n k h q xs (letters-room s l)) (limit-part n k h q bytes m) in
           let steps : take (k - 0) ms ≡ marks cells = kept-all s e (λ c. c .1) ms marks-kept (limit-part n k h q ms (marks-room s o)) in
-          w ∙ ap (λ (ws : List ℕ). tableauRead out-letters out-marks n ws (take (k - 0) ms)) is
+          w ∙ ap (λ (ws : List ℕ). tableauRead out-letters out-marks out-counts n ws (take (k - 0) ms)) is
           ∙ narrowed-run n (letters cells) (λ ws. rankJudged n ∷ lengthJudged (length ws) ∷ alikeJudged (length ws) (length (take (k - 0) ms) ∷ []) ∷ [])
           (λ ws. risingJudged ws ∷ marksJudged ws (take (k - 0) ms) ∷ roomJudged (length ws) (length out-letters) ∷ roomJudged (length ws) (length out-marks) ∷ [])
-          (λ ws. gives (n ∷ length ws ∷ [])) (λ ws. (written ws out-letters, written (take (k - 0) ms) out-marks)) (out-letters, out-marks)
+          (λ ws. gives (n ∷ length ws ∷ [])) (λ ws. (written ws out-letters, (written (take (k - 0) ms) out-marks, countsOf ws))) (out-letters, (out-marks, out-counts))
           (limit-rank n k h q) (rw (length-map (letters cells) narrowed))
-          ∙ ap (tableauRead out-letters out-marks n (letters cells)) steps ∙ sym tableau-is
+          ∙ ap (tableauRead out-letters out-marks out-counts n (letters cells)) steps ∙ sym tableau-is
 
 pub ruleset reading-tableaux = (limit-part, limit-few, letters-room, marks-room, tableau-broken, tableau-stopped, tableau-stored, needs)
 

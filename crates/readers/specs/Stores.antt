@@ -1,7 +1,7 @@
 -- Values of a line into lent memory: the reply, and memory, from the verdict of the checks on.
 --     word-refused, word-passed                                  a word
 --     Copied                                                     letters and marks are copied
---     tableau-refused, tableau-passed                            a tableau
+--     tableau-refused, tableau-passed                            a tableau, and its letter counts
 --     recording-refused, recording-passed                        a recording ribbon
 --     storing-words, storing-tableaux, storing-recordings        their rulesets
 -- Assumes nothing.
@@ -11,9 +11,11 @@ use mathlib.Core.List.{List, [], _∷_}
 use native.Mathlib.Omega.{arith}
 use lib.ListN.{length}
 use borrow.Author.Needs.{needs}
+use Rattle.hypoplactic.specs.Words.{Accepted}
 use Rattle.hypoplactic.specs.Judgements.{entriesJudged, lengthJudged, roomJudged, tableauJudgements, wordJudgements}
 use Rattle.hypoplactic.specs.LineReadings.{recordingRead, tableauRead, wordRead}
 use Rattle.hypoplactic.specs.Replies.{gives}
+use Rattle.hypoplactic.proofs.Theory.Judged.{tableau-passing}
 use Rattle.hypoplactic.proofs.Theory.Judgements.{alike-judged, room-judged}
 use Rattle.buffers.specs.Copies.{copied, copied-all}
 use Rattle.refusals.specs.Running.{checksThen, run-passed, run-refused, then-passing}
@@ -21,6 +23,8 @@ use Rattle.refusals.specs.Said.{saidRefusal, saidVerdict}
 use Rattle.refusals.specs.declared.refusal.Refusal.{Refusal}
 use Rattle.refusals.specs.declared.answers.Verdict.{Verdict}
 use Rattle.refusals.specs.declared.answers.Verdict.the-variants.{Passed, Refused}
+use Rattle.words.specs.Given.{countGiven, counts-given}
+use Rattle.words.specs.Tables.{Table}
 
 -- The verdict of 1, 2, 4 and 13.
 module _ {v : Verdict} (n : ℕ) (ws old : List ℕ) (e : saidVerdict v ≡ checksThen (wordJudgements n ws) (roomJudged (length ws) (length old) ∷ [])) where
@@ -39,20 +43,21 @@ pub record Copied (xs ms letters marks xs′ ms′ : List ℕ) : Type 0 where
   pub marks-are : ms′ ≡ copied ms marks
 
 -- The verdict of 1 to 6 and 13.
-module _ {v : Verdict} (n : ℕ) (xs ms letters marks : List ℕ)
+module _ {v : Verdict} (n : ℕ) (xs ms letters marks counts : List ℕ)
     (e : saidVerdict v
     ≡ checksThen (tableauJudgements n xs ms) (roomJudged (length xs) (length letters) ∷ roomJudged (length xs) (length marks) ∷ [])) where
-  pub tableau-refused : (r : Refusal) → v ≡ Refused r → (saidRefusal r, (letters, marks)) ≡ tableauRead letters marks n xs ms
-  tableau-refused r q = run-refused _ _ e _ _ (letters, marks) r q
+  pub tableau-refused : (r : Refusal) → v ≡ Refused r → (saidRefusal r, (letters, (marks, counts))) ≡ tableauRead letters marks counts n xs ms
+  tableau-refused r q = run-refused _ _ e _ _ (letters, (marks, counts)) r q
 
-  -- There are as many marks as letters.
-  pub tableau-passed : {xs′ ms′ : List ℕ} → v ≡ Passed → Copied xs ms letters marks xs′ ms′
-      → (gives (n ∷ length xs ∷ []), (xs′, ms′)) ≡ tableauRead letters marks n xs ms
-  tableau-passed {xs′} {ms′} q h =
-      let (checks, (first, (second, t))) = then-passing _ _ e q in
+  -- There are as many marks as letters, and the letters are an accepted word, whose table is made.
+  pub tableau-passed : {xs′ ms′ cs : List ℕ} → v ≡ Passed → Copied xs ms letters marks xs′ ms′ → Table (countGiven n xs) cs
+      → (gives (n ∷ length xs ∷ []), (xs′, (ms′, cs))) ≡ tableauRead letters marks counts n xs ms
+  tableau-passed {xs′} {ms′} {cs} q h t =
+      let (checks, (first, (second, u))) = then-passing _ _ e q in
       let alike : length ms ≡ length xs = alike-judged _ _ .0 (checks .1 .1 .0) .0 in
-      run-passed _ _ e _ _ (letters, marks) (xs′, ms′) q
-      (rw (copied-all xs letters xs′ (h .letters-are) (room-judged _ _ .0 first), copied-all ms marks ms′ (h .marks-are) (omega (arith, room-judged _ _ .0 second))))
+      let word : Accepted n xs = tableau-passing n xs ms .0 checks .word in
+      run-passed _ _ e _ _ (letters, (marks, counts)) (xs′, (ms′, cs)) q
+      (rw (copied-all xs letters xs′ (h .letters-are) (room-judged _ _ .0 first), copied-all ms marks ms′ (h .marks-are) (omega (arith, room-judged _ _ .0 second)), counts-given word t))
 
 pub ruleset storing-tableaux = (tableau-refused, tableau-passed, needs)
 

@@ -1,4 +1,4 @@
-// The reader of T lines: the tableau of a line into lent letters and marks.
+// The reader of T lines: the tableau of a line into lent letters and marks, and its letter counts.
 use crate::letters::narrow_letters;
 use crate::room::no_letters;
 use crate::room::no_marks;
@@ -12,6 +12,7 @@ use refusals::refusal::Refusal;
 use scans::line::Line;
 use scans::line::scan_line;
 use validity::tableau::check_tableau;
+use words::tables::letter_counts;
 ghost use mathlib.Core.List.{[], _∷_};
 ghost use mathlib.Core.Path.{_≡_};
 ghost use lib.ListN.{length};
@@ -52,17 +53,18 @@ fn copy_cells(cells: &[u8], steps: &[u8], letters: &mut [u8], marks: &mut [u8])
     copy_bytes(steps, marks);
 }
 
-// A tableau that was read, into lent letters and marks.
+// A tableau that was read, into lent letters, marks and letter counts.
 fn store_tableau(
     rank: usize,
     cells: &[u8],
     steps: &[u8],
     letters: &mut [u8],
     marks: &mut [u8],
+    counts: &mut [u16; 64],
 ) -> TableauLine
     ensures { λ r. ⌜
-        (saidTableauLine r, (now (letters .exit), now (marks .exit)))
-        ≡ tableauRead (now (letters .entry)) (now (marks .entry)) rank (now (cells .entry)) (now (steps .entry))
+        (saidTableauLine r, (now (letters .exit), (now (marks .exit), now (counts .exit))))
+        ≡ tableauRead (now (letters .entry)) (now (marks .entry)) (now (counts .entry)) rank (now (cells .entry)) (now (steps .entry))
         ⌝ }
 {
     if let Verdict::Refused(refusal) = check_tableau_read(
@@ -75,14 +77,20 @@ fn store_tableau(
         return TableauLine::Refused(refusal);
     }
     copy_cells(cells, steps, letters, marks);
+    *counts = letter_counts(rank, cells);
     TableauLine::Tableau(rank, cells.len())
 }
 
-// The tableau of a T line into lent letters and marks, or the refusal of 14, 1 to 6 or 13, which leaves them as they were.
-pub fn read_tableau_line(text: &[u8], letters: &mut [u8], marks: &mut [u8]) -> TableauLine
+// The tableau of a T line into lent letters, marks and letter counts, or the refusal of 14, 1 to 6 or 13, which leaves them as they were.
+pub fn read_tableau_line(
+    text: &[u8],
+    letters: &mut [u8],
+    marks: &mut [u8],
+    counts: &mut [u16; 64],
+) -> TableauLine
     ensures { λ r. ⌜
-        (saidTableauLine r, (now (letters .exit), now (marks .exit)))
-        ≡ readTRun (now (text .entry)) (now (letters .entry)) (now (marks .entry))
+        (saidTableauLine r, (now (letters .exit), (now (marks .exit), now (counts .exit))))
+        ≡ readTRun (now (text .entry)) (now (letters .entry)) (now (marks .entry)) (now (counts .entry))
         ⌝ }
 {
     let mut values = no_letters();
@@ -95,7 +103,14 @@ pub fn read_tableau_line(text: &[u8], letters: &mut [u8], marks: &mut [u8]) -> T
                 return TableauLine::Refused(refusal);
             }
             let bytes = narrow_letters(&values[0..count]);
-            store_tableau(rank, &bytes[0..count], &steps[0..count], letters, marks)
+            store_tableau(
+                rank,
+                &bytes[0..count],
+                &steps[0..count],
+                letters,
+                marks,
+                counts,
+            )
         }
     }
 }
