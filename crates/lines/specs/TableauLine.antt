@@ -13,6 +13,7 @@ use lib.ListN.{length, take, getD}
 use borrow.Author.Needs.{needs}
 use Rattle.hypoplactic.specs.Words.{Accepted}
 use Rattle.hypoplactic.specs.Insertion.{lettersOf, marksOf}
+use Rattle.hypoplactic.specs.Counts.{countsOf}
 use Rattle.hypoplactic.specs.Replies.{Said, gives, written}
 use Rattle.hypoplactic.specs.Judgements.{roomJudged, tableauJudgements, tableauRooms, wordJudgements}
 use Rattle.hypoplactic.specs.TableauOperations.{tableauRun, tableauSays}
@@ -45,10 +46,10 @@ module _ (n : ℕ) (w ls ks : List ℕ) (long : 1024 ≤ length ls) (long′ : 1
   judged : Outcome n w (tableauRooms (length w) (length ls) (length ks)) (length w ∷ [])
   judged = outcome n w (tableauRooms (length w) (length ls) (length ks)) (length w ∷ []) enough
 
-  module _ (xs ms : List ℕ) (made : Written) (e : (saidWritten made, (xs, ms)) ≡ tableauRun n w ls ks) where
+  module _ (js xs ms cs : List ℕ) (made : Written) (e : (saidWritten made, (xs, (ms, cs))) ≡ tableauRun n w ls ks js) where
     said : saidWritten made ≡ tableauSays n w (length ls) (length ks)
     unfolding tableauRun
-    said = ap (λ (o : Said × (List ℕ × List ℕ)). o .0) e
+    said = ap (λ (o : Said × (List ℕ × (List ℕ × List ℕ))). o .0) e
 
     -- The answer tells cells.
     pub tableau-made : (m : ℕ) → made ≡ Elements m → Made n w xs ms m
@@ -58,11 +59,11 @@ module _ (n : ℕ) (w ls ks : List ℕ) (long : 1024 ≤ length ls) (long′ : 1
         go : Outcome n w (tableauRooms (length w) (length ls) (length ks)) (length w ∷ []) → Made n w xs ms m
         go (stopped j p h) = absurd (not-both (sym (ap saidWritten q) ∙ said ∙ h (tableauRooms (length w) (length ls) (length ks)) (gives (length w ∷ []))))
         go (accepted a h) =
-            let all : _≡_ {A = Said × (List ℕ × List ℕ)} (saidWritten made, (xs, ms)) (gives (length w ∷ []), (written (lettersOf w) ls, written (marksOf w) ks)) = e ∙ rw h refl in
+            let all : _≡_ {A = Said × (List ℕ × (List ℕ × List ℕ))} (saidWritten made, (xs, (ms, cs))) (gives (length w ∷ []), (written (lettersOf w) ls, (written (marksOf w) ks, countsOf w))) = e ∙ rw h refl in
             let size : m ≡ length w =
-            ap (λ (vs : List ℕ). getD vs 0 0) (same-values (sym (ap saidWritten q) ∙ ap (λ (o : Said × (List ℕ × List ℕ)). o .0) all)) in
-            let is-letters : xs ≡ written (lettersOf w) ls = ap (λ (o : Said × (List ℕ × List ℕ)). o .1 .0) all in
-            let is-marks : ms ≡ written (marksOf w) ks = ap (λ (o : Said × (List ℕ × List ℕ)). o .1 .1) all in
+            ap (λ (vs : List ℕ). getD vs 0 0) (same-values (sym (ap saidWritten q) ∙ ap (λ (o : Said × (List ℕ × (List ℕ × List ℕ))). o .0) all)) in
+            let is-letters : xs ≡ written (lettersOf w) ls = ap (λ (o : Said × (List ℕ × (List ℕ × List ℕ))). o .1 .0) all in
+            let is-marks : ms ≡ written (marksOf w) ks = ap (λ (o : Said × (List ℕ × (List ℕ × List ℕ))). o .1 .1 .0) all in
             let short : length w ≤ 1024 = a .short in
             let cells : m ≡ length (lettersOf w) = size ∙ sym (length-letters w) in
             let steps : m ≡ length (marksOf w) = size ∙ sym (length-marks w) in
@@ -99,10 +100,10 @@ pub record Reached (cells letters marks : ℕ) : Type 0 where
   pub of-letters : cells ≤ letters
   pub of-marks : cells ≤ marks
 
-pub cells-reach : (n : ℕ) (w ls ks xs ms : List ℕ) (made : Written) (m : ℕ) → (saidWritten made, (xs, ms)) ≡ tableauRun n w ls ks → made ≡ Elements m
+pub cells-reach : (n : ℕ) (w ls ks js xs ms cs : List ℕ) (made : Written) (m : ℕ) → (saidWritten made, (xs, (ms, cs))) ≡ tableauRun n w ls ks js → made ≡ Elements m
     → 1024 ≤ length ls → 1024 ≤ length ks → Reached m (length xs) (length ms)
-cells-reach n w ls ks xs ms made m e q long long′ =
-    let h : Made n w xs ms m = tableau-made n w ls ks long long′ xs ms made e m q in record { of-letters = h .letters-reach; of-marks = h .marks-reach }
+cells-reach n w ls ks js xs ms cs made m e q long long′ =
+    let h : Made n w xs ms m = tableau-made n w ls ks long long′ js xs ms cs made e m q in record { of-letters = h .letters-reach; of-marks = h .marks-reach }
 
 -- Cells taken from the first on.
 pub cut-line : (n m : ℕ) (xs ms out out′ : List ℕ) (r : Written) → (saidWritten r, out′) ≡ tLineRun n (take (m - 0) xs) (take (m - 0) ms) out

@@ -25,7 +25,8 @@ pub fn tableau_line_of_word(rank: usize, word: &[u8], out: &mut [u8]) -> Written
 {
     let mut letters = [0u8; 1024];
     let mut marks = [0u8; 1024];
-    let made = tableau_of_word(rank, word, &mut letters, &mut marks);
+    let mut counts = [0u16; 64];
+    let made = tableau_of_word(rank, word, &mut letters, &mut marks, &mut counts);
     let Written::Elements(cells) = made else {
         return made;
     };
