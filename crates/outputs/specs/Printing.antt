@@ -16,6 +16,7 @@ use borrow.Rule.Slice.PartMut.{midOf, putMid, mid-len}
 use Rattle.grammar.specs.Lines.{jLine, nLine, wLine}
 use Rattle.hypoplactic.specs.Words.{Accepted}
 use Rattle.hypoplactic.specs.Insertion.{lettersOf, marksOf, recordingOf}
+use Rattle.hypoplactic.specs.Counts.{countsOf}
 use Rattle.hypoplactic.specs.Junctions.{junctionSet, rowsOf}
 use Rattle.hypoplactic.specs.Reading.{columnReading}
 use Rattle.hypoplactic.specs.Replies.{Said, gives, written}
@@ -23,6 +24,7 @@ use Rattle.hypoplactic.specs.TableauOperations.{readingRun, recordingRun, table
 use Rattle.hypoplactic.specs.LineOperations.{jLineRun, nLineRun, tableauLine, tableauLineRun, wLineRun}
 use Rattle.hypoplactic.proofs.Theory.Closure.{reading-accepted, word-tableau-at}
 use Rattle.hypoplactic.proofs.Theory.Correspondence.{pair-valid}
+use Rattle.hypoplactic.proofs.Theory.Counts.{letters-true}
 use Rattle.hypoplactic.proofs.Theory.LineResults.{j-line-result, n-line-result, tableau-line-result, w-line-result}
 use Rattle.hypoplactic.proofs.Theory.Memory.{written-length, written-needed}
 use Rattle.hypoplactic.proofs.Theory.Once.{once-entries}
@@ -110,21 +112,25 @@ module _ (n : ℕ) (w old now entries zeros : List ℕ) (a : Written) (r : Ready
 abbrev pub readingOf : List ℕ → List ℕ
 readingOf w = columnReading (lettersOf w) (marksOf w)
 
--- It is taken from the first m cells, which are the tableau.
-module _ (n : ℕ) (w ls ks xs ms old now : List ℕ) (made a : Written) (r : Roomy n w (length old)) (f : (saidWritten made, (xs, ms)) ≡ tableauRun n w ls ks)
-    (long : 1024 ≤ length ls) (long′ : 1024 ≤ length ks) where
-  pub reading-kept : (m : ℕ) → made ≡ Elements m → (saidWritten a, now) ≡ readingRun n (take m xs) (take m ms) old → now ≡ written (readingOf w) old
+-- It is taken from the first m cells, which are the tableau, with the counts of the word, which are those of the tableau's letters.
+module _ (n : ℕ) (w ls ks js xs ms cs old now : List ℕ) (made a : Written) (r : Roomy n w (length old))
+    (f : (saidWritten made, (xs, (ms, cs))) ≡ tableauRun n w ls ks js) (long : 1024 ≤ length ls) (long′ : 1024 ≤ length ks) where
+  all-made : _≡_ {A = Said × (List ℕ × (List ℕ × List ℕ))} (saidWritten made, (xs, (ms, cs)))
+      (gives (length w ∷ []), (written (lettersOf w) ls, (written (marksOf w) ks, countsOf w)))
+  all-made = let short : length w ≤ 1024 = r .accepted .short in f ∙ tableau-result n w (r .accepted) ls ks js (omega arith) (omega arith)
+
+  pub reading-kept : (m : ℕ) → made ≡ Elements m → (saidWritten a, now) ≡ readingRun n (take m xs) (take m ms) cs old → now ≡ written (readingOf w) old
   reading-kept m q e =
-      let h : Made n w xs ms m = tableau-made n w ls ks long long′ xs ms made f m q in
+      let h : Made n w xs ms m = tableau-made n w ls ks long long′ js xs ms cs made f m q in
+      let is-counts : cs ≡ countsOf w = ap (λ (o : List ℕ × (List ℕ × List ℕ)). o .1 .1) (wrote-memory made all-made) in
       let room : length w ≤ length old = r .room in
       let all : _≡_ {A = Said × List ℕ} (saidWritten a, now) (gives (length (lettersOf w) ∷ []), written (readingOf w) old) =
-      e ∙ rw (h .letters, h .marks) (reading-result n (lettersOf w) (marksOf w) (word-tableau-at (h .word)) old (omega (arith, length-letters w))) in
+      e ∙ rw (h .letters, h .marks, is-counts)
+      (reading-result n (lettersOf w) (marksOf w) (countsOf w) (word-tableau-at (h .word)) (letters-true w) old (omega (arith, length-letters w))) in
       wrote-memory a all
 
   pub reading-never : (q : Refusal) → made ≡ Refused q → now ≡ written (readingOf w) old
-  reading-never q h =
-      let short : length w ≤ 1024 = r .accepted .short in
-      absurd (wrote-refused made (f ∙ tableau-result n w (r .accepted) ls ks (omega arith) (omega arith)) q h)
+  reading-never q h = absurd (wrote-refused made all-made q h)
 
 length-reading : (w : List ℕ) → length (readingOf w) ≡ length w
 length-reading w =
@@ -146,9 +152,9 @@ module _ (n : ℕ) (w old now reading zeros : List ℕ) (a : Written) (r : Ready
   reading-line-never = printed-never (wLine n (readingOf w)) old now a (r .room) reading-line
 
 -- Cells taken from the first on.
-pub cut-reading : (n m : ℕ) (xs ms out out′ : List ℕ) (r : Written) → (saidWritten r, out′) ≡ readingRun n (take (m - 0) xs) (take (m - 0) ms) out
-    → (saidWritten r, out′) ≡ readingRun n (take m xs) (take m ms) out
-cut-reading n m xs ms out out′ r e = let z : m - 0 ≡ m = omega arith in rw z at e
+pub cut-reading : (n m : ℕ) (xs ms cs out out′ : List ℕ) (r : Written) → (saidWritten r, out′) ≡ readingRun n (take (m - 0) xs) (take (m - 0) ms) cs out
+    → (saidWritten r, out′) ≡ readingRun n (take m xs) (take m ms) cs out
+cut-reading n m xs ms cs out out′ r e = let z : m - 0 ≡ m = omega arith in rw z at e
 
 -- ---- one line after another
 

@@ -28,21 +28,22 @@ fn keep_recording(rank: usize, word: &[u8], entries: &mut [u16])
     recording_of_word(rank, word, entries);
 }
 
-// The column reading of the first cells of a tableau.
+// The column reading of the first cells of a tableau, with its letter counts.
 fn read_cells(
     rank: usize,
     cells: usize,
     letters: &[u8],
     marks: &[u8],
+    counts: &[u16; 64],
     reading: &mut [u8],
 ) -> Written
     requires { ⌜ Reached cells (length (now letters)) (length (now marks)) ⌝ }
     ensures { λ r. ⌜
         (saidWritten r, now (reading .exit))
-        ≡ readingRun rank (take cells (now (letters .entry))) (take cells (now (marks .entry))) (now (reading .entry))
+        ≡ readingRun rank (take cells (now (letters .entry))) (take cells (now (marks .entry))) (now (counts .entry)) (now (reading .entry))
         ⌝ }
 {
-    column_reading(rank, &letters[0..cells], &marks[0..cells], reading)
+    column_reading(rank, &letters[0..cells], &marks[0..cells], counts, reading)
 }
 
 // The column reading of the tableau of an accepted word, into letters that have room for it.
@@ -52,11 +53,12 @@ fn keep_reading(rank: usize, word: &[u8], reading: &mut [u8])
 {
     let mut letters = [0u8; 1024];
     let mut marks = [0u8; 1024];
-    let made = tableau_of_word(rank, word, &mut letters, &mut marks);
+    let mut counts = [0u16; 64];
+    let made = tableau_of_word(rank, word, &mut letters, &mut marks, &mut counts);
     let Written::Elements(cells) = made else {
         return;
     };
-    read_cells(rank, cells, &letters, &marks, reading);
+    read_cells(rank, cells, &letters, &marks, &counts, reading);
 }
 
 // The T line; how many bytes it has.
