@@ -1,2 +1,3 @@
 pub mod Pinned
+pub mod Counted
 pub mod Shared

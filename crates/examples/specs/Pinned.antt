@@ -2,9 +2,9 @@
 -- and value that it replies, and each limit on both sides. So none of them can be changed in definitions and code together.
 --     onWords, onTwo, onTableaux, onPairs              what an operation says of inputs that each break one check and the one after it
 --     wordOrder, twoOrder, tableauOrder, pairOrder     what it must say: the first of the two
---     inserted                                         a reply beside three lent lists
+--     inserted                                         a reply beside three lent lists and letter counts
 --     orderCases, valueCases, lineCases                the cases
--- That the two sides of every case are equal is proved in proofs/Theory/Pinned.antt. Assumes nothing.
+-- Letter counts have cases of their own, in Counted. That the two sides of every case are equal is proved in proofs/Theory/Pinned.antt. Assumes nothing.
 use Prim.Native.Nat.{ℕ}
 use mathlib.Core.Bool.{true}
 use mathlib.Core.List.{List, [], _∷_, _++_}
@@ -15,12 +15,13 @@ use Rattle.hypoplactic.specs.Insertion.{Pair}
 use Rattle.hypoplactic.specs.Moves.{below}
 use Rattle.hypoplactic.specs.Junctions.{junctionSet}
 use Rattle.hypoplactic.specs.Replies.{Said, first, passed, refused}
+use Rattle.hypoplactic.specs.Counts.{countsOf}
 use Rattle.hypoplactic.specs.Judgements.{fullJudged, recordingJudged, roomJudged}
 use Rattle.hypoplactic.specs.WordOperations.{junctionSays, moveJudgements, moveWordRun, moveWordSays, repeatWordSays, sameClassSays, weightsSays}
 use Rattle.hypoplactic.specs.TableauOperations.{cellAt, insertRun, insertSays, lookSays, moveTableauSays, readingRun, readingSays, recordingSays, repeatTableauSays, tableauRun, tableauSays, throughSays, viewerSays, wordRun, wordSays}
 use Rattle.hypoplactic.specs.LineOperations.{eLineRun, jLineRun, nLineRun, program, roomRun, tLineRun, tableauLineRun, wLineRun}
 use Rattle.hypoplactic.specs.LineReadings.{answerRun, output, readNRun, readTRun, readWRun, recordingRead, tableauRead, wordRead}
-use Rattle.hypoplactic.specs.Starred.{Case, case, lower, numbers, outcome, outcomes, pair, raise, text, w4323, w433}
+use Rattle.hypoplactic.specs.Starred.{Case, case, counts, lower, numbers, outcome, pair, raise, tableauOutcome, text, w4323, w433}
 
 -- ---- inputs that break two checks
 
@@ -75,13 +76,13 @@ onPairs says =
 abbrev pub pairOrder : List ℕ
 pairOrder = 1 ∷ 0 ∷ 2 ∷ 0 ∷ 3 ∷ 0 ∷ 3 ∷ 0 ∷ 3 ∷ 0 ∷ 4 ∷ 2 ∷ 5 ∷ 1 ∷ 6 ∷ 1 ∷ 7 ∷ 2 ∷ 8 ∷ 1 ∷ []
 
--- A reply and three lent lists after it.
-abbrev pub inserted : Said × Pair → List ℕ
-inserted r = numbers (r .0) ++ (r .1 .letters ++ (r .1 .marks ++ r .1 .recording))
+-- A reply, and three lent lists and the letter counts after it.
+abbrev pub inserted : Said × (Pair × List ℕ) → List ℕ
+inserted r = numbers (r .0) ++ (r .1 .0 .letters ++ (r .1 .0 .marks ++ (r .1 .0 .recording ++ r .1 .1)))
 
 -- ---- the order of checks
 
--- What comes after the inputs' own checks is broken too: an index 0, or no room.
+-- What comes after the inputs' own checks is broken too: an index 0, or no room. A tableau's counts are all 0, so that 6 stands before 17; a pair's are true.
 unfoldable pub orderCases : List Case
 orderCases =
     -- of a word
@@ -103,14 +104,14 @@ orderCases =
     -- of a tableau
     ∷ case (onTableaux viewerSays) tableauOrder
     ∷ case (onTableaux (λ n xs ms. lookSays n xs ms 9)) tableauOrder
-    ∷ case (onTableaux (λ n xs ms. readingSays n xs ms 0)) tableauOrder
-    ∷ case (onTableaux (λ n xs ms. moveTableauSays n (raise 0) xs ms)) tableauOrder
-    ∷ case (onTableaux (λ n xs ms. repeatTableauSays n (raise 0) xs ms)) tableauOrder
+    ∷ case (onTableaux (λ n xs ms. readingSays n xs ms [] 0)) tableauOrder
+    ∷ case (onTableaux (λ n xs ms. moveTableauSays n (raise 0) xs ms [])) tableauOrder
+    ∷ case (onTableaux (λ n xs ms. repeatTableauSays n (raise 0) xs ms [])) tableauOrder
     ∷ case (onTableaux (λ n xs ms. (tLineRun n xs ms []) .0)) tableauOrder
-    ∷ case (onTableaux (λ n xs ms. (tableauRead [] [] n xs ms) .0)) tableauOrder
+    ∷ case (onTableaux (λ n xs ms. (tableauRead [] [] [] n xs ms) .0)) tableauOrder
     -- of a pair
-    ∷ case (onPairs (λ n xs ms rs. wordSays n xs ms rs 0)) pairOrder
-    ∷ case (onPairs (λ n xs ms rs. insertSays n (length xs) 1 (pair xs ms rs))) pairOrder
+    ∷ case (onPairs (λ n xs ms rs. wordSays n xs ms rs (countsOf xs) 0)) pairOrder
+    ∷ case (onPairs (λ n xs ms rs. insertSays n (length xs) 1 (pair xs ms rs) (countsOf xs))) pairOrder
     -- of a recording ribbon alone: 2 before 7 before 13
     ∷ case (numbers ((nLineRun (replicate 1025 0) []) .0) ++ numbers ((nLineRun (0 ∷ []) []) .0)) (2 ∷ 0 ∷ 7 ∷ 0 ∷ [])
     ∷ case (numbers ((recordingRead [] (replicate 1025 0)) .0) ++ numbers ((recordingRead [] (0 ∷ [])) .0)) (2 ∷ 0 ∷ 7 ∷ 0 ∷ [])
@@ -133,9 +134,9 @@ valueCases =
     ∷ case (numbers (weightsSays 3 (1 ∷ 3 ∷ []) 3 (2 ∷ 2 ∷ []))) (0 ∷ 3 ∷ [])
     -- repeat counts: 9 for a word too; of a tableau on both sides, 0 under an inversion
     ∷ case (numbers (repeatWordSays 3 (raise 3) (1 ∷ []))) (9 ∷ 0 ∷ [])
-    ∷ case (numbers (repeatTableauSays 3 (raise 1) (1 ∷ 2 ∷ 2 ∷ []) (0 ∷ 0 ∷ 0 ∷ []))) (0 ∷ 2 ∷ [])
-    ∷ case (numbers (repeatTableauSays 3 (lower 1) (1 ∷ 2 ∷ 2 ∷ []) (0 ∷ 0 ∷ 0 ∷ []))) (0 ∷ 1 ∷ [])
-    ∷ case (numbers (repeatTableauSays 3 (raise 1) (1 ∷ 2 ∷ 2 ∷ []) (0 ∷ 1 ∷ 0 ∷ []))) (0 ∷ 0 ∷ [])
+    ∷ case (numbers (repeatTableauSays 3 (raise 1) (1 ∷ 2 ∷ 2 ∷ []) (0 ∷ 0 ∷ 0 ∷ []) (counts (1 ∷ 2 ∷ [])))) (0 ∷ 2 ∷ [])
+    ∷ case (numbers (repeatTableauSays 3 (lower 1) (1 ∷ 2 ∷ 2 ∷ []) (0 ∷ 0 ∷ 0 ∷ []) (counts (1 ∷ 2 ∷ [])))) (0 ∷ 1 ∷ [])
+    ∷ case (numbers (repeatTableauSays 3 (raise 1) (1 ∷ 2 ∷ 2 ∷ []) (0 ∷ 1 ∷ 0 ∷ []) (counts (1 ∷ 2 ∷ [])))) (0 ∷ 0 ∷ [])
     -- a move takes i itself, no smaller letter
     ∷ case (outcome (moveWordRun 3 (lower 2) (2 ∷ 1 ∷ []))) (0 ∷ 0 ∷ 3 ∷ 1 ∷ [])
     -- i+1 directly below i, in any two lists: no other letters, no step without a mark, none in an empty tableau
@@ -155,34 +156,35 @@ valueCases =
     (numbers (junctionSays 9 (5 ∷ 7 ∷ 8 ∷ 0 ∷ []))
     ++ numbers (viewerSays 9 (2 ∷ 5 ∷ 7 ∷ 6 ∷ []) (0 ∷ 0 ∷ 0 ∷ 0 ∷ []))
     ++ numbers (viewerSays 9 (2 ∷ 5 ∷ 7 ∷ 7 ∷ []) (0 ∷ 1 ∷ 0 ∷ 1 ∷ []))
-    ++ numbers (wordSays 9 (2 ∷ 5 ∷ 7 ∷ 8 ∷ []) (0 ∷ 0 ∷ 0 ∷ 0 ∷ []) (1 ∷ 2 ∷ 4 ∷ 9 ∷ []) 4)
-    ++ numbers (wordSays 9 (2 ∷ 5 ∷ 7 ∷ 8 ∷ []) (0 ∷ 0 ∷ 0 ∷ 0 ∷ []) (2 ∷ 3 ∷ 4 ∷ 1 ∷ []) 4))
+    ++ numbers (wordSays 9 (2 ∷ 5 ∷ 7 ∷ 8 ∷ []) (0 ∷ 0 ∷ 0 ∷ 0 ∷ []) (1 ∷ 2 ∷ 4 ∷ 9 ∷ []) (counts (0 ∷ 1 ∷ 0 ∷ 0 ∷ 1 ∷ 0 ∷ 1 ∷ 1 ∷ [])) 4)
+    ++ numbers (wordSays 9 (2 ∷ 5 ∷ 7 ∷ 8 ∷ []) (0 ∷ 0 ∷ 0 ∷ 0 ∷ []) (2 ∷ 3 ∷ 4 ∷ 1 ∷ []) (counts (0 ∷ 1 ∷ 0 ∷ 0 ∷ 1 ∷ 0 ∷ 1 ∷ 1 ∷ [])) 4))
     (4 ∷ 3 ∷ 5 ∷ 3 ∷ 6 ∷ 3 ∷ 7 ∷ 3 ∷ 8 ∷ 3 ∷ [])
     -- 8: entries that neither rise nor fall break no step
     ∷ case (numbers (recordingJudged (1 ∷ 1 ∷ 1 ∷ []) (0 ∷ 0 ∷ 1 ∷ []))) (0 ∷ [])
     -- 12: one cell is left of 1,024
     ∷ case (numbers (fullJudged 1023)) (0 ∷ [])
     -- 13: each output in turn, with the elements that are needed; as many as needed are enough
-    ∷ case (outcomes (tableauRun 4 w433 (9 ∷ 9 ∷ []) (8 ∷ 8 ∷ 8 ∷ 8 ∷ []))) (13 ∷ 3 ∷ 9 ∷ 9 ∷ 8 ∷ 8 ∷ 8 ∷ 8 ∷ [])
-    ∷ case (outcomes (tableauRun 4 w433 (9 ∷ 9 ∷ 9 ∷ 9 ∷ []) (8 ∷ 8 ∷ []))) (13 ∷ 3 ∷ 9 ∷ 9 ∷ 9 ∷ 9 ∷ 8 ∷ 8 ∷ [])
-    ∷ case (numbers (insertSays 4 1 3 (pair (1 ∷ 0 ∷ []) (0 ∷ []) (1 ∷ 0 ∷ [])))) (13 ∷ 2 ∷ [])
-    ∷ case (numbers (insertSays 4 1 3 (pair (1 ∷ 0 ∷ []) (0 ∷ 0 ∷ []) (1 ∷ [])))) (13 ∷ 2 ∷ [])
-    ∷ case (outcome (wordRun 4 (1 ∷ 2 ∷ []) (0 ∷ 1 ∷ []) (2 ∷ 1 ∷ []) (9 ∷ []))) (13 ∷ 2 ∷ 9 ∷ [])
-    ∷ case (outcome (readingRun 4 (1 ∷ 2 ∷ []) (0 ∷ 1 ∷ []) (9 ∷ []))) (13 ∷ 2 ∷ 9 ∷ [])
+    ∷ case (tableauOutcome (tableauRun 4 w433 (9 ∷ 9 ∷ []) (8 ∷ 8 ∷ 8 ∷ 8 ∷ []) (6 ∷ 7 ∷ []))) (13 ∷ 3 ∷ 9 ∷ 9 ∷ 8 ∷ 8 ∷ 8 ∷ 8 ∷ 6 ∷ 7 ∷ [])
+    ∷ case (tableauOutcome (tableauRun 4 w433 (9 ∷ 9 ∷ 9 ∷ 9 ∷ []) (8 ∷ 8 ∷ []) (6 ∷ 7 ∷ []))) (13 ∷ 3 ∷ 9 ∷ 9 ∷ 9 ∷ 9 ∷ 8 ∷ 8 ∷ 6 ∷ 7 ∷ [])
+    ∷ case (numbers (insertSays 4 1 3 (pair (1 ∷ 0 ∷ []) (0 ∷ []) (1 ∷ 0 ∷ [])) (counts (1 ∷ [])))) (13 ∷ 2 ∷ [])
+    ∷ case (numbers (insertSays 4 1 3 (pair (1 ∷ 0 ∷ []) (0 ∷ 0 ∷ []) (1 ∷ [])) (counts (1 ∷ [])))) (13 ∷ 2 ∷ [])
+    ∷ case (outcome (wordRun 4 (1 ∷ 2 ∷ []) (0 ∷ 1 ∷ []) (2 ∷ 1 ∷ []) (counts (1 ∷ 1 ∷ [])) (9 ∷ []))) (13 ∷ 2 ∷ 9 ∷ [])
+    ∷ case (outcome (readingRun 4 (1 ∷ 2 ∷ []) (0 ∷ 1 ∷ []) (counts (1 ∷ 1 ∷ [])) (9 ∷ []))) (13 ∷ 2 ∷ 9 ∷ [])
     ∷ case (numbers (roomJudged 2 2)) (0 ∷ [])
     -- results: the elements written, and lent lists longer than needed
-    ∷ case (outcomes (tableauRun 4 w433 (9 ∷ 9 ∷ 9 ∷ 9 ∷ []) (8 ∷ 8 ∷ 8 ∷ 8 ∷ []))) (0 ∷ 3 ∷ 3 ∷ 3 ∷ 4 ∷ 9 ∷ 0 ∷ 0 ∷ 1 ∷ 8 ∷ [])
-    ∷ case (outcome (wordRun 4 (1 ∷ 2 ∷ []) (0 ∷ 1 ∷ []) (2 ∷ 1 ∷ []) (9 ∷ 9 ∷ 9 ∷ []))) (0 ∷ 2 ∷ 2 ∷ 1 ∷ 9 ∷ [])
-    ∷ case (outcome (readingRun 4 (1 ∷ 2 ∷ 3 ∷ []) (0 ∷ 1 ∷ 0 ∷ []) (9 ∷ 9 ∷ 9 ∷ 9 ∷ []))) (0 ∷ 3 ∷ 2 ∷ 1 ∷ 3 ∷ 9 ∷ [])
-    -- insertion gives the new used count; a refusal leaves all three lists
-    ∷ case (inserted (insertRun 4 2 3 (pair (2 ∷ 4 ∷ 9 ∷ 9 ∷ []) (0 ∷ 1 ∷ 8 ∷ 8 ∷ []) (2 ∷ 1 ∷ 7 ∷ 7 ∷ []))))
-    (0 ∷ 3 ∷ 2 ∷ 3 ∷ 4 ∷ 9 ∷ 0 ∷ 0 ∷ 1 ∷ 8 ∷ 2 ∷ 3 ∷ 1 ∷ 7 ∷ [])
-    ∷ case (inserted (insertRun 4 1 5 (pair (1 ∷ 9 ∷ []) (0 ∷ 8 ∷ []) (1 ∷ 7 ∷ [])))) (4 ∷ 1 ∷ 1 ∷ 9 ∷ 0 ∷ 8 ∷ 1 ∷ 7 ∷ [])
+    ∷ case (tableauOutcome (tableauRun 4 w433 (9 ∷ 9 ∷ 9 ∷ 9 ∷ []) (8 ∷ 8 ∷ 8 ∷ 8 ∷ []) (6 ∷ 7 ∷ [])))
+    (0 ∷ 3 ∷ 3 ∷ 3 ∷ 4 ∷ 9 ∷ 0 ∷ 0 ∷ 1 ∷ 8 ∷ counts (0 ∷ 0 ∷ 2 ∷ 1 ∷ []))
+    ∷ case (outcome (wordRun 4 (1 ∷ 2 ∷ []) (0 ∷ 1 ∷ []) (2 ∷ 1 ∷ []) (counts (1 ∷ 1 ∷ [])) (9 ∷ 9 ∷ 9 ∷ []))) (0 ∷ 2 ∷ 2 ∷ 1 ∷ 9 ∷ [])
+    ∷ case (outcome (readingRun 4 (1 ∷ 2 ∷ 3 ∷ []) (0 ∷ 1 ∷ 0 ∷ []) (counts (1 ∷ 1 ∷ 1 ∷ [])) (9 ∷ 9 ∷ 9 ∷ 9 ∷ []))) (0 ∷ 3 ∷ 2 ∷ 1 ∷ 3 ∷ 9 ∷ [])
+    -- insertion gives the new used count; a refusal leaves all three lists and the counts
+    ∷ case (inserted (insertRun 4 2 3 (pair (2 ∷ 4 ∷ 9 ∷ 9 ∷ []) (0 ∷ 1 ∷ 8 ∷ 8 ∷ []) (2 ∷ 1 ∷ 7 ∷ 7 ∷ [])) (counts (0 ∷ 1 ∷ 0 ∷ 1 ∷ []))))
+    (0 ∷ 3 ∷ 2 ∷ 3 ∷ 4 ∷ 9 ∷ 0 ∷ 0 ∷ 1 ∷ 8 ∷ 2 ∷ 3 ∷ 1 ∷ 7 ∷ counts (0 ∷ 1 ∷ 1 ∷ 1 ∷ []))
+    ∷ case (inserted (insertRun 4 1 5 (pair (1 ∷ 9 ∷ []) (0 ∷ 8 ∷ []) (1 ∷ 7 ∷ [])) (1 ∷ 6 ∷ []))) (4 ∷ 1 ∷ 1 ∷ 9 ∷ 0 ∷ 8 ∷ 1 ∷ 7 ∷ 1 ∷ 6 ∷ [])
     -- 3 by the letters; 6 by every used mark; lists longer than 1,024 and cells that are not used are not judged; 7 takes the used count
-    ∷ case (numbers (insertSays 4 2 1 (pair (1 ∷ []) (0 ∷ 0 ∷ []) (1 ∷ 2 ∷ [])))) (3 ∷ 0 ∷ [])
-    ∷ case (numbers (insertSays 1 2 1 (pair (1 ∷ 1 ∷ 0 ∷ []) (0 ∷ 1 ∷ 0 ∷ []) (1 ∷ 2 ∷ 0 ∷ [])))) (6 ∷ 1 ∷ [])
-    ∷ case (numbers (insertSays 4 0 1 (pair (replicate 1025 0) (replicate 1025 2) (replicate 1025 0)))) (0 ∷ 1 ∷ [])
-    ∷ case (numbers (insertSays 4 2 1 (pair (1 ∷ 2 ∷ 0 ∷ []) (0 ∷ 0 ∷ 0 ∷ []) (1 ∷ 3 ∷ 0 ∷ [])))) (7 ∷ 1 ∷ [])
+    ∷ case (numbers (insertSays 4 2 1 (pair (1 ∷ []) (0 ∷ 0 ∷ []) (1 ∷ 2 ∷ [])) [])) (3 ∷ 0 ∷ [])
+    ∷ case (numbers (insertSays 1 2 1 (pair (1 ∷ 1 ∷ 0 ∷ []) (0 ∷ 1 ∷ 0 ∷ []) (1 ∷ 2 ∷ 0 ∷ [])) [])) (6 ∷ 1 ∷ [])
+    ∷ case (numbers (insertSays 4 0 1 (pair (replicate 1025 0) (replicate 1025 2) (replicate 1025 0)) (counts []))) (0 ∷ 1 ∷ [])
+    ∷ case (numbers (insertSays 4 2 1 (pair (1 ∷ 2 ∷ 0 ∷ []) (0 ∷ 0 ∷ 0 ∷ []) (1 ∷ 3 ∷ 0 ∷ [])) (counts (1 ∷ 1 ∷ [])))) (7 ∷ 1 ∷ [])
     ∷ []
 
 -- ---- lines
@@ -196,7 +198,7 @@ lineCases =
     ∷ case (program 65 (replicate 1025 1) ++ program 4 (replicate 1025 5) ++ program 4 (2 ∷ 5 ∷ 0 ∷ [])) (text "E,1,0\nE,2,0\nE,4,1\n")
     -- 14 before 1 and 2; numbers of up to four digits; nothing after the line feed
     ∷ case (outcome (readWRun (text "W,0,1025,1\n") (9 ∷ []))) (14 ∷ 10 ∷ 9 ∷ [])
-    ∷ case (outcomes (readTRun (text "T,0,1025,1\n") (9 ∷ []) (8 ∷ []))) (14 ∷ 10 ∷ 9 ∷ 8 ∷ [])
+    ∷ case (tableauOutcome (readTRun (text "T,0,1025,1\n") (9 ∷ []) (8 ∷ []) (6 ∷ 7 ∷ []))) (14 ∷ 10 ∷ 9 ∷ 8 ∷ 6 ∷ 7 ∷ [])
     ∷ case (outcome (readNRun (text "N,1025,1\n") (9 ∷ []))) (14 ∷ 8 ∷ 9 ∷ [])
     ∷ case (numbers ((readWRun (text "W,9999,0\n") []) .0)) (1 ∷ 0 ∷ [])
     ∷ case (numbers ((readWRun (text "W,10000,0\n") []) .0)) (14 ∷ 6 ∷ [])
@@ -204,9 +206,10 @@ lineCases =
     -- readers give rank and length, or length; 13 for each output
     ∷ case (outcome (readWRun (text "W,64,2,13,1\n") (9 ∷ 9 ∷ 9 ∷ []))) (0 ∷ 64 ∷ 2 ∷ 13 ∷ 1 ∷ 9 ∷ [])
     ∷ case (outcome (readWRun (text "W,4,2,3,1\n") (9 ∷ []))) (13 ∷ 2 ∷ 9 ∷ [])
-    ∷ case (outcomes (readTRun (text "T,4,2,1,d,3\n") (9 ∷ 9 ∷ 9 ∷ []) (8 ∷ 8 ∷ 8 ∷ []))) (0 ∷ 4 ∷ 2 ∷ 1 ∷ 3 ∷ 9 ∷ 0 ∷ 1 ∷ 8 ∷ [])
-    ∷ case (outcomes (readTRun (text "T,4,2,1,d,3\n") (9 ∷ []) (8 ∷ 8 ∷ 8 ∷ []))) (13 ∷ 2 ∷ 9 ∷ 8 ∷ 8 ∷ 8 ∷ [])
-    ∷ case (outcomes (readTRun (text "T,4,2,1,d,3\n") (9 ∷ 9 ∷ 9 ∷ []) (8 ∷ []))) (13 ∷ 2 ∷ 9 ∷ 9 ∷ 9 ∷ 8 ∷ [])
+    ∷ case (tableauOutcome (readTRun (text "T,4,2,1,d,3\n") (9 ∷ 9 ∷ 9 ∷ []) (8 ∷ 8 ∷ 8 ∷ []) (6 ∷ 7 ∷ [])))
+    (0 ∷ 4 ∷ 2 ∷ 1 ∷ 3 ∷ 9 ∷ 0 ∷ 1 ∷ 8 ∷ counts (1 ∷ 0 ∷ 1 ∷ []))
+    ∷ case (tableauOutcome (readTRun (text "T,4,2,1,d,3\n") (9 ∷ []) (8 ∷ 8 ∷ 8 ∷ []) (6 ∷ 7 ∷ []))) (13 ∷ 2 ∷ 9 ∷ 8 ∷ 8 ∷ 8 ∷ 6 ∷ 7 ∷ [])
+    ∷ case (tableauOutcome (readTRun (text "T,4,2,1,d,3\n") (9 ∷ 9 ∷ 9 ∷ []) (8 ∷ []) (6 ∷ 7 ∷ []))) (13 ∷ 2 ∷ 9 ∷ 9 ∷ 9 ∷ 8 ∷ 6 ∷ 7 ∷ [])
     ∷ case (outcome (readNRun (text "N,2,2,1\n") (9 ∷ []))) (13 ∷ 2 ∷ 9 ∷ [])
     -- writers give the bytes written; 13 has the bytes needed
     ∷ case (outcome (wLineRun 4 (3 ∷ []) (replicate 9 7))) (0 ∷ 8 ∷ (text "W,4,1,3\n" ++ 7 ∷ []))

@@ -9,6 +9,7 @@ use mathlib.Core.Option.{none, some}
 use lib.ListN.{length, replicate}
 use Rattle.grammar.specs.Reading.{letters, marks}
 use Rattle.hypoplactic.specs.Words.{tick}
+use Rattle.hypoplactic.specs.Counts.{countsOf}
 use Rattle.hypoplactic.specs.Starred.{Case, case, lower, numbers, outcome, raise, text, w4323}
 use Rattle.buffers.specs.Copies.{copied}
 use Rattle.buffers.specs.Shifts.{pushed}
@@ -22,6 +23,7 @@ use Rattle.words.specs.Junctions.{bitAt}
 use Rattle.fillings.specs.Filled.{filled}
 use Rattle.operators.specs.Changes.{moveLettersRun, repeatLettersSays}
 use Rattle.admissions.specs.Checks.{insertChecks, pairWith}
+use Rattle.examples.specs.Counted.{countOrder, onCounts, rises, zeros}
 use Rattle.examples.specs.Pinned.{onPairs, pairOrder}
 
 -- A test as a number.
@@ -78,6 +80,8 @@ sharedCases =
     ∷ case (numbers (repeatLettersSays 4 (raise 0) false [])) (9 ∷ 0 ∷ [])
     ∷ case (numbers (repeatLettersSays 4 (lower 2) false (3 ∷ 2 ∷ 2 ∷ []))) (0 ∷ 2 ∷ [])
     ∷ case (numbers (repeatLettersSays 4 (lower 2) true (3 ∷ 2 ∷ 2 ∷ []))) (0 ∷ 0 ∷ [])
-    -- the checks of insertion, in their order
-    ∷ case (onPairs (λ n xs ms rs. insertChecks n (length xs) 1 (pairWith xs ms rs))) pairOrder
+    -- the checks of insertion, in their order, 17 where onCounts has it
+    ∷ case (onPairs (λ n xs ms rs. insertChecks n (length xs) 1 (pairWith xs ms rs) (countsOf xs))) pairOrder
+    ∷ case (onCounts (λ n xs ms cs. insertChecks n (length xs) 1 (pairWith xs ms (zeros xs)) cs)) countOrder
+    ∷ case (onCounts (λ n xs ms cs. insertChecks n (length xs) 1 (pairWith xs ms (rises xs)) cs)) countOrder
     ∷ []

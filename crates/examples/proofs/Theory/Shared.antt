@@ -15,6 +15,7 @@ use native.Mathlib.Omega.{arith}
 use lib.ListN.{length, getD}
 use Rattle.grammar.specs.Reading.{readField}
 use Rattle.hypoplactic.specs.Junctions.{number, junctionSet}
+use Rattle.hypoplactic.specs.Counts.{countsJudged, countsOf}
 use Rattle.hypoplactic.specs.Judgements.{entriesJudged, fullJudged, indexJudged, inversionJudged, lengthJudged, letterJudged, lettersJudged, marksJudged, rankJudged, recordingJudged, risingJudged, roomJudged, usedJudged}
 use Rattle.hypoplactic.specs.Places.{layers}
 use Rattle.hypoplactic.specs.Starred.{Case, lower, raise, text}
@@ -37,7 +38,7 @@ use Rattle.operators.specs.declared.changes.Side.the-variants.{Lowering, Raisin
 use Rattle.examples.specs.Shared.{sharedCases}
 
 pub shared-pinned : map (λ (c : Case). c .meaning) sharedCases ≡ map (λ (c : Case). c .document) sharedCases
-unfolding sharedCases pushed wholeCells readHead readCounted number junctionSet rankJudged lengthJudged usedJudged lettersJudged risingJudged marksJudged entriesJudged recordingJudged indexJudged inversionJudged letterJudged fullJudged roomJudged checksThen countGiven junctionGiven filled layers moveLettersRun repeatLettersSays
+unfolding sharedCases countsOf countsJudged pushed wholeCells readHead readCounted number junctionSet rankJudged lengthJudged usedJudged lettersJudged risingJudged marksJudged entriesJudged recordingJudged indexJudged inversionJudged letterJudged fullJudged roomJudged checksThen countGiven junctionGiven filled layers moveLettersRun repeatLettersSays
 shared-pinned = refl
 
 pub sides-named : (i : ℕ) → (moveBy Raising i ≡ raise i) × (moveBy Lowering i ≡ lower i)
