@@ -3,6 +3,7 @@
 -- Assumes nothing.
 use mathlib.Core.Path.{_≡_, refl}
 use mathlib.Core.List.{map}
+use Rattle.hypoplactic.specs.Counts.{countsJudged}
 use Rattle.hypoplactic.specs.Insertion.{insert, pairOf}
 use Rattle.hypoplactic.specs.Judgements.{alikeJudged, lengthJudged, lettersJudged, marksJudged, rankJudged, risingJudged, roomJudged}
 use Rattle.hypoplactic.specs.Starred.{Case}
@@ -11,5 +12,5 @@ use Rattle.numbering.specs.Operations.{classNumberSays, classSizeSays, c
 use Rattle.numbering.specs.Cases.{numberCases}
 
 pub numbers-pinned : map (λ (c : Case). c .meaning) numberCases ≡ map (λ (c : Case). c .document) numberCases
-unfolding numberCases words classWords pairOf insert rankJudged lengthJudged alikeJudged lettersJudged risingJudged marksJudged roomJudged smallJudged numberJudged classSizeSays classWordSays classWordRun classNumberSays
+unfolding numberCases words classWords pairOf insert rankJudged lengthJudged alikeJudged lettersJudged risingJudged marksJudged countsJudged roomJudged smallJudged numberJudged classSizeSays classWordSays classWordRun classNumberSays
 numbers-pinned = refl

@@ -1,6 +1,6 @@
 -- Sizes and numbers of classes over what the operations reply and leave in lent memory.
 --     small-judged, number-judged     15 and 16 pass exactly for at most 20, and for numbers below the size
---     class-passing           1 to 6 and 15 pass exactly for a tableau within the limits, of at most 20 cells
+--     class-passing           1 to 6, 17 and 15 pass exactly for a tableau within the limits with true letter counts, of at most 20 cells
 --     size-result, word-result, number-result      an input within the limits gets its result
 --     word-length             the word of a number has as many letters as the tableau cells
 --     Written, word-written   a word that was written keeps all limits, and is there
@@ -20,13 +20,15 @@ use Rattle.hypoplactic.specs.Words.{Accepted}
 use Rattle.hypoplactic.specs.Ribbons.{TableauAt}
 use Rattle.hypoplactic.specs.Insertion.{lettersOf, marksOf}
 use Rattle.hypoplactic.specs.Replies.{Passes, Said, gives, refused, written}
-use Rattle.hypoplactic.specs.Judgements.{roomJudged, tableauJudgements, wordJudgements}
+use Rattle.hypoplactic.specs.Counts.{TrueCounts, countsOf}
+use Rattle.hypoplactic.specs.Judgements.{countedJudgements, roomJudged, wordJudgements}
 use Rattle.hypoplactic.proofs.Theory.Closure.{word-tableau-at}
-use Rattle.hypoplactic.proofs.Theory.Judged.{tableau-passing, word-passing}
+use Rattle.hypoplactic.proofs.Theory.Counts.{letters-true}
+use Rattle.hypoplactic.proofs.Theory.Judged.{counted-passing, word-passing}
 use Rattle.hypoplactic.proofs.Theory.Judgements.{room-judged}
 use Rattle.hypoplactic.proofs.Theory.Memory.{written-needed}
 use Rattle.hypoplactic.proofs.Theory.Pairs.{length-letters}
-use Rattle.hypoplactic.proofs.Theory.Passing.{Passing, first-both, passes-test, passing-first, ran-answer}
+use Rattle.hypoplactic.proofs.Theory.Passing.{Passing, first-answer, first-both, passes-test, passing-append, passing-first, ran-answer}
 use Rattle.numbering.specs.Dictionary.{classNumber, classSize, classWord}
 use Rattle.numbering.specs.Operations.{classJudgements, classNumberSays, classSizeSays, classWordRun, classWordSays, numberJudged, smallJudged}
 use Rattle.numbering.proofs.Theory.ClassNumbers.{class-members, class-within, number-of-word, word-of-number}
@@ -42,42 +44,28 @@ pub number-judged : (k size : ℕ) → Passes (numberJudged k size) ↔ (k < siz
 unfolding numberJudged
 number-judged k size = passes-test (leb size k) 16 0 (λ e. leb-false size k e, λ l. lt-leb size k l)
 
--- Judgements of two lists pass where those of each do.
-pass-both : (js ks : List Said) → Passing js → Passing ks → Passing (js ++ ks)
-pass-both [] ks p q = q
-pass-both (j ∷ js) ks p q = (p .0, pass-both js ks (p .1) q)
-
-pass-first : (js ks : List Said) → Passing (js ++ ks) → Passing js
-pass-first [] ks p = tt
-pass-first (j ∷ js) ks p = (p .0, pass-first js ks (p .1))
-
-pass-second : (js ks : List Said) → Passing (js ++ ks) → Passing ks
-pass-second [] ks p = p
-pass-second (j ∷ js) ks p = pass-second js ks (p .1)
-
 -- ---- results
 
-module _ (n : ℕ) (xs ms : List ℕ) where
-  -- 1 to 6 and 15 refuse nothing: a tableau within the limits, of at most 20 cells.
-  pub class-passing : Passing (classJudgements n xs ms) ↔ (TableauAt n xs ms × (length xs ≤ 20))
-  class-passing = (
-    λ p. (
-      tableau-passing n xs ms .0 (pass-first (tableauJudgements n xs ms) (smallJudged (length xs) ∷ []) p),
-      small-judged (length xs) .0 (pass-second (tableauJudgements n xs ms) (smallJudged (length xs) ∷ []) p .0),
-    ),
-    λ h. pass-both (tableauJudgements n xs ms) (smallJudged (length xs) ∷ []) (tableau-passing n xs ms .1 (h .0)) (small-judged (length xs) .1 (h .1), tt),
-  )
+module _ (n : ℕ) (xs ms cs : List ℕ) where
+  -- 1 to 6, 17 and 15 refuse nothing: a tableau within the limits with true counts, of at most 20 cells.
+  pub class-passing : Passing (classJudgements n xs ms cs) ↔ (TableauAt n xs ms × TrueCounts xs cs × (length xs ≤ 20))
+  class-passing =
+      let p = passing-append (countedJudgements n xs ms cs) (smallJudged (length xs) ∷ []) in
+      let c = counted-passing n xs ms cs in (
+        λ h. (c .0 (p .0 h .0) .0, c .0 (p .0 h .0) .1, small-judged (length xs) .0 (p .0 h .1 .0)),
+        λ h. p .1 (c .1 (h .0, h .1), (small-judged (length xs) .1 (h .2), tt)),
+      )
 
-  pub size-result : TableauAt n xs ms → length xs ≤ 20 → classSizeSays n xs ms ≡ gives (classSize n xs ms ∷ [])
+  pub size-result : TableauAt n xs ms → TrueCounts xs cs → length xs ≤ 20 → classSizeSays n xs ms cs ≡ gives (classSize n xs ms ∷ [])
   unfolding classSizeSays
-  size-result h l = first-both (tableauJudgements n xs ms) (smallJudged (length xs) ∷ []) _ (tableau-passing n xs ms .1 h) (small-judged (length xs) .1 l, tt)
+  size-result h c l = first-answer (classJudgements n xs ms cs) _ (class-passing .1 (h, c, l))
 
-  pub word-result : (k : ℕ) (out : List ℕ) → TableauAt n xs ms → length xs ≤ 20 → k < classSize n xs ms → length xs ≤ length out
-      → classWordRun n xs ms k out ≡ (gives (length xs ∷ []), written (classWord n xs ms k) out)
+  pub word-result : (k : ℕ) (out : List ℕ) → TableauAt n xs ms → TrueCounts xs cs → length xs ≤ 20 → k < classSize n xs ms → length xs ≤ length out
+      → classWordRun n xs ms cs k out ≡ (gives (length xs ∷ []), written (classWord n xs ms k) out)
   unfolding classWordRun classWordSays
-  word-result k out h l b r =
-      ran-answer (classJudgements n xs ms) (numberJudged k (classSize n xs ms) ∷ roomJudged (length xs) (length out) ∷ []) _ _ _
-      (class-passing .1 (h, l)) (number-judged k (classSize n xs ms) .1 b, (room-judged _ _ .1 r, tt))
+  word-result k out h c l b r =
+      ran-answer (classJudgements n xs ms cs) (numberJudged k (classSize n xs ms) ∷ roomJudged (length xs) (length out) ∷ []) _ _ _
+      (class-passing .1 (h, c, l)) (number-judged k (classSize n xs ms) .1 b, (room-judged _ _ .1 r, tt))
 
 pub number-result : (n : ℕ) (w : List ℕ) → Accepted n w → length w ≤ 20 → classNumberSays n w ≡ gives (classNumber n w ∷ [])
 unfolding classNumberSays
@@ -89,26 +77,29 @@ number-result n w h l = first-both (wordJudgements n w) (smallJudged (length w) 
 pub word-length : (n : ℕ) (xs ms : List ℕ) (k : ℕ) → k < classSize n xs ms → length (classWord n xs ms k) ≡ length xs
 word-length n xs ms k l = sym (length-letters (classWord n xs ms k)) ∙ ap length (class-members n xs ms k l .0)
 
--- A word is written: so all limits are kept, and the word is there.
-pub record Written (n : ℕ) (xs ms : List ℕ) (k : ℕ) (left : List ℕ) : Type 0 where
+-- A word is written: so all limits are kept, the counts are true, and the word is there.
+pub record Written (n : ℕ) (xs ms cs : List ℕ) (k : ℕ) (left : List ℕ) : Type 0 where
   pub tableau : TableauAt n xs ms
+  pub counts : TrueCounts xs cs
   pub small : length xs ≤ 20
   pub below : k < classSize n xs ms
   pub word : take (length xs) left ≡ classWord n xs ms k
 
-pub word-written : (n : ℕ) (xs ms : List ℕ) (k : ℕ) (out : List ℕ) → Passes ((classWordRun n xs ms k out) .0) → Written n xs ms k ((classWordRun n xs ms k out) .1)
+pub word-written : (n : ℕ) (xs ms cs : List ℕ) (k : ℕ) (out : List ℕ) → Passes ((classWordRun n xs ms cs k out) .0)
+    → Written n xs ms cs k ((classWordRun n xs ms cs k out) .1)
 unfolding classWordRun classWordSays
-word-written n xs ms k out p =
+word-written n xs ms cs k out p =
     let checks : List Said = numberJudged k (classSize n xs ms) ∷ roomJudged (length xs) (length out) ∷ [] in
-    let all : Passing (classJudgements n xs ms ++ checks) = passing-first (classJudgements n xs ms ++ checks) (length xs ∷ []) p in
-    let limits : TableauAt n xs ms × (length xs ≤ 20) = class-passing n xs ms .0 (pass-first (classJudgements n xs ms) checks all) in
-    let (number, (room, t)) = pass-second (classJudgements n xs ms) checks all in
+    let all = passing-append (classJudgements n xs ms cs) checks .0 (passing-first (classJudgements n xs ms cs ++ checks) (length xs ∷ []) p) in
+    let limits : TableauAt n xs ms × TrueCounts xs cs × (length xs ≤ 20) = class-passing n xs ms cs .0 (all .0) in
+    let (number, (room, t)) = all .1 in
     let b : k < classSize n xs ms = number-judged k (classSize n xs ms) .0 number in
-    let run : classWordRun n xs ms k out ≡ (gives (length xs ∷ []), written (classWord n xs ms k) out)
-    = word-result n xs ms k out (limits .0) (limits .1) b (room-judged _ _ .0 room) in
+    let run : classWordRun n xs ms cs k out ≡ (gives (length xs ∷ []), written (classWord n xs ms k) out)
+    = word-result n xs ms cs k out (limits .0) (limits .1) (limits .2) b (room-judged _ _ .0 room) in
     record {
       tableau = limits .0;
-      small = limits .1;
+      counts = limits .1;
+      small = limits .2;
       below = b;
       word =
           ap₂ take (sym (word-length n xs ms k b)) (ap (λ (r : Said × List ℕ). r .1) run)
@@ -116,10 +107,10 @@ word-written n xs ms k out p =
     }
 
 -- The number of the word that was written is the number asked for.
-pub number-of-written : (n : ℕ) (xs ms : List ℕ) (k : ℕ) (out : List ℕ) → Passes ((classWordRun n xs ms k out) .0)
-    → classNumberSays n (take (length xs) ((classWordRun n xs ms k out) .1)) ≡ gives (k ∷ [])
-number-of-written n xs ms k out p =
-    let h : Written n xs ms k ((classWordRun n xs ms k out) .1) = word-written n xs ms k out p in
+pub number-of-written : (n : ℕ) (xs ms cs : List ℕ) (k : ℕ) (out : List ℕ) → Passes ((classWordRun n xs ms cs k out) .0)
+    → classNumberSays n (take (length xs) ((classWordRun n xs ms cs k out) .1)) ≡ gives (k ∷ [])
+number-of-written n xs ms cs k out p =
+    let h : Written n xs ms cs k ((classWordRun n xs ms cs k out) .1) = word-written n xs ms cs k out p in
     let w : List ℕ = classWord n xs ms k in
     let size : length w ≡ length xs = word-length n xs ms k (h .below) in
     let accepted : Accepted n w = record {
@@ -135,25 +126,24 @@ number-of-written n xs ms k out p =
 number-told : (n : ℕ) (w : List ℕ) → Passes (classNumberSays n w) → Accepted n w × (length w ≤ 20)
 unfolding classNumberSays
 number-told n w p =
-    let all : Passing (wordJudgements n w ++ (smallJudged (length w) ∷ [])) = passing-first (wordJudgements n w ++ (smallJudged (length w) ∷ [])) _ p in (
-      word-passing n w .0 (pass-first (wordJudgements n w) (smallJudged (length w) ∷ []) all),
-      small-judged (length w) .0 (pass-second (wordJudgements n w) (smallJudged (length w) ∷ []) all .0),
-    )
+    let (word, (small, t)) = passing-append (wordJudgements n w) (smallJudged (length w) ∷ []) .0
+    (passing-first (wordJudgements n w ++ (smallJudged (length w) ∷ [])) _ p) in
+    (word-passing n w .0 word, small-judged (length w) .0 small)
 
 -- The first value of a reply.
 value : Said → ℕ
 value (gives vs) = getD vs 0 0
 value (refused k p) = 0
 
--- The word of the number that was told is the word.
+-- The word of the number that was told, of the word's tableau with its counts, is the word.
 pub word-of-told : (n : ℕ) (w : List ℕ) (k : ℕ) (out : List ℕ) → classNumberSays n w ≡ gives (k ∷ []) → length w ≤ length out
-    → classWordRun n (lettersOf w) (marksOf w) k out ≡ (gives (length w ∷ []), written w out)
+    → classWordRun n (lettersOf w) (marksOf w) (countsOf w) k out ≡ (gives (length w ∷ []), written w out)
 unfolding value
 word-of-told n w k out e r =
     let told : Accepted n w × (length w ≤ 20) = number-told n w (subst Passes (sym e) tt) in
     let same : classNumber n w ≡ k = ap value (sym (number-result n w (told .0) (told .1)) ∙ e) in
     let cells : length (lettersOf w) ≡ length w = length-letters w in
-    let run = word-result n (lettersOf w) (marksOf w) (classNumber n w) out (word-tableau-at (told .0)) (omega (arith, cells, told .1))
-    (number-below n w (told .0 .letters)) (omega (arith, cells, r)) in
-    ap (λ (j : ℕ). classWordRun n (lettersOf w) (marksOf w) j out) (sym same) ∙ run
+    let run = word-result n (lettersOf w) (marksOf w) (countsOf w) (classNumber n w) out (word-tableau-at (told .0)) (letters-true w)
+    (omega (arith, cells, told .1)) (number-below n w (told .0 .letters)) (omega (arith, cells, r)) in
+    ap (λ (j : ℕ). classWordRun n (lettersOf w) (marksOf w) (countsOf w) j out) (sym same) ∙ run
     ∙ ap₂ (λ (l : ℕ) (v : List ℕ). (gives (l ∷ []), written v out)) cells (word-of-number n w (told .0 .letters))
