@@ -14,13 +14,15 @@ use Rattle.hypoplactic.specs.Words.{Accepted}
 use Rattle.hypoplactic.specs.Ribbons.{Tableau, TableauAt}
 use Rattle.hypoplactic.specs.Insertion.{lettersOf, marksOf}
 use Rattle.hypoplactic.specs.Replies.{Said, first, gives, passed, ranTo, written}
-use Rattle.hypoplactic.specs.Judgements.{roomJudged, tableauJudgements, tableauRooms, wordJudgements}
-use Rattle.hypoplactic.specs.TableauOperations.{tableauRun, tableauSays}
-use Rattle.hypoplactic.proofs.Theory.Judged.{tableau-passing, word-passing}
+use Rattle.hypoplactic.specs.Counts.{countsOf}
+use Rattle.hypoplactic.specs.Judgements.{countedJudgements, roomJudged, wordJudgements}
+use Rattle.hypoplactic.specs.TableauOperations.{tableauRun}
+use Rattle.hypoplactic.proofs.Theory.Judged.{counted-passing, word-passing}
 use Rattle.hypoplactic.proofs.Theory.Judgements.{alike-judged, room-judged}
 use Rattle.hypoplactic.proofs.Theory.Memory.{written-needed}
 use Rattle.hypoplactic.proofs.Theory.Pairs.{length-letters, length-marks}
 use Rattle.hypoplactic.proofs.Theory.Passing.{Passing, first-else, first-past, ran-answer}
+use Rattle.hypoplactic.proofs.Theory.Results.{tableau-result}
 use Rattle.numbering.specs.Dictionary.{classNumber, classSize, classWord}
 use Rattle.numbering.specs.Operations.{classJudgements, classNumberSays, classSizeSays, classWordRun, classWordSays, numberJudged, smallJudged}
 use Rattle.numbering.specs.Orders.{across, freed, headOf, orders, placeOf, tally, wordAt}
@@ -45,15 +47,15 @@ use Rattle.class_numbers.specs.NumberFound.{Placed, placeHeld}
 abbrev asked : ℕ → List ℕ → List ℕ → ℕ → List ℕ → List Said
 asked n xs ms k old = numberJudged k (classSize n xs ms) ∷ roomJudged (length xs) (length old) ∷ []
 
--- The verdict of 1 to 6 on the tableau and of 15.
-module _ {v : Verdict} (n : ℕ) (xs ms : List ℕ) (e : saidVerdict v ≡ checksThen (tableauJudgements n xs ms) (smallJudged (length xs) ∷ [])) where
+-- The verdict of 1 to 6 on the tableau, of 17 on its letter counts and of 15.
+module _ {v : Verdict} (n : ℕ) (xs ms cs : List ℕ) (e : saidVerdict v ≡ checksThen (countedJudgements n xs ms cs) (smallJudged (length xs) ∷ [])) where
   -- Where it passes, the tableau is one of at most 20 cells.
   module _ (q : v ≡ Passed) where
-    checks : Passing (tableauJudgements n xs ms) × Passing (smallJudged (length xs) ∷ [])
+    checks : Passing (countedJudgements n xs ms cs) × Passing (smallJudged (length xs) ∷ [])
     checks = then-passing _ _ e q
 
     tableau : TableauAt n xs ms
-    tableau = tableau-passing n xs ms .0 (checks .0)
+    tableau = counted-passing n xs ms cs .0 (checks .0) .0
 
     pub letters-few : length xs ≤ 20
     letters-few = small-judged (length xs) .0 (checks .1 .0)
@@ -79,25 +81,25 @@ module _ {v : Verdict} (n : ℕ) (xs ms : List ℕ) (e : saidVerdict v ≡ check
         right (x ∷ xs) [] h = absurd h
         right (x ∷ xs) (m ∷ ms) h = rw (h .0) (head (tally ms))
 
-    all : Passing (classJudgements n xs ms)
+    all : Passing (classJudgements n xs ms cs)
     unfolding checksThen
-    all = all-passing (classJudgements n xs ms) e q
+    all = all-passing (classJudgements n xs ms cs) e q
 
-  pub size-refused : (r : Refusal) → v ≡ Refused r → saidRefusal r ≡ classSizeSays n xs ms
+  pub size-refused : (r : Refusal) → v ≡ Refused r → saidRefusal r ≡ classSizeSays n xs ms cs
   unfolding classSizeSays checksThen
-  size-refused r q = stops r (first (classJudgements n xs ms) passed) (gives (classSize n xs ms ∷ [])) e q ∙ first-else (classJudgements n xs ms) _
+  size-refused r q = stops r (first (classJudgements n xs ms cs) passed) (gives (classSize n xs ms ∷ [])) e q ∙ first-else (classJudgements n xs ms cs) _
 
-  pub size-told : (k : ℕ) → v ≡ Passed → k ≡ ordersGiven ms → gives (k ∷ []) ≡ classSizeSays n xs ms
+  pub size-told : (k : ℕ) → v ≡ Passed → k ≡ ordersGiven ms → gives (k ∷ []) ≡ classSizeSays n xs ms cs
   unfolding classSizeSays checksThen
   size-told k q h =
-      goes-on (first (classJudgements n xs ms) passed) (gives (classSize n xs ms ∷ [])) e q (ap (λ (j : ℕ). gives (j ∷ [])) (h ∙ size-is q))
-      ∙ first-else (classJudgements n xs ms) _
+      goes-on (first (classJudgements n xs ms cs) passed) (gives (classSize n xs ms ∷ [])) e q (ap (λ (j : ℕ). gives (j ∷ [])) (h ∙ size-is q))
+      ∙ first-else (classJudgements n xs ms cs) _
 
   -- A word is asked for, and the tableau is refused.
-  pub word-stopped : (k : ℕ) (old : List ℕ) (r : Refusal) → v ≡ Refused r → (saidRefusal r, old) ≡ classWordRun n xs ms k old
+  pub word-stopped : (k : ℕ) (old : List ℕ) (r : Refusal) → v ≡ Refused r → (saidRefusal r, old) ≡ classWordRun n xs ms cs k old
   unfolding classWordRun classWordSays checksThen
   word-stopped k old r q =
-      run-stopped (classJudgements n xs ms) (asked n xs ms k old) (length xs ∷ []) (written (classWord n xs ms k) old) old r e q
+      run-stopped (classJudgements n xs ms cs) (asked n xs ms k old) (length xs ∷ []) (written (classWord n xs ms k) old) old r e q
 
   -- It is not, and u is the verdict of 16 and 13,
   module _ (u : Verdict) (q : v ≡ Passed) (k size : ℕ) (old : List ℕ) (h : size ≡ ordersGiven ms)
@@ -106,12 +108,12 @@ module _ {v : Verdict} (n : ℕ) (xs ms : List ℕ) (e : saidVerdict v ≡ check
     said = f ∙ ap (λ (j : ℕ). first (numberJudged k j ∷ roomJudged (length xs) (length old) ∷ []) passed) (h ∙ size-is q)
 
     -- which refuses,
-    pub word-refused : (r : Refusal) → u ≡ Refused r → (saidRefusal r, old) ≡ classWordRun n xs ms k old
+    pub word-refused : (r : Refusal) → u ≡ Refused r → (saidRefusal r, old) ≡ classWordRun n xs ms cs k old
     unfolding classWordRun classWordSays
     word-refused r p =
         run-stopped (asked n xs ms k old) [] (length xs ∷ []) (written (classWord n xs ms k) old) old r said p
         ∙ ap (λ (t : Said). ranTo t (written (classWord n xs ms k) old) old)
-        (sym (first-past (classJudgements n xs ms) (asked n xs ms k old) (gives (length xs ∷ [])) (all q)))
+        (sym (first-past (classJudgements n xs ms cs) (asked n xs ms k old) (gives (length xs ∷ [])) (all q)))
 
     -- or passes, so that the word has room,
     pub word-room : u ≡ Passed → length xs ≤ length old
@@ -120,11 +122,11 @@ module _ {v : Verdict} (n : ℕ) (xs ms : List ℕ) (e : saidVerdict v ≡ check
     -- and is written.
     pub word-told : (ys ns now : List ℕ) → u ≡ Passed → Holds xs ys → Holds ms ns
         → now ≡ written (wordAt (length xs) (take (length xs) ys) (take (length xs) (set ns 0 2)) k) old
-        → (gives (length xs ∷ []), now) ≡ classWordRun n xs ms k old
+        → (gives (length xs ∷ []), now) ≡ classWordRun n xs ms cs k old
     unfolding classWordRun classWordSays
     word-told ys ns now p a b g =
         ap (λ (new : List ℕ). (gives (length xs ∷ []), new)) (g ∙ ap (λ (w : List ℕ). written w old) word)
-        ∙ sym (ran-answer (classJudgements n xs ms) (asked n xs ms k old) (length xs ∷ []) (written (classWord n xs ms k) old) old (all q)
+        ∙ sym (ran-answer (classJudgements n xs ms cs) (asked n xs ms k old) (length xs ∷ []) (written (classWord n xs ms k) old) old (all q)
         (all-passing (asked n xs ms k old) said p))
       where
         marks : take (length xs) (set ns 0 2) ≡ freed ms
@@ -151,29 +153,26 @@ module _ {v : Verdict} (n : ℕ) (w : List ℕ) (e : saidVerdict v ≡ checksThe
   number-refused r q = stops r (first (judged n w) passed) (gives (classNumber n w ∷ [])) e q ∙ first-else (judged n w) _
 
   -- Where it passes, the tableau of the word stands in two lists of 20 elements.
-  module _ (q : v ≡ Passed) (ls ks us vs : List ℕ) (made : Said) (d : length ls ≡ 20) (c : length ks ≡ 20)
-      (t : (made, (us, vs)) ≡ tableauRun n w ls ks) where
+  module _ (q : v ≡ Passed) (ls ks ps us vs qs : List ℕ) (made : Said) (d : length ls ≡ 20) (c : length ks ≡ 20)
+      (t : (made, (us, (vs, qs))) ≡ tableauRun n w ls ks ps) where
     accepted : Accepted n w
     accepted = word-passing n w .0 (then-passing _ _ e q .0)
 
     few : length w ≤ 20
     few = small-judged (length w) .0 (then-passing _ _ e q .1 .0)
 
-    ran : _≡_ {A = List ℕ × List ℕ} (us, vs) (written (lettersOf w) ls, written (marksOf w) ks)
-    unfolding tableauRun tableauSays
+    ran : _≡_ {A = List ℕ × (List ℕ × List ℕ)} (us, (vs, qs)) (written (lettersOf w) ls, (written (marksOf w) ks, countsOf w))
     ran =
-        ap (λ (o : Said × (List ℕ × List ℕ)). o .1)
-        (t ∙ ran-answer (wordJudgements n w) (tableauRooms (length w) (length ls) (length ks)) _ _ _ (word-passing n w .1 accepted)
-        (room-judged _ _ .1 (omega (arith, few)), (room-judged _ _ .1 (omega (arith, few)), tt)))
+        ap (λ (o : Said × (List ℕ × (List ℕ × List ℕ))). o .1) (t ∙ tableau-result n w accepted ls ks ps (omega (arith, few)) (omega (arith, few)))
 
     letters-in : take (length w) us ≡ lettersOf w
     letters-in =
-        ap₂ take (sym (length-letters w)) (ap (λ (o : List ℕ × List ℕ). o .0) ran) ∙ written-needed (lettersOf w) ls
+        ap₂ take (sym (length-letters w)) (ap (λ (o : List ℕ × (List ℕ × List ℕ)). o .0) ran) ∙ written-needed (lettersOf w) ls
 
     marks-in : take (length w) (set vs 0 2) ≡ freed (marksOf w)
     marks-in =
         take-freed (length w) vs (marksOf w)
-        (ap₂ take (sym (length-marks w)) (ap (λ (o : List ℕ × List ℕ). o .1) ran) ∙ written-needed (marksOf w) ks)
+        (ap₂ take (sym (length-marks w)) (ap (λ (o : List ℕ × (List ℕ × List ℕ)). o .1 .0) ran) ∙ written-needed (marksOf w) ks)
 
     place-is : placeHeld w us (set vs 0 2) ≡ placeOf w (lettersOf w) (freed (marksOf w))
     place-is = ap₂ (placeOf w) letters-in marks-in

@@ -5,11 +5,11 @@ use refusals::chains::or_else;
 use refusals::numbers::check_room;
 use refusals::numbers::refuse_if;
 use refusals::refusal::Refusal;
-use validity::tableau::check_tableau;
+use validity::counted::check_counted_tableau;
 ghost use mathlib.Core.List.{[], _∷_};
 ghost use mathlib.Core.Path.{_≡_};
 ghost use lib.ListN.{length};
-ghost use Rattle.hypoplactic.specs.Judgements.{roomJudged, tableauJudgements, wordJudgements};
+ghost use Rattle.hypoplactic.specs.Judgements.{countedJudgements, roomJudged, wordJudgements};
 ghost use Rattle.hypoplactic.specs.Replies.{first, passed};
 ghost use Rattle.numbering.specs.Operations.{numberJudged, smallJudged};
 ghost use Rattle.refusals.specs.Running.{checksThen};
@@ -22,15 +22,17 @@ pub fn check_small(cells: usize) -> Verdict
     refuse_if(20 < cells, Refusal::Large)
 }
 
-// 1 to 6 of a tableau, then 15.
-pub fn check_class(rank: usize, letters: &[u8], marks: &[u8]) -> Verdict
+// 1 to 6 of a tableau, 17 of its letter counts, then 15.
+pub fn check_class(rank: usize, letters: &[u8], marks: &[u8], counts: &[u16; 64]) -> Verdict
     ensures { λ r. ⌜
         saidVerdict r
-        ≡ checksThen (tableauJudgements rank (now (letters .entry)) (now (marks .entry))) (smallJudged (length (now (letters .entry))) ∷ [])
+        ≡ checksThen
+        (countedJudgements rank (now (letters .entry)) (now (marks .entry)) (now (counts .entry)))
+        (smallJudged (length (now (letters .entry))) ∷ [])
         ⌝ }
 {
     or_else(
-        check_tableau(rank, letters, marks),
+        check_counted_tableau(rank, letters, marks, counts),
         check_small(letters.len()),
     )
 }

@@ -14,30 +14,31 @@ ghost use mathlib.Core.Path.{_≡_};
 ghost use Rattle.numbering.specs.Operations.{classNumberSays, classSizeSays, classWordRun};
 ghost use Rattle.refusals.specs.Said.{saidNumbered, saidWritten};
 
-// How many words the class of a tableau has, or the refusal of 1 to 6 or 15.
-pub fn class_size(rank: usize, letters: &[u8], marks: &[u8]) -> Numbered
-    ensures { λ r. ⌜ saidNumbered r ≡ classSizeSays rank (now (letters .entry)) (now (marks .entry)) ⌝ }
+// How many words the class of a tableau has, or the refusal of 1 to 6, 17 or 15.
+pub fn class_size(rank: usize, letters: &[u8], marks: &[u8], counts: &[u16; 64]) -> Numbered
+    ensures { λ r. ⌜ saidNumbered r ≡ classSizeSays rank (now (letters .entry)) (now (marks .entry)) (now (counts .entry)) ⌝ }
 {
-    if let Verdict::Refused(refusal) = check_class(rank, letters, marks) {
+    if let Verdict::Refused(refusal) = check_class(rank, letters, marks, counts) {
         return Numbered::Refused(refusal);
     }
     // A right first step leaves as many orders as a free one.
     Numbered::Number(orders_of(marks))
 }
 
-// The word with a number of the class of a tableau, into a lent word, or the refusal of 1 to 6, 15, 16 or 13, which leaves the word as it was.
+// The word with a number of the class of a tableau, into a lent word, or the refusal of 1 to 6, 17, 15, 16 or 13, which leaves the word as it was.
 pub fn class_word(
     rank: usize,
     letters: &[u8],
     marks: &[u8],
+    counts: &[u16; 64],
     number: u64,
     word: &mut [u8],
 ) -> Written
     ensures { λ r. ⌜
-        (saidWritten r, now (word .exit)) ≡ classWordRun rank (now (letters .entry)) (now (marks .entry)) number (now (word .entry))
+        (saidWritten r, now (word .exit)) ≡ classWordRun rank (now (letters .entry)) (now (marks .entry)) (now (counts .entry)) number (now (word .entry))
         ⌝ }
 {
-    if let Verdict::Refused(refusal) = check_class(rank, letters, marks) {
+    if let Verdict::Refused(refusal) = check_class(rank, letters, marks, counts) {
         return Written::Refused(refusal);
     }
     let size = orders_of(marks);
@@ -60,7 +61,8 @@ pub fn class_number(rank: usize, word: &[u8]) -> Numbered
     }
     let mut letters = [0u8; 20];
     let mut marks = [0u8; 20];
-    tableau_of_word(rank, word, &mut letters, &mut marks);
+    let mut counts = [0u16; 64];
+    tableau_of_word(rank, word, &mut letters, &mut marks, &mut counts);
     // The step into the first cell is free.
     marks[0] = 2;
     Numbered::Number(number_in(letters, marks, word))

@@ -8,14 +8,14 @@ use Rattle.class_numbers.proofs.classes.class_number.Tie as tie
 number-in-requires : tie.Need-number-in-requires
 number-in-requires c κs =
     let made = c .before .before in
-    let told = made .before .before .before in
-    number-placed _ _ (told .before .before .check-short .ensures) (told .enum-told .given .1) _ _ _ _ _ refl refl (made .tableau-of-word .ensures)
+    let told = made .before .before .before .before in
+    number-placed _ _ (told .before .before .check-short .ensures) (told .enum-told .given .1) _ _ _ _ _ _ _ refl refl (made .tableau-of-word .ensures)
 
 returns-2 : tie.Need-returns-2
 returns-2 c =
     let made = c .before .before .before in
-    let told = made .before .before .before in
-    number-told _ _ (told .before .before .check-short .ensures) (told .enum-told .given .1) _ _ _ _ _ refl refl (made .tableau-of-word .ensures) _
+    let told = made .before .before .before .before in
+    number-told _ _ (told .before .before .check-short .ensures) (told .enum-told .given .1) _ _ _ _ _ _ _ refl refl (made .tableau-of-word .ensures) _
     (c .number-in .ensures)
 
 pub class-number-spec : {M : Type 1} → statement M

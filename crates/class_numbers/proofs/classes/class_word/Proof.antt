@@ -13,7 +13,7 @@ returns-3 c =
     let asked = room .before .before in
     let sized = asked .before in
     let told = sized .before in
-    word-told _ _ _ (told .before .before .check-class .ensures) _ (told .enum-told .given .1) _ _ _ (sized .orders-of .ensures)
+    word-told _ _ _ _ (told .before .before .check-class .ensures) _ (told .enum-told .given .1) _ _ _ (sized .orders-of .ensures)
     (asked .check-asked .ensures) _ _ _ (room .enum-told2 .given .1) (letters .held2 .ensures) (marks .held .ensures) (wrote .write-word .ensures)
 
 pub class-word-spec : {M : Type 1} → statement M
