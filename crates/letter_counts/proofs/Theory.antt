@@ -1,5 +1,9 @@
--- The laws of two tableaux with letter counts, by topic. docs/PROMISES.md leads from each promise to its theorem.
+-- The laws of letter counts, by topic. docs/PROMISES.md leads from each promise to its theorem.
+-- ---- two tableaux
 pub mod StoredCounts
 pub mod TwoTableaux
+-- ---- counts in lent memory after a call
+pub mod MovedEntries
+pub mod CountsHeld
 -- ---- cases
 pub mod Cases

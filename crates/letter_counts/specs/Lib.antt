@@ -1,2 +1,3 @@
 pub mod TwoTableaux
+pub mod CountsHeld
 pub mod Cases

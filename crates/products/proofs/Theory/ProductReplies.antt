@@ -6,6 +6,7 @@
 --     product-of-classes            the product of the tableaux of u and v has the very reply and memory of the tableau of u ++ v;
 --     product-of-any-words          and of the tableau of any word of the first's class followed by any of the second's
 --     products-associate            three factors have one reply and one memory, whichever two are taken first, also where it is a refusal
+--     needed                        of a list that values were written into, so many elements are those values
 --     product-left                  the cells and the letter counts that a call has written are those of the product
 --     calls-associate               three factors in four calls, each inner product taken from where its call has left it
 --     empty-before, empty-after     with the empty tableau on either side the other factor is written
@@ -200,7 +201,7 @@ module _ (n : ℕ) (xs ms cs letters marks counts : List ℕ) (h : TableauAt n x
 -- ---- calls one after the other
 
 -- Of a list that values were written into, so many elements as they are.
-needed : (k : ℕ) (vs old : List ℕ) → length vs ≡ k → take k (written vs old) ≡ vs
+pub needed : (k : ℕ) (vs old : List ℕ) → length vs ≡ k → take k (written vs old) ≡ vs
 needed k vs old e = rw (← e) (written-needed vs old)
 
 -- The cells that the operation has written are the product, and so are the letter counts.

@@ -1,0 +1,201 @@
+-- After each accepted call the letter counts in lent memory are those of the letters in memory (document 02, N6), said of the very definitions that the
+-- contracts cite, for every input that is not refused.
+--     tableau-held, read-held, product-held, insert-held, move-held     the counts left are those of the letters left
+--     tableau-word-held                                                 and after the tableau of a word those of the word
+--     tableau-kept, read-kept, insert-kept, move-kept                   a refusal leaves the counts, and all lent memory, as they were
+--     seventeen-exactly                                                 17 passes exactly the counts of the letters, and else names the first wrong one
+-- Counts that a call takes are 64 numbers, as lent memory has; those that it only gives may be any. Which of them a move changes is in
+-- MovedEntries. That a refused product leaves all outputs as they were is product-refused of products, Theory.ProductReplies. Assumes nothing.
+use Prim.Native.Nat.{ℕ, suc, _+_, _≤_, _<_}
+use native.Mathlib.Omega.{arith}
+use mathlib.Core.Path.{_≡_, refl, sym, ap, ap₂, subst, _∙_}
+use mathlib.Core.Logic.{_↔_, _⊎_, inl, inr}
+use mathlib.Core.Bool.{Bool, true, false, not, true≢false}
+use mathlib.Core.List.{List, [], _∷_, _++_}
+use lib.Dec.{eqb}
+use lib.ListN.{length, getD, take}
+use lib.Seq.{length-take-le}
+use borrow.Author.Tests.{eq-eqb}
+use Rattle.grammar.specs.Reading.{Read, broken, got, readT}
+use Rattle.hypoplactic.specs.Words.{Inside, count, tick}
+use Rattle.hypoplactic.specs.Insertion.{Pair, insert, lettersOf, marksOf, putAt, seat}
+use Rattle.hypoplactic.specs.Moves.{Move}
+use Rattle.hypoplactic.specs.Replies.{Passes, Said, first, gives, ranTo, refused, written}
+use Rattle.hypoplactic.specs.FirstPlaces.{First}
+use Rattle.hypoplactic.specs.Counts.{countFault, countsJudged, countsOf, oneMore}
+use Rattle.hypoplactic.specs.Judgements.{entriesJudged, fullJudged, lengthJudged, lettersJudged, marksJudged, rankJudged, recordingJudged, risingJudged, roomJudged, tableauJudgements, tableauRooms, usedJudged, wordJudgements}
+use Rattle.hypoplactic.specs.TableauOperations.{insertRun, insertSays, moveTableauRun, tableauRun, tableauSays, usedCells, writtenPair}
+use Rattle.hypoplactic.specs.LineReadings.{readRun, readTRun, tableauRead}
+use Rattle.hypoplactic.proofs.Theory.Counts.{counts-first, counts-judged, counts-same, counts-true, counts-whole, letters-counts, snoc-counts}
+use Rattle.hypoplactic.proofs.Theory.Judgements.{letters-judged, rank-judged, used-judged}
+use Rattle.hypoplactic.proofs.Theory.Layers.{within-snoc}
+use Rattle.hypoplactic.proofs.Theory.MoveResults.{move-tableau-result}
+use Rattle.hypoplactic.proofs.Theory.Occurrences.{count-append}
+use Rattle.hypoplactic.proofs.Theory.Pairs.{le-or-lt, length-letters}
+use Rattle.hypoplactic.proofs.Theory.Passing.{first-answer, passing-append, passing-first, refused-keeps}
+use Rattle.hypoplactic.proofs.Theory.Placing.{count-placed, length-placed, placed-at}
+use Rattle.products.specs.Products.{factorsJudgements, leftCounts, productLetters, productMarks, productRun, productSays, productWord}
+use Rattle.products.proofs.Theory.ProductContents.{product-cells, product-counts}
+use Rattle.products.proofs.Theory.ProductReplies.{factors-passing, needed}
+use Rattle.letter_counts.specs.CountsHeld.{Held, HeldIn, lastOf}
+use Rattle.letter_counts.proofs.Theory.MovedEntries.{move-passing}
+
+-- ---- 17
+
+-- One place is the first.
+first-one : (f : ℕ → Bool) (size p q : ℕ) → First f size p → First f size q → p ≡ q
+first-one f size p q a b = go (le-or-lt p q) (le-or-lt q p)
+  where
+    go : (p ≤ q) ⊎ (q < p) → (q ≤ p) ⊎ (p < q) → p ≡ q
+    go (inl l) (inl m) = omega arith
+    go (inl l) (inr m) = absurd (true≢false (sym (a .stands) ∙ b .none-before p m))
+    go (inr l) m = absurd (true≢false (sym (b .stands) ∙ a .none-before q l))
+
+-- 17 passes exactly when the 64 numbers are the counts of the letters, and refuses with a place exactly when that is the first wrong one.
+pub seventeen-exactly : (cs xs : List ℕ) → length cs ≡ 64
+    → (Passes (countsJudged cs xs) ↔ (cs ≡ countsOf xs))
+    × ((k p : ℕ) → (countsJudged cs xs ≡ refused k p) ↔ ((k ≡ 17) × First (countFault cs xs) 64 p))
+seventeen-exactly cs xs e = (
+  (λ h. counts-whole xs cs e (counts-judged cs xs .0 h), λ q. counts-judged cs xs .1 (rw q (counts-true xs))),
+  λ k p. (counts-first cs xs k p, λ f. named k p (f .0) (f .1) (countsJudged cs xs) refl),
+)
+  where
+    named : (k p : ℕ) → k ≡ 17 → First (countFault cs xs) 64 p → (s : Said) → countsJudged cs xs ≡ s → s ≡ refused k p
+    named k p is f (gives vs) q =
+        let right : getD cs p 0 ≡ count (suc p) xs = counts-judged cs xs .0 (subst Passes (sym q) tt) .entry p (f .within) in
+        absurd (true≢false (sym (f .stands) ∙ ap not (eq-eqb _ _ right)))
+    named k p is f (refused j i) q =
+        let (number, g) = counts-first cs xs j i q in
+        ap₂ refused (number ∙ sym is) (first-one (countFault cs xs) 64 i p g f)
+
+-- ---- calls that give counts
+
+-- What the reading of a T line comes to.
+abbrev tableauReading : List ℕ → List ℕ → List ℕ → List ℕ → Read (ℕ × List ℕ × List ℕ) → Said × (List ℕ × (List ℕ × List ℕ))
+tableauReading text letters marks counts r =
+    readRun text (λ v. tableauRead letters marks counts (v .0) (v .1) (v .2)) (letters, (marks, counts)) r
+
+-- Where a call is not refused, its values and the new memory tell what is so after it.
+after-values : {A : Type 0} (P : Said × A → Type 0) (js : List Said) (vs : List ℕ) (new old : A) → Passes (first js (gives vs)) → P (gives vs, new)
+    → P (ranTo (first js (gives vs)) new old)
+after-values P js vs new old p h = rw (first-answer js (gives vs) (passing-first js vs p)) h
+
+-- Letters are written, as many as is said last, beside marks and the counts of these letters.
+written-held : (js : List Said) (vs us letters ms cs : List ℕ) (old : List ℕ × (List ℕ × List ℕ)) → length us ≡ lastOf vs → cs ≡ countsOf us
+    → Passes (first js (gives vs)) → HeldIn (ranTo (first js (gives vs)) (written us letters, (ms, cs)) old)
+written-held js vs us letters ms cs old size e p =
+    after-values HeldIn js vs (written us letters, (ms, cs)) old p (e ∙ sym (ap countsOf (needed (lastOf vs) us letters size)))
+
+-- The tableau of a word: the counts left are those of its letters left,
+pub tableau-held : (n : ℕ) (w letters marks counts : List ℕ) → Passes ((tableauRun n w letters marks counts) .0)
+    → HeldIn (tableauRun n w letters marks counts)
+unfolding tableauRun tableauSays
+tableau-held n w letters marks counts =
+    written-held (wordJudgements n w ++ tableauRooms (length w) (length letters) (length marks)) (length w ∷ []) (lettersOf w) letters
+    (written (marksOf w) marks) (countsOf w) (letters, (marks, counts)) (length-letters w) (sym (letters-counts w))
+
+-- and of the word.
+pub tableau-word-held : (n : ℕ) (w letters marks counts : List ℕ) → Passes ((tableauRun n w letters marks counts) .0)
+    → leftCounts (tableauRun n w letters marks counts) ≡ countsOf w
+unfolding tableauRun tableauSays
+tableau-word-held n w letters marks counts p =
+    after-values (λ (r : Said × (List ℕ × (List ℕ × List ℕ))). leftCounts r ≡ countsOf w)
+    (wordJudgements n w ++ tableauRooms (length w) (length letters) (length marks)) (length w ∷ [])
+    (written (lettersOf w) letters, (written (marksOf w) marks, countsOf w)) (letters, (marks, counts)) p refl
+
+-- The reading of a T line: the counts left are those of the letters read.
+pub read-held : (text letters marks counts : List ℕ) → Passes ((readTRun text letters marks counts) .0) → HeldIn (readTRun text letters marks counts)
+unfolding readTRun
+read-held text letters marks counts p = go (readT text) p
+  where
+    go : (r : Read (ℕ × List ℕ × List ℕ)) → Passes ((tableauReading text letters marks counts r) .0) → HeldIn (tableauReading text letters marks counts r)
+    go (broken rest) p = absurd p
+    go (got (n, xs, ms) rest) p =
+        written-held (tableauJudgements n xs ms ++ tableauRooms (length xs) (length letters) (length marks)) (n ∷ length xs ∷ []) xs letters (written ms marks)
+        (countsOf xs) (letters, (marks, counts)) refl refl p
+
+-- The product: the counts left are those of its letters left.
+pub product-held : (n : ℕ) (xs ms cs ys ns ds letters marks counts : List ℕ) → Passes ((productRun n xs ms cs ys ns ds letters marks counts) .0)
+    → HeldIn (productRun n xs ms cs ys ns ds letters marks counts)
+unfolding productRun productSays
+product-held n xs ms cs ys ns ds letters marks counts p =
+    let checks : List Said = factorsJudgements n xs ms cs ys ns ds in
+    let rooms : List Said = tableauRooms (length xs + length ys) (length letters) (length marks) in
+    let (h, k, fit, c, d) = factors-passing n xs ms cs ys ns ds .0 (passing-append checks rooms .0 (passing-first (checks ++ rooms) _ p) .0) in
+    written-held (checks ++ rooms) ((length xs + length ys) ∷ []) (productLetters xs ms ys ns) letters (written (productMarks xs ms ys ns) marks)
+    (countsOf (productWord xs ms ys ns)) (letters, (marks, counts)) (product-cells xs ms ys ns (h .tableau) (k .tableau) .0)
+    (product-counts xs ms ys ns (h .tableau) (k .tableau)) p
+
+-- ---- calls that take counts and change them
+
+-- One letter put in anywhere is counted as at the end.
+put-counts : (k a : ℕ) (xs : List ℕ) → Inside 64 a → oneMore (countsOf xs) a ≡ countsOf (putAt k a xs)
+put-counts k a xs i =
+    snoc-counts xs a i
+    ∙ counts-same (xs ++ (a ∷ [])) (putAt k a xs)
+    (λ b. count-append b xs (a ∷ []) ∙ more (eqb a b) (count b xs) ∙ sym (count-placed b (placed-at a a k xs xs refl)))
+  where
+    more : (t : Bool) (c : ℕ) → c + tick t 0 ≡ tick t c
+    more true c = omega arith
+    more false c = omega arith
+
+-- Insertion: the counts left are those of the used letters left.
+pub insert-held : (n used a : ℕ) (p : Pair) (cs : List ℕ) → length cs ≡ 64 → Passes ((insertRun n used a p cs) .0)
+    → Held ((insertRun n used a p cs) .0) ((insertRun n used a p cs) .1 .0 .letters) ((insertRun n used a p cs) .1 .1)
+unfolding insertRun insertSays insert
+insert-held n used a p cs e q =
+    let xs : List ℕ = take used (p .letters) in
+    let ms : List ℕ = take used (p .marks) in
+    let rs : List ℕ = take used (p .recording) in
+    let lengths : List ℕ = length (p .letters) ∷ length (p .marks) ∷ length (p .recording) ∷ [] in
+    let checks : List Said = rankJudged n ∷ lengthJudged used ∷ usedJudged used lengths ∷ lettersJudged n (xs ++ a ∷ []) ∷ risingJudged xs
+    ∷ marksJudged xs ms ∷ countsJudged cs xs ∷ entriesJudged used rs ∷ recordingJudged rs ms ∷ fullJudged used
+    ∷ roomJudged (suc used) (length (p .letters)) ∷ roomJudged (suc used) (length (p .marks)) ∷ roomJudged (suc used) (length (p .recording)) ∷ [] in
+    let (rank, (short, (held, (letters, (rising, (marks, (counts, rest))))))) = passing-first checks (suc used ∷ []) q in
+    let (within, low, high) = within-snoc n a xs (letters-judged n (xs ++ a ∷ []) .0 letters) in
+    let top : n ≤ 64 = rank-judged n .0 rank .1 in
+    let size : length xs ≡ used = length-take-le used (p .letters) (used-judged used lengths .0 held .0) in
+    let is : cs ≡ countsOf xs = counts-whole xs cs e (counts-judged cs xs .0 counts) in
+    let cells : length (putAt (seat a xs) a xs) ≡ suc used = length-placed (placed-at a a (seat a xs) xs xs refl) .0 ∙ ap suc size in
+    after-values (λ (r : Said × (Pair × List ℕ)). Held (r .0) (r .1 .0 .letters) (r .1 .1)) checks (suc used ∷ [])
+    (writtenPair (insert a (usedCells used p)) p, oneMore cs a) (p, cs) q
+    (ap (λ (ds : List ℕ). oneMore ds a) is ∙ put-counts (seat a xs) a xs (low, omega arith)
+    ∙ sym (ap countsOf (needed (suc used) (putAt (seat a xs) a xs) (p .letters) cells)))
+
+-- A move: the counts left are those of the letters left.
+pub move-held : (n : ℕ) (m : Move) (xs ms cs : List ℕ) → length cs ≡ 64 → Passes ((moveTableauRun n m xs ms cs) .0)
+    → (moveTableauRun n m xs ms cs) .1 .1 ≡ countsOf ((moveTableauRun n m xs ms cs) .1 .0)
+unfolding moveTableauRun
+move-held n m xs ms cs e p =
+    let (h, c, low, high, some) = move-passing n m xs ms cs p in
+    let run = ap (moveTableauRun n m xs ms) (counts-whole xs cs e c) ∙ move-tableau-result n m xs ms h in
+    subst (λ (r : Said × (List ℕ × List ℕ)). r .1 .1 ≡ countsOf (r .1 .0)) (sym run) refl
+
+-- ---- refusals
+
+-- The tableau of a word, refused.
+pub tableau-kept : (n : ℕ) (w letters marks counts : List ℕ) (k i : ℕ) → (tableauRun n w letters marks counts) .0 ≡ refused k i
+    → tableauRun n w letters marks counts ≡ (refused k i, (letters, (marks, counts)))
+unfolding tableauRun
+tableau-kept n w letters marks counts k i e = refused-keeps _ k i _ (letters, (marks, counts)) e
+
+-- The reading of a T line, refused.
+pub read-kept : (text letters marks counts : List ℕ) (k i : ℕ) → (readTRun text letters marks counts) .0 ≡ refused k i
+    → readTRun text letters marks counts ≡ (refused k i, (letters, (marks, counts)))
+unfolding readTRun
+read-kept text letters marks counts k i e = go (readT text) e
+  where
+    go : (r : Read (ℕ × List ℕ × List ℕ)) → (tableauReading text letters marks counts r) .0 ≡ refused k i
+        → tableauReading text letters marks counts r ≡ (refused k i, (letters, (marks, counts)))
+    go (broken rest) e = rw e
+    go (got (n, xs, ms) rest) e = refused-keeps _ k i _ (letters, (marks, counts)) e
+
+-- Insertion, refused.
+pub insert-kept : (n used a : ℕ) (p : Pair) (cs : List ℕ) (k i : ℕ) → (insertRun n used a p cs) .0 ≡ refused k i → insertRun n used a p cs ≡ (refused k i, (p, cs))
+unfolding insertRun
+insert-kept n used a p cs k i e = refused-keeps _ k i _ (p, cs) e
+
+-- A move, refused.
+pub move-kept : (n : ℕ) (m : Move) (xs ms cs : List ℕ) (k i : ℕ) → (moveTableauRun n m xs ms cs) .0 ≡ refused k i → moveTableauRun n m xs ms cs ≡ (refused k i, (xs, cs))
+unfolding moveTableauRun
+move-kept n m xs ms cs k i e = refused-keeps _ k i _ (xs, cs) e
