@@ -6,12 +6,13 @@ use Prim.Native.Nat.{ℕ}
 use mathlib.Core.List.{List, [], _∷_, _++_}
 use Rattle.hypoplactic.specs.Insertion.{lettersOf, marksOf, recordingOf}
 use Rattle.hypoplactic.specs.Moves.{Move}
+use Rattle.hypoplactic.specs.Counts.{countsOf}
 use Rattle.hypoplactic.specs.WordOperations.{moveWordRun}
 use Rattle.hypoplactic.specs.TableauOperations.{moveTableauRun}
-use Rattle.hypoplactic.specs.Starred.{Case, case, lower, numbers, outcome, raise, r12446553275, w12446553275}
+use Rattle.hypoplactic.specs.Starred.{Case, case, counts, lower, numbers, outcome, outcomes, raise, r12446553275, w12446553275}
 
 abbrev pub besideOf : ℕ → Move → List ℕ → List ℕ
-besideOf n m w = numbers ((moveWordRun n m w) .0) ++ numbers ((moveTableauRun n m (lettersOf w) (marksOf w)) .0) ++ recordingOf w
+besideOf n m w = numbers ((moveWordRun n m w) .0) ++ numbers ((moveTableauRun n m (lettersOf w) (marksOf w) (countsOf w)) .0) ++ recordingOf w
 
 unfoldable pub placeCases : List Case
 placeCases =
@@ -25,7 +26,8 @@ placeCases =
     ∷ case (besideOf 3 (raise 1) (1 ∷ 2 ∷ 2 ∷ [])) (0 ∷ 1 ∷ 0 ∷ 1 ∷ 1 ∷ 2 ∷ 3 ∷ [])
     -- a refusal tells no changed place: its place is 0
     ∷ case (besideOf 3 (raise 2) (3 ∷ 1 ∷ 2 ∷ 3 ∷ [])) (10 ∷ 0 ∷ 10 ∷ 0 ∷ 2 ∷ 3 ∷ 1 ∷ 4 ∷ [])
-    -- the place, then the letters that are left
+    -- the place, then the letters that are left, and of a tableau their counts
     ∷ case (outcome (moveWordRun 3 (lower 2) (2 ∷ 1 ∷ 2 ∷ 3 ∷ []))) (0 ∷ 2 ∷ 2 ∷ 1 ∷ 3 ∷ 3 ∷ [])
-    ∷ case (outcome (moveTableauRun 3 (lower 2) (1 ∷ 2 ∷ 2 ∷ 3 ∷ []) (0 ∷ 1 ∷ 0 ∷ 0 ∷ []))) (0 ∷ 2 ∷ 1 ∷ 2 ∷ 3 ∷ 3 ∷ [])
+    ∷ case (outcomes (moveTableauRun 3 (lower 2) (1 ∷ 2 ∷ 2 ∷ 3 ∷ []) (0 ∷ 1 ∷ 0 ∷ 0 ∷ []) (counts (1 ∷ 2 ∷ 1 ∷ []))))
+    (0 ∷ 2 ∷ 1 ∷ 2 ∷ 3 ∷ 3 ∷ counts (1 ∷ 1 ∷ 2 ∷ []))
     ∷ []

@@ -2,6 +2,7 @@
 --     Past s p q        q is left of p for raising, right of p for lowering
 --     MovedAt m w r     r is the reply to the move m in the letters w beside what is left of them: one place, where the letter taken stood, and none stands
 --                       past it; there stands now the letter given, and all else is as it was
+--     inLetters r       the reply to a move on a tableau beside the letters that are left, without their counts
 --     Beside rs s t     the replies s and t of a move to a word and to its tableau, rs being the word's recording ribbon
 -- That every move which is not refused is MovedAt is proofs/Theory/ChangedPlaces; that the two replies stand Beside each other, Theory/MoveTogether.
 -- Assumes nothing.
@@ -23,6 +24,9 @@ pub record MovedAt (m : Move) (w : List ℕ) (r : Said × List ℕ) : Type 0 whe
   pub held : getD w place 0 ≡ taken (m .side) (m .index)
   pub none-past : (q : ℕ) → q < length w → Past (m .side) place q → getD w q 0 ≢ taken (m .side) (m .index)
   pub told : r ≡ (gives (place ∷ []), set w place (given (m .side) (m .index)))
+
+abbrev pub inLetters : Said × (List ℕ × List ℕ) → Said × List ℕ
+inLetters r = (r .0, r .1 .0)
 
 -- One refusal; or a place in the word and a cell of the tableau, whose recording entry is that place plus 1.
 pub data Beside (rs : List ℕ) : Said → Said → Type 0 where

@@ -4,31 +4,35 @@
 --     rightmost-last       the rightmost a has no a right of it
 --     changed-held         the place that a move changes, whatever tells of an inversion
 --     word-moved-at        every move on a word that gives values is MovedAt, whatever the rank and the word
---     tableau-moved-at     every move on a tableau that gives values is
+--     tableau-moved-at     every move on a tableau that gives values is, in its letters, whatever the tableau and its counts
+--     tableau-counted-at   and where there are 64 counts, they are those of the letters before it and after it
+--     counts-held          a move on any input, made or refused, leaves true counts true
 --     word-made, word-unmade           a move on an accepted word that is defined replies a place and leaves its result; else it is refused
---     tableau-made, tableau-unmade     so does one on a tableau within the limits
+--     tableau-made, tableau-unmade     so does one on a tableau within the limits with its counts, and leaves those of its result
 -- Assumes nothing.
 use Prim.Native.Nat.{ℕ, zero, suc, _<_}
 use native.Mathlib.Omega.{arith}
-use mathlib.Core.Path.{_≡_, refl, sym, subst, _∙_}
+use mathlib.Core.Path.{_≡_, refl, sym, ap, subst, _∙_}
 use mathlib.Core.Logic.{_≢_}
 use mathlib.Core.Bool.{Bool, true, false, cond}
 use mathlib.Core.Option.{Option, none, some, Option·none-ne-some}
-use mathlib.Core.List.{List, [], _∷_}
+use mathlib.Core.List.{List, [], _∷_, _++_}
 use lib.Dec.{eqb}
 use lib.ListN.{length, getD, set}
 use borrow.Author.Tests.{eqb-true, eqb-false}
 use Rattle.hypoplactic.specs.Words.{Accepted}
 use Rattle.hypoplactic.specs.Ribbons.{TableauAt}
-use Rattle.hypoplactic.specs.Moves.{Side, raising, lowering, Move, taken, onward, leftmost, orHere, rightmost, target, changedPlace, inverted, below, given, guarded, moveTableau, moveWord, moved, replaced}
-use Rattle.hypoplactic.specs.Replies.{Said, gives, refused, Passes}
-use Rattle.hypoplactic.specs.Judgements.{tableauJudgements, wordJudgements}
-use Rattle.hypoplactic.specs.WordOperations.{moveJudgements, moveWordRun, moveWordSays, undefinedBy}
+use Rattle.hypoplactic.specs.Moves.{Side, raising, lowering, Move, taken, onward, leftmost, orHere, rightmost, target, changedPlace, inverted, below, given, guarded, moveTableau, moveWord, moved, movedTableau, placeInTableau, replaced}
+use Rattle.hypoplactic.specs.Replies.{Said, gives, refused, Passes, after, first, ranTo}
+use Rattle.hypoplactic.specs.Counts.{TrueCounts, countsOf, oneOver, withCounts}
+use Rattle.hypoplactic.specs.Judgements.{countedJudgements, wordJudgements}
+use Rattle.hypoplactic.specs.WordOperations.{moveJudgements, moveWordRun, moveWordSays, orSame, placeTold, undefinedBy}
 use Rattle.hypoplactic.specs.TableauOperations.{moveTableauRun, moveTableauSays}
-use Rattle.changed_places.specs.ChangedPlaces.{Past, MovedAt}
-use Rattle.hypoplactic.proofs.Theory.Judged.{tableau-passing, word-passing}
+use Rattle.changed_places.specs.ChangedPlaces.{MovedAt, Past, inLetters}
+use Rattle.hypoplactic.proofs.Theory.Counts.{counts-size, counts-true, counts-whole}
+use Rattle.hypoplactic.proofs.Theory.Judged.{counted-passing, word-passing}
 use Rattle.hypoplactic.proofs.Theory.MoveResults.{move-replaced, move-tableau-made, move-tableau-refused, move-word-made, move-word-refused}
-use Rattle.hypoplactic.proofs.Theory.Passing.{passing-before}
+use Rattle.hypoplactic.proofs.Theory.Passing.{first-past, passing-before}
 use Rattle.hypoplactic.proofs.Theory.Targets.{place-below, unguarded}
 
 -- ---- the leftmost and the rightmost
@@ -88,26 +92,34 @@ unplaced : (a : ℕ) (w : List ℕ) (o : Option ℕ) → replaced a w o ≡ none
 unplaced a w none e = refl
 unplaced a w (some p) e = absurd (Option·none-ne-some (set w p a) (sym e))
 
--- A run r of a move in the letters w, under the test b for an inversion, which goes by the place that the move changes at the rank.
-module _ (n : ℕ) (m : Move) (b : Bool) (w : List ℕ) (k : ℕ) (r : Said × List ℕ)
-    (goes : (p : ℕ) → guarded n m (changedPlace b m w) ≡ some p → r ≡ (gives (p ∷ []), set w p (given (m .side) (m .index))))
-    (stays : guarded n m (changedPlace b m w) ≡ none → r ≡ (refused k 0, w)) where
-  moved-at : Passes (r .0) → MovedAt m w r
-  moved-at h = go (guarded n m (changedPlace b m w)) refl
-    where
-      go : (o : Option ℕ) → guarded n m (changedPlace b m w) ≡ o → MovedAt m w r
-      go none e = absurd (subst (λ (r : Said × List ℕ). Passes (r .0)) (stays e) h)
-      go (some p) e =
-          let (held, none-past) = changed-held b m w p (unguarded n m (changedPlace b m w) e) in
-          record { place = p; inside = place-below n m b w p e; held = held; none-past = none-past; told = goes p e }
-
-  made : (v : List ℕ) → guarded n m (moved b m w) ≡ some v → (p : ℕ) × (r ≡ (gives (p ∷ []), v))
+-- A run r of a move in the letters w, under the test b for an inversion, which goes by the place that the move changes at the rank. Lent memory holds
+-- letters so, or with more beside them.
+module _ {A : Type 0} (holds : List ℕ → A) (n : ℕ) (m : Move) (b : Bool) (w : List ℕ) (k : ℕ) (r : Said × A)
+    (goes : (p : ℕ) → guarded n m (changedPlace b m w) ≡ some p → r ≡ (gives (p ∷ []), holds (set w p (given (m .side) (m .index)))))
+    (stays : guarded n m (changedPlace b m w) ≡ none → r ≡ (refused k 0, holds w)) where
+  made : (v : List ℕ) → guarded n m (moved b m w) ≡ some v → (p : ℕ) × (r ≡ (gives (p ∷ []), holds v))
   made v e =
       let (p, is, same) = placed _ w v (guarded n m (changedPlace b m w)) (sym (move-replaced n m b w) ∙ e) in
       (p, goes p is ∙ rw same)
 
-  unmade : guarded n m (moved b m w) ≡ none → r ≡ (refused k 0, w)
+  unmade : guarded n m (moved b m w) ≡ none → r ≡ (refused k 0, holds w)
   unmade e = stays (unplaced _ w (guarded n m (changedPlace b m w)) (sym (move-replaced n m b w) ∙ e))
+
+-- The letters alone.
+abbrev alone : List ℕ → List ℕ
+alone w = w
+
+-- Where it gives values, it is MovedAt.
+moved-at : (n : ℕ) (m : Move) (b : Bool) (w : List ℕ) (k : ℕ) (r : Said × List ℕ)
+    → ((p : ℕ) → guarded n m (changedPlace b m w) ≡ some p → r ≡ (gives (p ∷ []), set w p (given (m .side) (m .index))))
+    → (guarded n m (changedPlace b m w) ≡ none → r ≡ (refused k 0, w)) → Passes (r .0) → MovedAt m w r
+moved-at n m b w k r goes stays h = go (guarded n m (changedPlace b m w)) refl
+  where
+    go : (o : Option ℕ) → guarded n m (changedPlace b m w) ≡ o → MovedAt m w r
+    go none e = absurd (subst (λ (r : Said × List ℕ). Passes (r .0)) (stays e) h)
+    go (some p) e =
+        let (held, none-past) = changed-held b m w p (unguarded n m (changedPlace b m w) e) in
+        record { place = p; inside = place-below n m b w p e; held = held; none-past = none-past; told = goes p e }
 
 -- On a word: whatever it is,
 pub word-moved-at : (n : ℕ) (m : Move) (w : List ℕ) → Passes ((moveWordRun n m w) .0) → MovedAt m w (moveWordRun n m w)
@@ -120,24 +132,88 @@ word-moved-at n m w h =
 module _ (n : ℕ) (m : Move) (w : List ℕ) (a : Accepted n w) where
   pub word-made : (v : List ℕ) → moveWord n m w ≡ some v → (p : ℕ) × (moveWordRun n m w ≡ (gives (p ∷ []), v))
   unfolding moveWord
-  word-made = made n m (inverted (m .index) w) w _ (moveWordRun n m w) (move-word-made n m w a) (move-word-refused n m w a)
+  word-made = made alone n m (inverted (m .index) w) w _ (moveWordRun n m w) (move-word-made n m w a) (move-word-refused n m w a)
 
   pub word-unmade : moveWord n m w ≡ none → moveWordRun n m w ≡ (refused (undefinedBy n m (inverted (m .index) w)) 0, w)
   unfolding moveWord
-  word-unmade = unmade n m (inverted (m .index) w) w _ (moveWordRun n m w) (move-word-made n m w a) (move-word-refused n m w a)
+  word-unmade = unmade alone n m (inverted (m .index) w) w _ (moveWordRun n m w) (move-word-made n m w a) (move-word-refused n m w a)
 
--- On a tableau likewise.
-pub tableau-moved-at : (n : ℕ) (m : Move) (xs ms : List ℕ) → Passes ((moveTableauRun n m xs ms) .0) → MovedAt m xs (moveTableauRun n m xs ms)
+-- ---- the replies on a tableau, and its counts
+
+-- What a move leaves where it is made.
+abbrev moved-over : Move → List ℕ → List ℕ → List ℕ → List ℕ × List ℕ
+moved-over m xs ms cs = (orSame (movedTableau m xs ms) xs, oneOver cs (taken (m .side) (m .index)) (given (m .side) (m .index)))
+
+-- What is said of letters and left of them does not rest on the counts, where these are true.
+one-run : (n : ℕ) (m : Move) (xs ms cs : List ℕ) → TableauAt n xs ms → TrueCounts xs cs
+    → inLetters (moveTableauRun n m xs ms cs) ≡ inLetters (moveTableauRun n m xs ms (countsOf xs))
 unfolding moveTableauRun moveTableauSays
-tableau-moved-at n m xs ms h =
-    let a : TableauAt n xs ms = tableau-passing n xs ms .0 (passing-before (tableauJudgements n xs ms) (moveJudgements n m (below (m .index) xs ms) xs) _ h) in
-    moved-at n m (below (m .index) xs ms) xs _ (moveTableauRun n m xs ms) (move-tableau-made n m xs ms a) (move-tableau-refused n m xs ms a) h
+one-run n m xs ms cs a t =
+    rw (past cs t, past (countsOf xs) (counts-true xs)) (letters-of (first ks told) (moved-over m xs ms cs) (moved-over m xs ms (countsOf xs)) refl)
+  where
+    ks : List Said
+    ks = moveJudgements n m (below (m .index) xs ms) xs
 
+    told : Said
+    told = gives (placeTold (changedPlace (below (m .index) xs ms) m xs))
+
+    past : (cs : List ℕ) → TrueCounts xs cs → first (countedJudgements n xs ms cs ++ ks) told ≡ first ks told
+    past cs t = first-past (countedJudgements n xs ms cs) ks told (counted-passing n xs ms cs .1 (a, t))
+
+    letters-of : (s : Said) (new new′ : List ℕ × List ℕ) → new .0 ≡ new′ .0 → inLetters (ranTo s new (xs, cs)) ≡ inLetters (ranTo s new′ (xs, countsOf xs))
+    letters-of (gives vs) new new′ e = ap (λ (ys : List ℕ). (gives vs, ys)) e
+    letters-of (refused k p) new new′ e = refl
+
+-- What is not refused is a tableau within the limits with true counts.
+taken-in : (n : ℕ) (m : Move) (xs ms cs : List ℕ) → Passes ((moveTableauRun n m xs ms cs) .0) → TableauAt n xs ms × TrueCounts xs cs
+unfolding moveTableauRun moveTableauSays
+taken-in n m xs ms cs h =
+    counted-passing n xs ms cs .0 (passing-before (countedJudgements n xs ms cs) (moveJudgements n m (below (m .index) xs ms) xs) _ h)
+
+-- On a tableau likewise, whatever it and its counts are.
+pub tableau-moved-at : (n : ℕ) (m : Move) (xs ms cs : List ℕ) → Passes ((moveTableauRun n m xs ms cs) .0)
+    → MovedAt m xs (inLetters (moveTableauRun n m xs ms cs))
+tableau-moved-at n m xs ms cs h =
+    let (a, t) = taken-in n m xs ms cs h in
+    let same = one-run n m xs ms cs a t in
+    moved-at n m (below (m .index) xs ms) xs _ (inLetters (moveTableauRun n m xs ms cs))
+    (λ p e. same ∙ ap inLetters (move-tableau-made n m xs ms a p e)) (λ e. same ∙ ap inLetters (move-tableau-refused n m xs ms a e)) h
+
+-- Where it has 64 counts, as lent memory has, they are those of the letters before a move that is made, and those of the letters after it,
+pub tableau-counted-at : (n : ℕ) (m : Move) (xs ms cs : List ℕ) → length cs ≡ 64 → Passes ((moveTableauRun n m xs ms cs) .0)
+    → (cs ≡ countsOf xs) × ((moveTableauRun n m xs ms cs) .1 ≡ withCounts ((moveTableauRun n m xs ms cs) .1 .0))
+tableau-counted-at n m xs ms cs size h =
+    let (a, t) = taken-in n m xs ms cs h in
+    let true-before : cs ≡ countsOf xs = counts-whole xs cs size t in
+    (true-before, rw true-before (go a (placeInTableau n m xs ms) refl))
+  where
+    go : TableauAt n xs ms → (o : Option ℕ) → placeInTableau n m xs ms ≡ o
+        → (moveTableauRun n m xs ms (countsOf xs)) .1 ≡ withCounts ((moveTableauRun n m xs ms (countsOf xs)) .1 .0)
+    go a none e = rw (move-tableau-refused n m xs ms a e)
+    go a (some c) e = rw (move-tableau-made n m xs ms a c e)
+
+-- so that a move, made or not, leaves true counts true.
+pub counts-held : (n : ℕ) (m : Move) (xs ms : List ℕ)
+    → (moveTableauRun n m xs ms (countsOf xs)) .1 ≡ withCounts ((moveTableauRun n m xs ms (countsOf xs)) .1 .0)
+unfolding moveTableauRun
+counts-held n m xs ms =
+    go (moveTableauSays n m xs ms (countsOf xs)) (moved-over m xs ms (countsOf xs)) (λ h. tableau-counted-at n m xs ms (countsOf xs) (counts-size xs) h .1)
+  where
+    go : (s : Said) (new : List ℕ × List ℕ) → (Passes s → after s new (withCounts xs) ≡ withCounts ((after s new (withCounts xs)) .0))
+        → after s new (withCounts xs) ≡ withCounts ((after s new (withCounts xs)) .0)
+    go (gives vs) new h = h tt
+    go (refused k p) new h = refl
+
+-- By the definition of the move, on a tableau within the limits with its counts.
 module _ (n : ℕ) (m : Move) (xs ms : List ℕ) (a : TableauAt n xs ms) where
-  pub tableau-made : (ys : List ℕ) → moveTableau n m xs ms ≡ some ys → (c : ℕ) × (moveTableauRun n m xs ms ≡ (gives (c ∷ []), ys))
+  pub tableau-made : (ys : List ℕ) → moveTableau n m xs ms ≡ some ys
+      → (c : ℕ) × (moveTableauRun n m xs ms (countsOf xs) ≡ (gives (c ∷ []), withCounts ys))
   unfolding moveTableau
-  tableau-made = made n m (below (m .index) xs ms) xs _ (moveTableauRun n m xs ms) (move-tableau-made n m xs ms a) (move-tableau-refused n m xs ms a)
+  tableau-made =
+      made withCounts n m (below (m .index) xs ms) xs _ (moveTableauRun n m xs ms (countsOf xs)) (move-tableau-made n m xs ms a) (move-tableau-refused n m xs ms a)
 
-  pub tableau-unmade : moveTableau n m xs ms ≡ none → moveTableauRun n m xs ms ≡ (refused (undefinedBy n m (below (m .index) xs ms)) 0, xs)
+  pub tableau-unmade : moveTableau n m xs ms ≡ none
+      → moveTableauRun n m xs ms (countsOf xs) ≡ (refused (undefinedBy n m (below (m .index) xs ms)) 0, withCounts xs)
   unfolding moveTableau
-  tableau-unmade = unmade n m (below (m .index) xs ms) xs _ (moveTableauRun n m xs ms) (move-tableau-made n m xs ms a) (move-tableau-refused n m xs ms a)
+  tableau-unmade =
+      unmade withCounts n m (below (m .index) xs ms) xs _ (moveTableauRun n m xs ms (countsOf xs)) (move-tableau-made n m xs ms a) (move-tableau-refused n m xs ms a)

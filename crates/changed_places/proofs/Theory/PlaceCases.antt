@@ -7,6 +7,7 @@ use mathlib.Core.List.{[], _∷_, map}
 use Rattle.hypoplactic.specs.Insertion.{insert, pairOf}
 use Rattle.hypoplactic.specs.Rewriting.{Joined}
 use Rattle.hypoplactic.specs.Replies.{gives}
+use Rattle.hypoplactic.specs.Counts.{countsJudged, countsOf}
 use Rattle.hypoplactic.specs.Judgements.{alikeJudged, indexJudged, inversionJudged, lengthJudged, letterJudged, lettersJudged, marksJudged, rankJudged, risingJudged}
 use Rattle.hypoplactic.specs.WordOperations.{moveWordRun, moveWordSays}
 use Rattle.hypoplactic.specs.TableauOperations.{moveTableauRun, moveTableauSays}
@@ -15,7 +16,7 @@ use Rattle.hypoplactic.proofs.Theory.Classes.{same-tableau-joined}
 use Rattle.changed_places.specs.Cases.{placeCases}
 
 pub places-pinned : map (λ (c : Case). c .meaning) placeCases ≡ map (λ (c : Case). c .document) placeCases
-unfolding placeCases pairOf insert rankJudged lengthJudged alikeJudged lettersJudged risingJudged marksJudged indexJudged inversionJudged letterJudged moveWordSays moveWordRun moveTableauSays moveTableauRun
+unfolding placeCases pairOf insert countsOf countsJudged rankJudged lengthJudged alikeJudged lettersJudged risingJudged marksJudged indexJudged inversionJudged letterJudged moveWordSays moveWordRun moveTableauSays moveTableauRun
 places-pinned = refl
 
 -- So a move is made in both of two joined words, each at its own place: the replies are not equal, and demand 3 does not say so.
