@@ -10,7 +10,7 @@ from functools import lru_cache
 from itertools import permutations, product
 from math import comb
 
-from meaning import Refused, check_room, check_tableau, check_word, pair_of, put
+from meaning import Refused, check_counted_tableau, check_room, check_word, pair_of, put
 
 # So many cells are listed.
 LISTED = 6
@@ -131,14 +131,14 @@ def number_of(word):
 # ---- the operations
 
 
-def class_size(rank, letters, marks):
-    check_tableau(rank, letters, marks)
+def class_size(rank, letters, marks, counts):
+    check_counted_tableau(rank, letters, marks, counts)
     check_small(len(letters))
     return [size_of(letters, marks)]
 
 
-def class_word(rank, letters, marks, number, word):
-    check_tableau(rank, letters, marks)
+def class_word(rank, letters, marks, counts, number, word):
+    check_counted_tableau(rank, letters, marks, counts)
     check_small(len(letters))
     check_number(number, size_of(letters, marks))
     check_room(len(letters), word)

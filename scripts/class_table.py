@@ -1,17 +1,17 @@
 """The table of calls on the words of a class: sizes, words by number and numbers of words, of document 02's and the paper's examples, of the smallest and the
-largest classes, at a first, a middle and a last number; every refusal of each operation, 4 to 6 at a first, a middle and a last place; the order of the
-checks."""
+largest classes, at a first, a middle and a last number; every refusal of each operation, 4 to 6 and 17 at a first, a middle and a last place; the order of
+the checks."""
 
-# Letters and marks: of 4323, 421323, 143214, 3113 and 12446553275, of 20 equal letters, of 20 letters in one column, and of the ribbon of 20 cells that goes
+# Letters, marks and letter counts: of 4323, 421323, 143214, 3113 and 12446553275, of 20 equal letters, of 20 letters in one column, and of the ribbon of 20 cells that goes
 # down at every other step.
-FIVE = "2,3,3,4 0,1,0,1"
-PAPER = "1,2,2,3,3,4 0,1,0,1,0,1"
-OTHER = "1,1,2,3,4,4 0,0,1,1,1,0"
-LEVEL = "1,1,3,3 0,0,1,0"
-LONG = "1,2,2,3,4,4,5,5,5,6,7 0,0,0,1,1,0,0,0,0,1,0"
-EQUAL = "3*20 0*20"
-COLUMN = "1-20 0,1*19"
-ALTERNATING = "1-20 " + ",".join(["0,1"] * 10)
+FIVE = "2,3,3,4 0,1,0,1 0,1,2,1"
+PAPER = "1,2,2,3,3,4 0,1,0,1,0,1 1,2,2,1"
+OTHER = "1,1,2,3,4,4 0,0,1,1,1,0 2,1,1,2"
+LEVEL = "1,1,3,3 0,0,1,0 2,0,2"
+LONG = "1,2,2,3,4,4,5,5,5,6,7 0,0,0,1,1,0,0,0,0,1,0 1,2,1,2,3,1,1"
+EQUAL = "3*20 0*20 0,0,20"
+COLUMN = "1-20 0,1*19 1*20"
+ALTERNATING = "1-20 " + ",".join(["0,1"] * 10) + " 1*20"
 DOWN_FROM_20 = ",".join(str(20 - place) for place in range(20))
 
 SIZES = """
@@ -24,40 +24,51 @@ class_size 3 {EQUAL}
 class_size 20 {COLUMN}
 class_size 64 {COLUMN}
 class_size 20 {ALTERNATING}
-class_size 20 1-20 0*20
-class_size 64 45-64 0,1*19
-class_size 2 1*10,2*10 0*10,1,0*9
-class_size 2 1*19,2 0*19,1
-class_size 4 - -
-class_size 1 1 0
-class_size 64 64 0
-class_size 0 - -
-class_size 65 1 0
-class_size 260 1 0
-class_size 4 1*1025 0*1025
-class_size 4 1,2 0
-class_size 4 1,2 0,0,0
-class_size 4 1 0*1025
-class_size 4 5,2,3 0,0,0
-class_size 4 1,0,3 0,0,0
-class_size 4 1,2,255 0,0,0
-class_size 4 3,2,4 0,0,0
-class_size 4 1,3,2,4 0,0,0,0
-class_size 4 1,2,1 0,0,0
-class_size 4 1,2,3 1,0,0
-class_size 4 1,2,3 0,2,0
-class_size 4 1,2,2 0,0,1
-class_size 4 1*21 0*21
-class_size 4 1*1024 0*1024
-class_size 65 1*21 0*21
-class_size 4 1*21 0*20
-class_size 4 1*20,5 0*21
-class_size 4 2*20,1 0*21
-class_size 4 1*21 0*20,1
-class_size 4 1*21 1,0*20
-class_size 65 5*1025 -
-class_size 4 3,5,1 2,2,2
-class_size 4 3,1 2,2
+class_size 20 1-20 0*20 1*20
+class_size 64 45-64 0,1*19 0*44,1*20
+class_size 2 1*10,2*10 0*10,1,0*9 10,10
+class_size 2 1*19,2 0*19,1 19,1
+class_size 4 - - -
+class_size 1 1 0 1
+class_size 64 64 0 0*63,1
+class_size 0 - - -
+class_size 65 1 0 1
+class_size 260 1 0 1
+class_size 4 1*1025 0*1025 1025
+class_size 4 1,2 0 1,1
+class_size 4 1,2 0,0,0 1,1
+class_size 4 1 0*1025 1
+class_size 4 5,2,3 0,0,0 0,1,1,0,1
+class_size 4 1,0,3 0,0,0 1,0,1
+class_size 4 1,2,255 0,0,0 1,1
+class_size 4 3,2,4 0,0,0 0,1,1,1
+class_size 4 1,3,2,4 0,0,0,0 1*4
+class_size 4 1,2,1 0,0,0 2,1
+class_size 4 1,2,3 1,0,0 1,1,1
+class_size 4 1,2,3 0,2,0 1,1,1
+class_size 4 1,2,2 0,0,1 1,2
+class_size 4 1*21 0*21 21
+class_size 4 1*1024 0*1024 1024
+class_size 65 1*21 0*21 21
+class_size 4 1*21 0*20 21
+class_size 4 1*20,5 0*21 20,0,0,0,1
+class_size 4 2*20,1 0*21 1,20
+class_size 4 1*21 0*20,1 21
+class_size 4 1*21 1,0*20 21
+class_size 65 5*1025 - 0*4,1025
+class_size 4 3,5,1 2,2,2 1,0,1,0,1
+class_size 4 3,1 2,2 1,0,1
+class_size 4 2,3,3,4 0,1,0,1 1,1,2,1
+class_size 4 2,3,3,4 0,1,0,1 0,1,3,1
+class_size 4 2,3,3,4 0,1,0,1 0,1,258,1
+class_size 4 2,3,3,4 0,1,0,1 0,1,2,1,0*59,1
+class_size 4 2,3,3,4 0,1,0,1 -
+class_size 4 - - 0*63,1
+class_size 64 64 0 0*62,1
+class_size 4 1*21 0*21 20
+class_size 4 1*21 0*20,1 20
+class_size 4 1*20,5 0*21 20
+class_size 4 2,1 0,0 -
 """
 
 BY_NUMBER = """
@@ -90,45 +101,52 @@ class_word 20 247997108057619 {ALTERNATING} 0*20
 class_word 20 370371188237524 {ALTERNATING} 9*21
 class_word 20 370371188237525 {ALTERNATING} 9*20
 class_word 20 4665338284821 {ALTERNATING} 0*20
-class_word 2 0 1*10,2*10 0*10,1,0*9 0*20
-class_word 2 92377 1*10,2*10 0*10,1,0*9 0*20
-class_word 2 184754 1*10,2*10 0*10,1,0*9 0*20
-class_word 2 184755 1*10,2*10 0*10,1,0*9 9*20
-class_word 4 0 - - -
-class_word 4 0 - - 7,8
-class_word 4 1 - - -
-class_word 4 18446744073709551615 - - 7
+class_word 2 0 1*10,2*10 0*10,1,0*9 10,10 0*20
+class_word 2 92377 1*10,2*10 0*10,1,0*9 10,10 0*20
+class_word 2 184754 1*10,2*10 0*10,1,0*9 10,10 0*20
+class_word 2 184755 1*10,2*10 0*10,1,0*9 10,10 9*20
+class_word 4 0 - - - -
+class_word 4 0 - - - 7,8
+class_word 4 1 - - - -
+class_word 4 18446744073709551615 - - - 7
 class_word 4 18446744073709551615 {FIVE} 9*4
 class_word 4 4294967296 {FIVE} 9*4
 class_word 4 4294967300 {FIVE} 9*4
-class_word 1 0 1 0 9
-class_word 64 0 64 0 9
+class_word 1 0 1 0 1 9
+class_word 64 0 64 0 0*63,1 9
 class_word 4 0 {FIVE} 9*3
 class_word 4 4 {FIVE} -
 class_word 20 370371188237524 {ALTERNATING} 9*19
 class_word 4 5 {FIVE} 9*3
 class_word 4 5 {FIVE} -
-class_word 0 0 - - -
-class_word 65 9 1 0 -
-class_word 4 0 1*1025 0*1025 9
-class_word 4 0 1,2 0 9,9
-class_word 4 0 1,2 0,0,0 9,9
-class_word 4 0 5,2,3 0,0,0 9*3
-class_word 4 0 1,0,3 0,0,0 9*3
-class_word 4 0 1,2,5 0,0,0 9*3
-class_word 4 0 3,2,4 0,0,0 9*3
-class_word 4 0 1,3,2,4 0,0,0,0 9*4
-class_word 4 0 1,2,1 0,0,0 9*3
-class_word 4 0 1,2,3 1,0,0 9*3
-class_word 4 0 1,2,3 0,255,0 9*3
-class_word 4 0 1,2,2 0,0,1 9*3
-class_word 4 0 1*21 0*21 9*21
-class_word 4 0 1*1024 0*1024 -
-class_word 4 18446744073709551615 1*21 0*21 -
-class_word 4 18446744073709551615 1*21 0*20,1 -
-class_word 4 18446744073709551615 1*20,5 0*21 -
-class_word 65 18446744073709551615 5*1025 - -
-class_word 4 18446744073709551615 3,5,1 2,2,2 -
+class_word 0 0 - - - -
+class_word 65 9 1 0 1 -
+class_word 4 0 1*1025 0*1025 1025 9
+class_word 4 0 1,2 0 1,1 9,9
+class_word 4 0 1,2 0,0,0 1,1 9,9
+class_word 4 0 5,2,3 0,0,0 0,1,1,0,1 9*3
+class_word 4 0 1,0,3 0,0,0 1,0,1 9*3
+class_word 4 0 1,2,5 0,0,0 1,1,0,0,1 9*3
+class_word 4 0 3,2,4 0,0,0 0,1,1,1 9*3
+class_word 4 0 1,3,2,4 0,0,0,0 1*4 9*4
+class_word 4 0 1,2,1 0,0,0 2,1 9*3
+class_word 4 0 1,2,3 1,0,0 1,1,1 9*3
+class_word 4 0 1,2,3 0,255,0 1,1,1 9*3
+class_word 4 0 1,2,2 0,0,1 1,2 9*3
+class_word 4 0 1*21 0*21 21 9*21
+class_word 4 0 1*1024 0*1024 1024 -
+class_word 4 18446744073709551615 1*21 0*21 21 -
+class_word 4 18446744073709551615 1*21 0*20,1 21 -
+class_word 4 18446744073709551615 1*20,5 0*21 20,0,0,0,1 -
+class_word 65 18446744073709551615 5*1025 - 0*4,1025 -
+class_word 4 18446744073709551615 3,5,1 2,2,2 1,0,1,0,1 -
+class_word 4 0 2,3,3,4 0,1,0,1 1,0,2,1 9*4
+class_word 4 0 2,3,3,4 0,1,0,1 0,1,1,2 9*4
+class_word 4 0 2,3,3,4 0,1,0,1 0,1,2,1,0*59,65535 9*4
+class_word 4 5 2,3,3,4 0,1,0,1 0,1,2 9*4
+class_word 4 18446744073709551615 2,3,3,4 0,1,0,1 0,1,2 -
+class_word 4 0 1*21 0*21 21,1 9*21
+class_word 4 0 2,2 0,1 0,1 9*2
 """
 
 NUMBERS = """

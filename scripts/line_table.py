@@ -52,64 +52,64 @@ tableau_line_of_word 64 64*1024 35*1100
 """
 
 RIBBON_LINES = """
-read_tableau_line T,4,4,2,d,3,r,3,d,4$ 0*4 0*4
-read_tableau_line T,4,4,2,d,3,r,3,d,4$ 9*6 8*5
-read_tableau_line T,7,11,1,r,2,r,2,d,3,d,4,r,4,r,5,r,5,r,5,d,6,r,7$ 0*11 0*11
-read_tableau_line T,4,0$ - -
-read_tableau_line T,4,0$ 9 9
-read_tableau_line T,4,1,3$ 9,9 9,9
-read_tableau_line T,1,1024,1(,r,1)*1023$ 0*1024 9*1024
-read_tableau_line - 9 9
-read_tableau_line $ 9 9
-read_tableau_line t,4,0$ 9 9
-read_tableau_line W,4,0$ 9 9
-read_tableau_line T 9 9
-read_tableau_line T,4 9 9
-read_tableau_line T,4,1 9 9
-read_tableau_line T,4,1,3 9 9
-read_tableau_line T,4,2,3,r 9 9
-read_tableau_line T,4,2,3,r, 9 9
-read_tableau_line T,4,2,3,r,3 9 9
-read_tableau_line T,04,0$ 9 9
-read_tableau_line T,4,00$ 9 9
-read_tableau_line T,4,1,03$ 9 9
-read_tableau_line T,4,2,3,r,03$ 9 9
-read_tableau_line T,12345,0$ 9 9
-read_tableau_line T,4,12345$ 9 9
-read_tableau_line T,4,1,12345$ 9 9
-read_tableau_line T,4,2,3,d,12345$ 9 9
-read_tableau_line T,,0$ 9 9
-read_tableau_line T,4,$ 9 9
-read_tableau_line T,4,2,,r,3$ 9 9
-read_tableau_line T,4,2,3,,3$ 9 9
-read_tableau_line T,4,2,3,r,$ 9 9
-read_tableau_line T,4,2,3,3$ 9 9
-read_tableau_line T,4,2,3,x,3$ 9 9
-read_tableau_line T,4,2,3,R,3$ 9 9
-read_tableau_line T,4,2,3,rd,3$ 9 9
-read_tableau_line T,4,1,r,3$ 9 9
-read_tableau_line T,4,1,3,r$ 9 9
-read_tableau_line T,4,1,3,r,3$ 9 9
-read_tableau_line T,4,0,$ 9 9
-read_tableau_line T,4,2,3$ 9 9
-read_tableau_line T,4,1,3$$ 9 9
-read_tableau_line T,4,1,3$x 9 9
-read_tableau_line T,4,9999,3$ 9 9
-read_tableau_line T,0,0$ 9 9
-read_tableau_line T,65,1,70$ 9 9
-read_tableau_line T,9999,0$ 9 9
-read_tableau_line T,4,1025,1(,r,1)*1024$ 9 9
-read_tableau_line T,65,1025,1(,r,1)*1024$ 9 9
-read_tableau_line T,4,1025,5(,r,1)*1024$ 9 9
-read_tableau_line T,4,3,1,r,0,r,3$ 9*3 9*3
-read_tableau_line T,4,3,3,r,2,r,5$ 9*3 9*3
-read_tableau_line T,4,3,3,r,2,r,3$ 9*3 9*3
-read_tableau_line T,4,3,1,d,1,r,0$ 9*3 9*3
-read_tableau_line T,4,3,1,r,2,d,2$ 9*3 9*3
-read_tableau_line T,4,3,2,d,2,r,1$ 9*3 9*3
-read_tableau_line T,4,3,1,r,2,d,3$ 9*2 9*3
-read_tableau_line T,4,3,1,r,2,d,3$ 9*3 9*2
-read_tableau_line T,4,3,1,r,2,d,2$ 9*2 9*2
+read_tableau_line T,4,4,2,d,3,r,3,d,4$ 0*4 0*4 7*64
+read_tableau_line T,4,4,2,d,3,r,3,d,4$ 9*6 8*5 7*64
+read_tableau_line T,7,11,1,r,2,r,2,d,3,d,4,r,4,r,5,r,5,r,5,d,6,r,7$ 0*11 0*11 7*64
+read_tableau_line T,4,0$ - - 7*64
+read_tableau_line T,4,0$ 9 9 7*64
+read_tableau_line T,4,1,3$ 9,9 9,9 7*64
+read_tableau_line T,1,1024,1(,r,1)*1023$ 0*1024 9*1024 7*64
+read_tableau_line - 9 9 7*64
+read_tableau_line $ 9 9 7*64
+read_tableau_line t,4,0$ 9 9 7*64
+read_tableau_line W,4,0$ 9 9 7*64
+read_tableau_line T 9 9 7*64
+read_tableau_line T,4 9 9 7*64
+read_tableau_line T,4,1 9 9 7*64
+read_tableau_line T,4,1,3 9 9 7*64
+read_tableau_line T,4,2,3,r 9 9 7*64
+read_tableau_line T,4,2,3,r, 9 9 7*64
+read_tableau_line T,4,2,3,r,3 9 9 7*64
+read_tableau_line T,04,0$ 9 9 7*64
+read_tableau_line T,4,00$ 9 9 7*64
+read_tableau_line T,4,1,03$ 9 9 7*64
+read_tableau_line T,4,2,3,r,03$ 9 9 7*64
+read_tableau_line T,12345,0$ 9 9 7*64
+read_tableau_line T,4,12345$ 9 9 7*64
+read_tableau_line T,4,1,12345$ 9 9 7*64
+read_tableau_line T,4,2,3,d,12345$ 9 9 7*64
+read_tableau_line T,,0$ 9 9 7*64
+read_tableau_line T,4,$ 9 9 7*64
+read_tableau_line T,4,2,,r,3$ 9 9 7*64
+read_tableau_line T,4,2,3,,3$ 9 9 7*64
+read_tableau_line T,4,2,3,r,$ 9 9 7*64
+read_tableau_line T,4,2,3,3$ 9 9 7*64
+read_tableau_line T,4,2,3,x,3$ 9 9 7*64
+read_tableau_line T,4,2,3,R,3$ 9 9 7*64
+read_tableau_line T,4,2,3,rd,3$ 9 9 7*64
+read_tableau_line T,4,1,r,3$ 9 9 7*64
+read_tableau_line T,4,1,3,r$ 9 9 7*64
+read_tableau_line T,4,1,3,r,3$ 9 9 7*64
+read_tableau_line T,4,0,$ 9 9 7*64
+read_tableau_line T,4,2,3$ 9 9 7*64
+read_tableau_line T,4,1,3$$ 9 9 7*64
+read_tableau_line T,4,1,3$x 9 9 7*64
+read_tableau_line T,4,9999,3$ 9 9 7*64
+read_tableau_line T,0,0$ 9 9 7*64
+read_tableau_line T,65,1,70$ 9 9 7*64
+read_tableau_line T,9999,0$ 9 9 7*64
+read_tableau_line T,4,1025,1(,r,1)*1024$ 9 9 7*64
+read_tableau_line T,65,1025,1(,r,1)*1024$ 9 9 7*64
+read_tableau_line T,4,1025,5(,r,1)*1024$ 9 9 7*64
+read_tableau_line T,4,3,1,r,0,r,3$ 9*3 9*3 7*64
+read_tableau_line T,4,3,3,r,2,r,5$ 9*3 9*3 7*64
+read_tableau_line T,4,3,3,r,2,r,3$ 9*3 9*3 7*64
+read_tableau_line T,4,3,1,d,1,r,0$ 9*3 9*3 7*64
+read_tableau_line T,4,3,1,r,2,d,2$ 9*3 9*3 7*64
+read_tableau_line T,4,3,2,d,2,r,1$ 9*3 9*3 7*64
+read_tableau_line T,4,3,1,r,2,d,3$ 9*2 9*3 7*64
+read_tableau_line T,4,3,1,r,2,d,3$ 9*3 9*2 7*64
+read_tableau_line T,4,3,1,r,2,d,2$ 9*2 9*2 7*64
 read_recording_line N,4,3,2,4,1$ 0*4
 read_recording_line N,4,3,2,4,1$ 999*6
 read_recording_line N,11,1,2,9,8,3,4,6,7,11,5,10$ 0*11

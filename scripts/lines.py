@@ -4,7 +4,7 @@ The place of 14 is the length of the longest beginning of the text that can stil
 long as that is so, and raises 14 where it stands when the next byte cannot follow.
 """
 from meaning import (
-    Refused, check_entries, check_length, check_room, check_tableau, check_word, junction_set, pair_of, put, reading, rows,
+    Refused, check_entries, check_length, check_room, check_tableau, check_word, junction_set, pair_of, put, put_tableau, reading, rows,
 )
 
 
@@ -92,13 +92,12 @@ def read_word_line(text, letters):
     return [rank, len(word)]
 
 
-def read_tableau_line(text, letters, marks):
-    """Gives rank and number of cells."""
+def read_tableau_line(text, letters, marks, counts):
+    """Gives rank and number of cells, and counts the letters."""
     rank, new_letters, new_marks = scan_tableau(text)
     check_tableau(rank, new_letters, new_marks)
     check_room(len(new_letters), letters, marks)
-    put(new_letters, letters)
-    put(new_marks, marks)
+    put_tableau(new_letters, new_marks, letters, marks, counts)
     return [rank, len(new_letters)]
 
 

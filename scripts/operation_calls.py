@@ -2,7 +2,8 @@
 
 A line has the operation's name, its numbers, then its lists, parted by single spaces. A list is items parted by commas, an item a number, `v*k` for k
 times v, or `a-b` for the numbers from a to b; `-` is the empty list. A text stands as it is, with `$` for the line feed and `(t)*k` for k times t; `-`
-is the empty text. What came of the call follows after ` = `, and each lent list as it is afterwards after ` | `.
+is the empty text. Letter counts are a list of up to 64 numbers, to which as many 0 are added as are missing. What came of the call follows after ` = `,
+and each lent list as it is afterwards after ` | `; of counts every number up to the last that is not 0, or `v*64` where all are equal.
 """
 import re
 
@@ -11,7 +12,7 @@ import lines
 import meaning
 from meaning import Refused
 
-# What an operation takes: n a number, l a list, t a text, L a list that is lent, O a lent list that is printed as a text.
+# What an operation takes: n a number, l a list, c letter counts, t a text, L a list that is lent, C lent counts, O a lent list that is printed as a text.
 OPERATIONS = {
     "junctions": ("nl", meaning.junctions),
     "raise_word": ("nnL", lambda *a: meaning.move_word(True, *a)),
@@ -20,22 +21,26 @@ OPERATIONS = {
     "lower_count_word": ("nnl", lambda *a: meaning.count_word(False, *a)),
     "same_class": ("nnll", meaning.same_class),
     "compare_weights": ("nnll", meaning.compare_weights),
-    "tableau_of_word": ("nlLL", meaning.tableau_of_word),
+    "tableau_of_word": ("nlLLC", meaning.tableau_of_word),
     "recording_of_word": ("nlL", meaning.recording_of_word),
-    "insert_letter": ("nnnLLL", meaning.insert_letter),
-    "word_of_pair": ("nlllL", meaning.word_of_pair),
-    "column_reading": ("nllL", meaning.column_reading),
+    "insert_letter": ("nnnLLLC", meaning.insert_letter),
+    "word_of_pair": ("nlllcL", meaning.word_of_pair),
+    "column_reading": ("nllcL", meaning.column_reading),
     "look_once": ("nnll", meaning.look_once),
-    "raise_tableau": ("nnLl", lambda *a: meaning.move_tableau(True, *a)),
-    "lower_tableau": ("nnLl", lambda *a: meaning.move_tableau(False, *a)),
-    "raise_count_tableau": ("nnll", lambda *a: meaning.count_tableau(True, *a)),
-    "lower_count_tableau": ("nnll", lambda *a: meaning.count_tableau(False, *a)),
-    "product": ("nllllLL", meaning.product),
-    "class_size": ("nll", class_numbers.class_size),
-    "class_word": ("nnllL", lambda n, k, letters, marks, word: class_numbers.class_word(n, letters, marks, k, word)),
+    "raise_tableau": ("nnLlC", lambda *a: meaning.move_tableau(True, *a)),
+    "lower_tableau": ("nnLlC", lambda *a: meaning.move_tableau(False, *a)),
+    "raise_count_tableau": ("nnllc", lambda *a: meaning.count_tableau(True, *a)),
+    "lower_count_tableau": ("nnllc", lambda *a: meaning.count_tableau(False, *a)),
+    "check_counted_tableau": ("nllc", meaning.check_counted_tableau),
+    "check_counted_pair": ("nlllc", meaning.check_counted_pair),
+    "same_class_of_tableaux": ("nnllcllc", meaning.same_class_of_tableaux),
+    "compare_weights_of_tableaux": ("nnllcllc", meaning.compare_weights_of_tableaux),
+    "product": ("nllcllcLLC", meaning.product),
+    "class_size": ("nllc", class_numbers.class_size),
+    "class_word": ("nnllcL", lambda n, k, letters, marks, counts, word: class_numbers.class_word(n, letters, marks, counts, k, word)),
     "class_number": ("nl", class_numbers.class_number),
     "read_word_line": ("tL", lines.read_word_line),
-    "read_tableau_line": ("tLL", lines.read_tableau_line),
+    "read_tableau_line": ("tLLC", lines.read_tableau_line),
     "read_recording_line": ("tL", lines.read_recording_line),
     "write_word_line": ("nlO", lines.write_word_line),
     "write_tableau_line": ("nllO", lines.write_tableau_line),
@@ -58,11 +63,10 @@ def item(text):
 def argument(kind, text):
     if kind == "n":
         return int(text)
-    if text == "-":
-        return b"" if kind == "t" else []
     if kind == "t":
-        return re.sub(r"\((.*?)\)\*(\d+)", lambda group: group[1] * int(group[2]), text).replace("$", "\n").encode()
-    return [value for part in text.split(",") for value in item(part)]
+        return b"" if text == "-" else re.sub(r"\((.*?)\)\*(\d+)", lambda group: group[1] * int(group[2]), text).replace("$", "\n").encode()
+    values = [] if text == "-" else [value for part in text.split(",") for value in item(part)]
+    return values + [0] * (64 - len(values)) if kind in "cC" else values
 
 
 def checksum(values):
@@ -80,12 +84,23 @@ def shown_list(values):
     return ",".join(map(str, values))
 
 
+def shown_counts(values):
+    """Every number up to the last that is not 0; one where all are equal."""
+    if len(set(values)) == 1:
+        return "%d*%d" % (values[0], len(values))
+    last = max(place for place, value in enumerate(values) if value != 0)
+    return ",".join(map(str, values[: last + 1]))
+
+
 def shown_text(values):
     """Bytes as they are, `$` for the line feed; of more than 64 the first 32, then length and checksum."""
     if not values:
         return "-"
     text = bytes(values[:32] if len(values) > 64 else values).decode().replace("\n", "$")
     return text + ("..%d:%d" % (len(values), checksum(values)) if len(values) > 64 else "")
+
+
+SHOWN = {"L": shown_list, "C": shown_counts, "O": shown_text}
 
 
 def came_of(call):
@@ -97,10 +112,10 @@ def came_of(call):
     assert len(kinds) == len(texts), call
     arguments = [argument(kind, text) for kind, text in zip(kinds, texts)]
     try:
-        came = " ".join(["gives"] + [str(value) for value in operation(*arguments)])
+        came = " ".join(["gives"] + [str(value) for value in operation(*arguments) or []])
     except Refused as refusal:
         came = "refused %d %d" % (refusal.number, refusal.place)
     for kind, values in zip(kinds, arguments):
-        if kind in "LO":
-            came += " | " + (shown_list if kind == "L" else shown_text)(values)
+        if kind in SHOWN:
+            came += " | " + SHOWN[kind](values)
     return call + " = " + came + "\n"

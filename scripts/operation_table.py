@@ -2,6 +2,7 @@
 and too short by one, moves of a first, a middle and a last place, on words and on their tableaux, two words of different rank in either order, and the order
 of the checks. The program that makes the calls of a table knows its operations alone: at the end of each table it is asked for one that it does not know."""
 from class_table import CLASS_CALLS
+from counts_table import COUNT_CALLS
 from line_table import RIBBON_LINES, WORD_LINES
 
 WORDS = """
@@ -159,26 +160,26 @@ compare_weights 4 3 1,2 3,4
 """
 
 RIBBONS = """
-tableau_of_word 4 4,3,2,3 0*4 0*4
-tableau_of_word 4 4,3,2,3 9*6 8*5
-tableau_of_word 7 1,2,4,4,6,5,5,3,2,7,5 0*11 9*11
-tableau_of_word 4 - - -
-tableau_of_word 4 - 7,7 7
-tableau_of_word 4 4,3,3 9*4 9*3
-tableau_of_word 6 2,4,3,2,4,5,5,6,5 0*9 0*9
-tableau_of_word 3 3,1 0,0 0,0
-tableau_of_word 64 64,1,64,33 0*4 0*4
-tableau_of_word 1 1*1024 0*1024 9*1024
-tableau_of_word 4 1*1023,4 0*1024 9*1025
-tableau_of_word 0 1 9 9
-tableau_of_word 65 1 9 9
-tableau_of_word 4 1*1025 9 9
-tableau_of_word 4 4,5,0 9*3 9*3
-tableau_of_word 4 4,3,2,3 9*3 9*4
-tableau_of_word 4 4,3,2,3 9*4 9*3
-tableau_of_word 4 4,3,2,3 9*3 9*2
-tableau_of_word 4 4,3,2,9 - -
-tableau_of_word 4 4 - 9
+tableau_of_word 4 4,3,2,3 0*4 0*4 7*64
+tableau_of_word 4 4,3,2,3 9*6 8*5 7*64
+tableau_of_word 7 1,2,4,4,6,5,5,3,2,7,5 0*11 9*11 7*64
+tableau_of_word 4 - - - 7*64
+tableau_of_word 4 - 7,7 7 7*64
+tableau_of_word 4 4,3,3 9*4 9*3 7*64
+tableau_of_word 6 2,4,3,2,4,5,5,6,5 0*9 0*9 7*64
+tableau_of_word 3 3,1 0,0 0,0 7*64
+tableau_of_word 64 64,1,64,33 0*4 0*4 7*64
+tableau_of_word 1 1*1024 0*1024 9*1024 7*64
+tableau_of_word 4 1*1023,4 0*1024 9*1025 7*64
+tableau_of_word 0 1 9 9 7*64
+tableau_of_word 65 1 9 9 7*64
+tableau_of_word 4 1*1025 9 9 7*64
+tableau_of_word 4 4,5,0 9*3 9*3 7*64
+tableau_of_word 4 4,3,2,3 9*3 9*4 7*64
+tableau_of_word 4 4,3,2,3 9*4 9*3 7*64
+tableau_of_word 4 4,3,2,3 9*3 9*2 7*64
+tableau_of_word 4 4,3,2,9 - - 7*64
+tableau_of_word 4 4 - 9 7*64
 recording_of_word 4 4,3,2,3 0*4
 recording_of_word 4 4,3,2,3 1111*6
 recording_of_word 7 1,2,4,4,6,5,5,3,2,7,5 0*11
@@ -197,99 +198,99 @@ recording_of_word 4 4,3,2,5 9*3
 """
 
 PAIRS = """
-insert_letter 4 0 4 0*4 0*4 0*4
-insert_letter 4 1 3 4,0,0,0 0,0,0,0 1,0,0,0
-insert_letter 4 2 2 3,4,0,0 0,1,0,0 2,1,0,0
-insert_letter 4 3 3 2,3,4,0 0,1,1,0 3,2,1,0
-insert_letter 4 3 3 2,3,4,0,9,9 0,1,1,0,9 3,2,1,0,999,999,999
-insert_letter 4 1 3 3,9 0,9 1,9
-insert_letter 4 4 4 2,3,3,4,9 0,1,0,1,9 3,2,4,1,9
-insert_letter 4 4 1 2,3,3,4,9 0,1,0,1,9 3,2,4,1,9
-insert_letter 7 10 5 1,2,2,3,4,4,5,5,6,7,0 0,0,0,1,1,0,0,0,1,0,0 1,2,9,8,3,4,6,7,5,10,0
-insert_letter 64 1 64 64,7 0,7 1,7
-insert_letter 1 1023 1 1*1023,0 0*1024 1-1023,0
-insert_letter 9 1023 1 9*1023,0 0*1023,7 1-1023,0
-insert_letter 0 0 1 9 9 9
-insert_letter 65 0 1 9 9 9
-insert_letter 4 1025 1 - - -
-insert_letter 4 1025 1 9*1100 9*1100 9*1100
-insert_letter 4 3 1 1,1 0,0,0 1,2,3
-insert_letter 4 3 1 1,1,1 0,0 1,2,3
-insert_letter 4 3 1 1,1,1 0,0,0 1,2
-insert_letter 4 3 1 1,1,1 0,0,0,9 1,2,3,9,9
-insert_letter 4 2 1 1,5,9 0,0,9 1,2,9
-insert_letter 4 2 0 1,2,9 0,0,9 1,2,9
-insert_letter 4 2 5 1,2,9 0,0,9 1,2,9
-insert_letter 4 2 257 1,2,9 0,0,9 1,2,9
-insert_letter 4 2 5 2,1,9 0,0,9 1,2,9
-insert_letter 4 2 5 1,2,9 2,0,9 1,1,9
-insert_letter 4 2 5 0,2,9 0,0,9 1,2,9
-insert_letter 4 3 1 1,3,2,9 0,0,0,9 1,2,3,9
-insert_letter 4 3 1 1,2,2,9 0,0,1,9 1,2,3,9
-insert_letter 4 2 1 1,2,9 1,0,9 1,2,9
-insert_letter 4 2 1 1,2,9 0,2,9 1,2,9
-insert_letter 4 2 1 1,2,9 0,0,9 0,2,9
-insert_letter 4 2 1 1,2,9 0,0,9 1,3,9
-insert_letter 4 2 1 1,2,9 0,0,9 2,2,9
-insert_letter 4 2 1 1,2,9 0,1,9 1,2,9
-insert_letter 4 2 1 1,2,9 0,0,9 2,1,9
-insert_letter 4 1024 1 1*1024 0*1024 1-1024
-insert_letter 4 1024 1 1*1100 0*1100 1-1100
-insert_letter 4 1024 5 1*1024 0*1024 1-1024
-insert_letter 4 2 1 1,2 0,0,9 1,2,9
-insert_letter 4 2 1 1,2,9 0,0 1,2,9
-insert_letter 4 2 1 1,2,9 0,0,9 1,2
-insert_letter 4 0 1 - - -
-insert_letter 4 2 1 1,2 0,1 1,2
-word_of_pair 4 2,3,3,4 0,1,0,1 3,2,4,1 0*4
-word_of_pair 4 2,3,3,4 0,1,0,1 3,2,4,1 9*6
-word_of_pair 7 1,2,2,3,4,4,5,5,5,6,7 0,0,0,1,1,0,0,0,0,1,0 1,2,9,8,3,4,6,7,11,5,10 0*11
-word_of_pair 6 2,2,3,4,4,5,5,5,6 0,0,1,1,0,0,0,0,1 1,4,3,2,5,6,7,9,8 0*9
-word_of_pair 4 3,3,4 0,0,1 2,3,1 0*3
-word_of_pair 4 - - - -
-word_of_pair 4 - - - 9,9
-word_of_pair 1 1*1024 0*1024 1-1024 0*1024
-word_of_pair 65 1 0 1 9
-word_of_pair 4 1*1025 0 1 9
-word_of_pair 4 1,1 0 1,2 9,9
-word_of_pair 4 1,1 0,0 1,2,3 9,9
-word_of_pair 4 1 0*1025 1 9
-word_of_pair 4 1,5 0,0 1,2 9,9
-word_of_pair 4 1,3,2 0,0,0 1,2,3 9*3
-word_of_pair 4 1,2,3 1,0,0 1,2,3 9*3
-word_of_pair 4 1,2,3 0,0,2 1,2,3 9*3
-word_of_pair 4 1,2,2 0,0,1 1,2,3 9*3
-word_of_pair 4 1,2,3 0,0,0 0,2,3 9*3
-word_of_pair 4 1,2,3 0,0,0 1,2,4 9*3
-word_of_pair 4 1,2,3 0,0,0 1,2,1 9*3
-word_of_pair 4 1,2,3 0,1,0 1,2,3 9*3
-word_of_pair 4 1,2,3 0,0,0 1,3,2 9*3
-word_of_pair 4 2,3,3,4 0,1,0,1 3,2,4,1 9*3
-word_of_pair 4 2,1 2,2 0,0 -
-word_of_pair 4 1,2 0,1 1,2 9
+insert_letter 4 0 4 0*4 0*4 0*4 -
+insert_letter 4 1 3 4,0,0,0 0,0,0,0 1,0,0,0 0,0,0,1
+insert_letter 4 2 2 3,4,0,0 0,1,0,0 2,1,0,0 0,0,1,1
+insert_letter 4 3 3 2,3,4,0 0,1,1,0 3,2,1,0 0,1,1,1
+insert_letter 4 3 3 2,3,4,0,9,9 0,1,1,0,9 3,2,1,0,999,999,999 0,1,1,1
+insert_letter 4 1 3 3,9 0,9 1,9 0,0,1
+insert_letter 4 4 4 2,3,3,4,9 0,1,0,1,9 3,2,4,1,9 0,1,2,1
+insert_letter 4 4 1 2,3,3,4,9 0,1,0,1,9 3,2,4,1,9 0,1,2,1
+insert_letter 7 10 5 1,2,2,3,4,4,5,5,6,7,0 0,0,0,1,1,0,0,0,1,0,0 1,2,9,8,3,4,6,7,5,10,0 1,2,1,2,2,1,1
+insert_letter 64 1 64 64,7 0,7 1,7 0*63,1
+insert_letter 1 1023 1 1*1023,0 0*1024 1-1023,0 1023
+insert_letter 9 1023 1 9*1023,0 0*1023,7 1-1023,0 0*8,1023
+insert_letter 0 0 1 9 9 9 -
+insert_letter 65 0 1 9 9 9 -
+insert_letter 4 1025 1 - - - -
+insert_letter 4 1025 1 9*1100 9*1100 9*1100 0*8,1025
+insert_letter 4 3 1 1,1 0,0,0 1,2,3 2
+insert_letter 4 3 1 1,1,1 0,0 1,2,3 3
+insert_letter 4 3 1 1,1,1 0,0,0 1,2 3
+insert_letter 4 3 1 1,1,1 0,0,0,9 1,2,3,9,9 3
+insert_letter 4 2 1 1,5,9 0,0,9 1,2,9 1,0,0,0,1
+insert_letter 4 2 0 1,2,9 0,0,9 1,2,9 1,1
+insert_letter 4 2 5 1,2,9 0,0,9 1,2,9 1,1
+insert_letter 4 2 257 1,2,9 0,0,9 1,2,9 1,1
+insert_letter 4 2 5 2,1,9 0,0,9 1,2,9 1,1
+insert_letter 4 2 5 1,2,9 2,0,9 1,1,9 1,1
+insert_letter 4 2 5 0,2,9 0,0,9 1,2,9 0,1
+insert_letter 4 3 1 1,3,2,9 0,0,0,9 1,2,3,9 1,1,1
+insert_letter 4 3 1 1,2,2,9 0,0,1,9 1,2,3,9 1,2
+insert_letter 4 2 1 1,2,9 1,0,9 1,2,9 1,1
+insert_letter 4 2 1 1,2,9 0,2,9 1,2,9 1,1
+insert_letter 4 2 1 1,2,9 0,0,9 0,2,9 1,1
+insert_letter 4 2 1 1,2,9 0,0,9 1,3,9 1,1
+insert_letter 4 2 1 1,2,9 0,0,9 2,2,9 1,1
+insert_letter 4 2 1 1,2,9 0,1,9 1,2,9 1,1
+insert_letter 4 2 1 1,2,9 0,0,9 2,1,9 1,1
+insert_letter 4 1024 1 1*1024 0*1024 1-1024 1024
+insert_letter 4 1024 1 1*1100 0*1100 1-1100 1024
+insert_letter 4 1024 5 1*1024 0*1024 1-1024 1024
+insert_letter 4 2 1 1,2 0,0,9 1,2,9 1,1
+insert_letter 4 2 1 1,2,9 0,0 1,2,9 1,1
+insert_letter 4 2 1 1,2,9 0,0,9 1,2 1,1
+insert_letter 4 0 1 - - - -
+insert_letter 4 2 1 1,2 0,1 1,2 1,1
+word_of_pair 4 2,3,3,4 0,1,0,1 3,2,4,1 0,1,2,1 0*4
+word_of_pair 4 2,3,3,4 0,1,0,1 3,2,4,1 0,1,2,1 9*6
+word_of_pair 7 1,2,2,3,4,4,5,5,5,6,7 0,0,0,1,1,0,0,0,0,1,0 1,2,9,8,3,4,6,7,11,5,10 1,2,1,2,3,1,1 0*11
+word_of_pair 6 2,2,3,4,4,5,5,5,6 0,0,1,1,0,0,0,0,1 1,4,3,2,5,6,7,9,8 0,2,1,2,3,1 0*9
+word_of_pair 4 3,3,4 0,0,1 2,3,1 0,0,2,1 0*3
+word_of_pair 4 - - - - -
+word_of_pair 4 - - - - 9,9
+word_of_pair 1 1*1024 0*1024 1-1024 1024 0*1024
+word_of_pair 65 1 0 1 1 9
+word_of_pair 4 1*1025 0 1 1025 9
+word_of_pair 4 1,1 0 1,2 2 9,9
+word_of_pair 4 1,1 0,0 1,2,3 2 9,9
+word_of_pair 4 1 0*1025 1 1 9
+word_of_pair 4 1,5 0,0 1,2 1,0,0,0,1 9,9
+word_of_pair 4 1,3,2 0,0,0 1,2,3 1,1,1 9*3
+word_of_pair 4 1,2,3 1,0,0 1,2,3 1,1,1 9*3
+word_of_pair 4 1,2,3 0,0,2 1,2,3 1,1,1 9*3
+word_of_pair 4 1,2,2 0,0,1 1,2,3 1,2 9*3
+word_of_pair 4 1,2,3 0,0,0 0,2,3 1,1,1 9*3
+word_of_pair 4 1,2,3 0,0,0 1,2,4 1,1,1 9*3
+word_of_pair 4 1,2,3 0,0,0 1,2,1 1,1,1 9*3
+word_of_pair 4 1,2,3 0,1,0 1,2,3 1,1,1 9*3
+word_of_pair 4 1,2,3 0,0,0 1,3,2 1,1,1 9*3
+word_of_pair 4 2,3,3,4 0,1,0,1 3,2,4,1 0,1,2,1 9*3
+word_of_pair 4 2,1 2,2 0,0 1,1 -
+word_of_pair 4 1,2 0,1 1,2 1,1 9
 """
 
 TABLEAUX = """
-column_reading 4 2,3,3,4 0,1,0,1 0*4
-column_reading 4 2,3,3,4 0,1,0,1 9*6
-column_reading 7 1,2,2,3,4,4,5,5,5,6,7 0,0,0,1,1,0,0,0,0,1,0 0*11
-column_reading 4 3,3,4 0,0,1 0*3
-column_reading 4 1,2,3,4 0,1,1,1 0*4
-column_reading 4 - - -
-column_reading 4 - - 5
-column_reading 64 1-64 0,1*63 0*64
-column_reading 1 1*1024 0*1024 0*1024
-column_reading 0 - - -
-column_reading 4 1*1025 - -
-column_reading 4 1,2 0 9,9
-column_reading 4 1 0,0 9,9
-column_reading 4 1,0 0,0 9,9
-column_reading 4 2,1 0,0 9,9
-column_reading 4 2,2 0,1 9,9
-column_reading 4 1,2 1,1 9,9
-column_reading 4 1,2 0,3 9,9
-column_reading 4 2,3,3,4 0,1,0,1 9*3
-column_reading 4 2,2 0,1 -
+column_reading 4 2,3,3,4 0,1,0,1 0,1,2,1 0*4
+column_reading 4 2,3,3,4 0,1,0,1 0,1,2,1 9*6
+column_reading 7 1,2,2,3,4,4,5,5,5,6,7 0,0,0,1,1,0,0,0,0,1,0 1,2,1,2,3,1,1 0*11
+column_reading 4 3,3,4 0,0,1 0,0,2,1 0*3
+column_reading 4 1,2,3,4 0,1,1,1 1*4 0*4
+column_reading 4 - - - -
+column_reading 4 - - - 5
+column_reading 64 1-64 0,1*63 1*64 0*64
+column_reading 1 1*1024 0*1024 1024 0*1024
+column_reading 0 - - - -
+column_reading 4 1*1025 - 1025 -
+column_reading 4 1,2 0 1,1 9,9
+column_reading 4 1 0,0 1 9,9
+column_reading 4 1,0 0,0 1 9,9
+column_reading 4 2,1 0,0 1,1 9,9
+column_reading 4 2,2 0,1 0,2 9,9
+column_reading 4 1,2 1,1 1,1 9,9
+column_reading 4 1,2 0,3 1,1 9,9
+column_reading 4 2,3,3,4 0,1,0,1 0,1,2,1 9*3
+column_reading 4 2,2 0,1 0,2 -
 look_once 4 0 2,3,3,4 0,1,0,1
 look_once 4 1 2,3,3,4 0,1,0,1
 look_once 4 2 2,3,3,4 0,1,0,1
@@ -325,159 +326,159 @@ look_once 4 9 5 -
 look_once 4 9 3,5,1 2,2,2
 look_once 4 9 3,1 2,2
 look_once 4 9 3,3 0,1
-raise_tableau 3 2 1,3 0,1
-raise_tableau 3 1 1,2 0,0
-raise_tableau 3 1 1,2 0,1
-raise_tableau 4 2 1,3,3,3 0,1,0,0
-raise_tableau 4 3 2,3,3,4 0,1,0,1
-raise_tableau 4 1 2,3,3,4 0,1,0,1
-raise_tableau 4 2 2,3,3 0,0,0
-raise_tableau 3 2 1,1,3 0,0,1
-raise_tableau 7 6 1,2,2,3,4,4,5,5,5,6,7 0,0,0,1,1,0,0,0,0,1,0
-raise_tableau 4 2 1,1,2,3,3,4 0,0,1,0,0,1
-raise_tableau 4 2 1,2,3,4 0,1,0,1
-raise_tableau 4 1 1*1023,2 0*1024
-raise_tableau 4 2 - -
-raise_tableau 4 2 1,2 0,0
-raise_tableau 4 0 1 0
-raise_tableau 1 1 1 0
-raise_tableau 65 1 1 0
-raise_tableau 4 1 1*1025 0
-raise_tableau 4 1 1,2 0
-raise_tableau 4 9 1,5 0,0
-raise_tableau 4 9 2,1 0,0
-raise_tableau 4 9 2,2 0,1
-lower_tableau 3 1 1,1,3,3 0,0,1,0
-lower_tableau 3 2 1,1,3,3 0,0,1,0
-lower_tableau 4 2 1,2,3 0,1,1
-lower_tableau 3 1 1,3,3 0,1,0
-lower_tableau 7 6 1,2,2,3,4,4,5,5,5,6,7 0,0,0,1,1,0,0,0,0,1,0
-lower_tableau 3 2 1,2,2,3 0,1,0,0
-lower_tableau 4 2 1,1,2,4 0,0,1,0
-lower_tableau 3 2 1,2,2 0,1,0
-lower_tableau 4 4 1 0
-lower_tableau 64 63 63*1024 0*1024
-lower_tableau 0 1 1 0
-lower_tableau 4 1 - 0
-lower_tableau 4 1 1,1,9 0,0,0
-raise_count_tableau 4 2 1,3,3,3 0,1,0,0
-raise_count_tableau 4 2 2,3,3,4 0,1,0,1
-raise_count_tableau 4 2 - -
-raise_count_tableau 4 4 1 0
-raise_count_tableau 4 4 1 9
-raise_count_tableau 4 1 3,2 0,0
-raise_count_tableau 65 1 - -
-lower_count_tableau 3 1 1,1,3,3 0,0,1,0
-lower_count_tableau 3 2 1,1,3,3 0,0,1,0
-lower_count_tableau 4 3 2,3,3,4 0,1,0,1
-lower_count_tableau 4 0 1 0
-lower_count_tableau 4 1 1*1025 0
-lower_count_tableau 4 1 1 -
-lower_count_tableau 4 1 1,5 0,0
+raise_tableau 3 2 1,3 0,1 1,0,1
+raise_tableau 3 1 1,2 0,0 1,1
+raise_tableau 3 1 1,2 0,1 1,1
+raise_tableau 4 2 1,3,3,3 0,1,0,0 1,0,3
+raise_tableau 4 3 2,3,3,4 0,1,0,1 0,1,2,1
+raise_tableau 4 1 2,3,3,4 0,1,0,1 0,1,2,1
+raise_tableau 4 2 2,3,3 0,0,0 0,1,2
+raise_tableau 3 2 1,1,3 0,0,1 2,0,1
+raise_tableau 7 6 1,2,2,3,4,4,5,5,5,6,7 0,0,0,1,1,0,0,0,0,1,0 1,2,1,2,3,1,1
+raise_tableau 4 2 1,1,2,3,3,4 0,0,1,0,0,1 2,1,2,1
+raise_tableau 4 2 1,2,3,4 0,1,0,1 1*4
+raise_tableau 4 1 1*1023,2 0*1024 1023,1
+raise_tableau 4 2 - - -
+raise_tableau 4 2 1,2 0,0 1,1
+raise_tableau 4 0 1 0 1
+raise_tableau 1 1 1 0 1
+raise_tableau 65 1 1 0 1
+raise_tableau 4 1 1*1025 0 1025
+raise_tableau 4 1 1,2 0 1,1
+raise_tableau 4 9 1,5 0,0 1,0,0,0,1
+raise_tableau 4 9 2,1 0,0 1,1
+raise_tableau 4 9 2,2 0,1 0,2
+lower_tableau 3 1 1,1,3,3 0,0,1,0 2,0,2
+lower_tableau 3 2 1,1,3,3 0,0,1,0 2,0,2
+lower_tableau 4 2 1,2,3 0,1,1 1,1,1
+lower_tableau 3 1 1,3,3 0,1,0 1,0,2
+lower_tableau 7 6 1,2,2,3,4,4,5,5,5,6,7 0,0,0,1,1,0,0,0,0,1,0 1,2,1,2,3,1,1
+lower_tableau 3 2 1,2,2,3 0,1,0,0 1,2,1
+lower_tableau 4 2 1,1,2,4 0,0,1,0 2,1,0,1
+lower_tableau 3 2 1,2,2 0,1,0 1,2
+lower_tableau 4 4 1 0 1
+lower_tableau 64 63 63*1024 0*1024 0*62,1024
+lower_tableau 0 1 1 0 1
+lower_tableau 4 1 - 0 -
+lower_tableau 4 1 1,1,9 0,0,0 2,0*7,1
+raise_count_tableau 4 2 1,3,3,3 0,1,0,0 1,0,3
+raise_count_tableau 4 2 2,3,3,4 0,1,0,1 0,1,2,1
+raise_count_tableau 4 2 - - -
+raise_count_tableau 4 4 1 0 1
+raise_count_tableau 4 4 1 9 1
+raise_count_tableau 4 1 3,2 0,0 0,1,1
+raise_count_tableau 65 1 - - -
+lower_count_tableau 3 1 1,1,3,3 0,0,1,0 2,0,2
+lower_count_tableau 3 2 1,1,3,3 0,0,1,0 2,0,2
+lower_count_tableau 4 3 2,3,3,4 0,1,0,1 0,1,2,1
+lower_count_tableau 4 0 1 0 1
+lower_count_tableau 4 1 1*1025 0 1025
+lower_count_tableau 4 1 1 - 1
+lower_count_tableau 4 1 1,5 0,0 1,0,0,0,1
 """
 
 PRODUCTS = """
-product 3 1,3 0,1 2 0 0*3 0*3
-product 3 2 0 1,3 0,1 0*3 0*3
-product 3 1,3 0,0 2 0 0*3 9*3
-product 2 2 0 1 0 0*2 0*2
-product 2 1 0 2 0 0*2 9*2
-product 2 1 0 1 0 0*2 9*2
-product 2 1,2 0,1 1,2 0,1 0*4 0*4
-product 4 2,3,3,4 0,1,0,1 1,2 0,1 0*6 0*6
-product 4 2,3,3,4 0,1,0,1 1,2 0,1 9*9 8*7
-product 4 - - 3,3,4 0,0,1 0*3 9*3
-product 4 3,3,4 0,0,1 - - 0*3 9*3
-product 4 - - - - - -
-product 4 - - - - 7,7 8
-product 7 1,2,2,3,4,4,5,5,5,6,7 0,0,0,1,1,0,0,0,0,1,0 2,3,3,4 0,1,0,1 0*15 0*15
-product 7 2,3,3,4 0,1,0,1 1,2,2,3,4,4,5,5,5,6,7 0,0,0,1,1,0,0,0,0,1,0 9*15 9*15
-product 3 1,2 0,1 3 0 0*3 0*3
-product 3 1 0 2,3 0,1 0*3 0*3
-product 3 1,2 0,0 1,2 0,0 0*4 0*4
-product 3 1,2 0,0 1,2 0,1 0*4 0*4
-product 3 1,2 0,1 1,2 0,0 0*4 0*4
-product 4 1,3,4 0,1,0 2,4 0,1 9*6 9*5
-product 4 2,4 0,1 1,3,4 0,1,0 9*5 9*6
-product 4 1,4 0,1 2,3 0,0 9*4 9*4
-product 4 2,3 0,0 1,4 0,1 9*4 9*4
-product 4 4 0 1 0 9,9 9,9
-product 64 64 0 1 0 9,9 9,9
-product 64 1 0 64 0 9,9 9,9
-product 64 63,64 0,1 1,64 0,1 9*4 9*4
-product 64 1-64 0*64 1-64 0*64 0*128 9*128
-product 64 1-64 0,1*63 1-64 0*64 0*130 9*129
-product 64 1-64 0*64 64 0 0*65 9*65
-product 64 1-63 0,1*62 64 0 0*64 9*64
-product 64 64 0 1-63 0,1*62 0*64 9*64
-product 1 1*512 0*512 1*512 0*512 0*1024 9*1024
-product 4 1*1024 0*1024 - - 0*1024 9*1024
-product 4 - - 4*1024 0*1024 0*1100 9*1025
-product 4 2*600 0*600 1*424 0*424 0*1024 9*1024
-product 4 1*600 0*600 1*425 0*425 9*3 9*3
-product 4 1*1024 0*1024 1 0 9*3 9*3
-product 4 1 0 1*1024 0*1024 9*3 9*3
-product 4 1*1025 0*1025 - - 9*3 9*3
-product 4 - - 1*1025 0*1025 9*3 9*3
-product 4 1*1025 0*1025 1*1025 0*1025 9*3 9*3
-product 0 1 0 2 0 9,9 9,9
-product 65 1 0 2 0 9,9 9,9
-product 260 1 0 2 0 9,9 9,9
-product 0 - - - - - -
-product 4 1,2 0 3 0 9*3 9*3
-product 4 1,2 0,0,0 3 0 9*3 9*3
-product 4 1,2 0,0 3 - 9*3 9*3
-product 4 1,2 0,0 3,3 0 9*4 9*4
-product 4 1,2 0,0 3 0,0 9*3 9*3
-product 4 1,2 0 3 0,0 9*3 9*3
-product 4 - 0 3 0 9 9
-product 4 3 0 - 0 9 9
-product 4 1 0*1025 3 0 9,9 9,9
-product 4 1 0 3 0*1025 9,9 9,9
-product 4 5,3,4 0,0,0 1,2,3 0,0,0 9*6 9*6
-product 4 1,0,4 0,0,0 1,2,3 0,0,0 9*6 9*6
-product 4 1,3,255 0,0,0 1,2,3 0,0,0 9*6 9*6
-product 4 1,3 0,0 5,2,3 0,0,0 9*5 9*5
-product 4 1,3 0,0 1,5,3 0,0,0 9*5 9*5
-product 4 1,3 0,0 1,2,0 0,0,0 9*5 9*5
-product 4 - - 1,2,5 0,0,0 9*3 9*3
-product 4 1,5 0,0 5,2 0,0 9*4 9*4
-product 4 3,2,4 0,0,0 1,2,3 0,0,0 9*6 9*6
-product 4 1,3,2,4 0,0,0,0 1,2,3 0,0,0 9*7 9*7
-product 4 1,2,1 0,0,0 1,2,3 0,0,0 9*6 9*6
-product 4 1,2 0,0 3,2,4 0,0,0 9*5 9*5
-product 4 1,2 0,0 1,3,2,4 0,0,0,0 9*6 9*6
-product 4 1,2 0,0 1,2,1 0,0,0 9*5 9*5
-product 4 - - 2,1 0,0 9*2 9*2
-product 4 2,1 0,0 2,1 0,0 9*4 9*4
-product 4 1,2,3 1,0,0 1,2,3 0,0,0 9*6 9*6
-product 4 1,2,3 0,2,0 1,2,3 0,0,0 9*6 9*6
-product 4 1,2,2 0,0,1 1,2,3 0,0,0 9*6 9*6
-product 4 1,2 0,0 3 1 9*3 9*3
-product 4 1,2 0,0 1,2,3 1,0,0 9*5 9*5
-product 4 1,2 0,0 1,2,2,3 0,0,1,0 9*6 9*6
-product 4 1,2 0,0 1,2,3 0,0,255 9*5 9*5
-product 4 - - 3 1 9 9
-product 4 1,2 0,2 1,2 1,0 9*4 9*4
-product 65 1*600 0*600 1*425 0*425 9 9
-product 65 1,2 0 3 1 9 9
-product 4 1*600 0*599 1*425 0*424 9 9
-product 4 5*600 0*600 5*425 0*425 9 9
-product 4 5 0 3 - 9 9
-product 4 2,1 2,2 5,1 1,1 9 9
-product 4 2,1 2,2 2,1 1,1 9 9
-product 4 2,2 0,1 2,1 1,1 9 9
-product 4 2,2 0,1 2,2 1,1 9 9
-product 4 2,2 0,0 2,2 0,1 - -
-product 4 1,2 0,0 3,5 0,0 - -
-product 4 1,3 0,1 2 0 9*2 9*3
-product 4 1,3 0,1 2 0 9*3 9*2
-product 4 1,3 0,1 2 0 9*2 9
-product 4 1,3 0,1 2 0 9*7 -
-product 4 - - 1 0 - 9
-product 4 1 0 - - 9 -
-product 4 1*512 0*512 1*512 0*512 9*1023 9*1024
-product 4 1*512 0*512 1*512 0*512 9*1024 9*1023
+product 3 1,3 0,1 1,0,1 2 0 0,1 0*3 0*3 7*64
+product 3 2 0 0,1 1,3 0,1 1,0,1 0*3 0*3 7*64
+product 3 1,3 0,0 1,0,1 2 0 0,1 0*3 9*3 7*64
+product 2 2 0 0,1 1 0 1 0*2 0*2 7*64
+product 2 1 0 1 2 0 0,1 0*2 9*2 7*64
+product 2 1 0 1 1 0 1 0*2 9*2 7*64
+product 2 1,2 0,1 1,1 1,2 0,1 1,1 0*4 0*4 7*64
+product 4 2,3,3,4 0,1,0,1 0,1,2,1 1,2 0,1 1,1 0*6 0*6 7*64
+product 4 2,3,3,4 0,1,0,1 0,1,2,1 1,2 0,1 1,1 9*9 8*7 7*64
+product 4 - - - 3,3,4 0,0,1 0,0,2,1 0*3 9*3 7*64
+product 4 3,3,4 0,0,1 0,0,2,1 - - - 0*3 9*3 7*64
+product 4 - - - - - - - - 7*64
+product 4 - - - - - - 7,7 8 7*64
+product 7 1,2,2,3,4,4,5,5,5,6,7 0,0,0,1,1,0,0,0,0,1,0 1,2,1,2,3,1,1 2,3,3,4 0,1,0,1 0,1,2,1 0*15 0*15 7*64
+product 7 2,3,3,4 0,1,0,1 0,1,2,1 1,2,2,3,4,4,5,5,5,6,7 0,0,0,1,1,0,0,0,0,1,0 1,2,1,2,3,1,1 9*15 9*15 7*64
+product 3 1,2 0,1 1,1 3 0 0,0,1 0*3 0*3 7*64
+product 3 1 0 1 2,3 0,1 0,1,1 0*3 0*3 7*64
+product 3 1,2 0,0 1,1 1,2 0,0 1,1 0*4 0*4 7*64
+product 3 1,2 0,0 1,1 1,2 0,1 1,1 0*4 0*4 7*64
+product 3 1,2 0,1 1,1 1,2 0,0 1,1 0*4 0*4 7*64
+product 4 1,3,4 0,1,0 1,0,1,1 2,4 0,1 0,1,0,1 9*6 9*5 7*64
+product 4 2,4 0,1 0,1,0,1 1,3,4 0,1,0 1,0,1,1 9*5 9*6 7*64
+product 4 1,4 0,1 1,0,0,1 2,3 0,0 0,1,1 9*4 9*4 7*64
+product 4 2,3 0,0 0,1,1 1,4 0,1 1,0,0,1 9*4 9*4 7*64
+product 4 4 0 0,0,0,1 1 0 1 9,9 9,9 7*64
+product 64 64 0 0*63,1 1 0 1 9,9 9,9 7*64
+product 64 1 0 1 64 0 0*63,1 9,9 9,9 7*64
+product 64 63,64 0,1 0*62,1,1 1,64 0,1 1,0*62,1 9*4 9*4 7*64
+product 64 1-64 0*64 1*64 1-64 0*64 1*64 0*128 9*128 7*64
+product 64 1-64 0,1*63 1*64 1-64 0*64 1*64 0*130 9*129 7*64
+product 64 1-64 0*64 1*64 64 0 0*63,1 0*65 9*65 7*64
+product 64 1-63 0,1*62 1*63 64 0 0*63,1 0*64 9*64 7*64
+product 64 64 0 0*63,1 1-63 0,1*62 1*63 0*64 9*64 7*64
+product 1 1*512 0*512 512 1*512 0*512 512 0*1024 9*1024 7*64
+product 4 1*1024 0*1024 1024 - - - 0*1024 9*1024 7*64
+product 4 - - - 4*1024 0*1024 0,0,0,1024 0*1100 9*1025 7*64
+product 4 2*600 0*600 0,600 1*424 0*424 424 0*1024 9*1024 7*64
+product 4 1*600 0*600 600 1*425 0*425 425 9*3 9*3 7*64
+product 4 1*1024 0*1024 1024 1 0 1 9*3 9*3 7*64
+product 4 1 0 1 1*1024 0*1024 1024 9*3 9*3 7*64
+product 4 1*1025 0*1025 1025 - - - 9*3 9*3 7*64
+product 4 - - - 1*1025 0*1025 1025 9*3 9*3 7*64
+product 4 1*1025 0*1025 1025 1*1025 0*1025 1025 9*3 9*3 7*64
+product 0 1 0 1 2 0 0,1 9,9 9,9 7*64
+product 65 1 0 1 2 0 0,1 9,9 9,9 7*64
+product 260 1 0 1 2 0 0,1 9,9 9,9 7*64
+product 0 - - - - - - - - 7*64
+product 4 1,2 0 1,1 3 0 0,0,1 9*3 9*3 7*64
+product 4 1,2 0,0,0 1,1 3 0 0,0,1 9*3 9*3 7*64
+product 4 1,2 0,0 1,1 3 - 0,0,1 9*3 9*3 7*64
+product 4 1,2 0,0 1,1 3,3 0 0,0,2 9*4 9*4 7*64
+product 4 1,2 0,0 1,1 3 0,0 0,0,1 9*3 9*3 7*64
+product 4 1,2 0 1,1 3 0,0 0,0,1 9*3 9*3 7*64
+product 4 - 0 - 3 0 0,0,1 9 9 7*64
+product 4 3 0 0,0,1 - 0 - 9 9 7*64
+product 4 1 0*1025 1 3 0 0,0,1 9,9 9,9 7*64
+product 4 1 0 1 3 0*1025 0,0,1 9,9 9,9 7*64
+product 4 5,3,4 0,0,0 0,0,1,1,1 1,2,3 0,0,0 1,1,1 9*6 9*6 7*64
+product 4 1,0,4 0,0,0 1,0,0,1 1,2,3 0,0,0 1,1,1 9*6 9*6 7*64
+product 4 1,3,255 0,0,0 1,0,1 1,2,3 0,0,0 1,1,1 9*6 9*6 7*64
+product 4 1,3 0,0 1,0,1 5,2,3 0,0,0 0,1,1,0,1 9*5 9*5 7*64
+product 4 1,3 0,0 1,0,1 1,5,3 0,0,0 1,0,1,0,1 9*5 9*5 7*64
+product 4 1,3 0,0 1,0,1 1,2,0 0,0,0 1,1 9*5 9*5 7*64
+product 4 - - - 1,2,5 0,0,0 1,1,0,0,1 9*3 9*3 7*64
+product 4 1,5 0,0 1,0,0,0,1 5,2 0,0 0,1,0,0,1 9*4 9*4 7*64
+product 4 3,2,4 0,0,0 0,1,1,1 1,2,3 0,0,0 1,1,1 9*6 9*6 7*64
+product 4 1,3,2,4 0,0,0,0 1*4 1,2,3 0,0,0 1,1,1 9*7 9*7 7*64
+product 4 1,2,1 0,0,0 2,1 1,2,3 0,0,0 1,1,1 9*6 9*6 7*64
+product 4 1,2 0,0 1,1 3,2,4 0,0,0 0,1,1,1 9*5 9*5 7*64
+product 4 1,2 0,0 1,1 1,3,2,4 0,0,0,0 1*4 9*6 9*6 7*64
+product 4 1,2 0,0 1,1 1,2,1 0,0,0 2,1 9*5 9*5 7*64
+product 4 - - - 2,1 0,0 1,1 9*2 9*2 7*64
+product 4 2,1 0,0 1,1 2,1 0,0 1,1 9*4 9*4 7*64
+product 4 1,2,3 1,0,0 1,1,1 1,2,3 0,0,0 1,1,1 9*6 9*6 7*64
+product 4 1,2,3 0,2,0 1,1,1 1,2,3 0,0,0 1,1,1 9*6 9*6 7*64
+product 4 1,2,2 0,0,1 1,2 1,2,3 0,0,0 1,1,1 9*6 9*6 7*64
+product 4 1,2 0,0 1,1 3 1 0,0,1 9*3 9*3 7*64
+product 4 1,2 0,0 1,1 1,2,3 1,0,0 1,1,1 9*5 9*5 7*64
+product 4 1,2 0,0 1,1 1,2,2,3 0,0,1,0 1,2,1 9*6 9*6 7*64
+product 4 1,2 0,0 1,1 1,2,3 0,0,255 1,1,1 9*5 9*5 7*64
+product 4 - - - 3 1 0,0,1 9 9 7*64
+product 4 1,2 0,2 1,1 1,2 1,0 1,1 9*4 9*4 7*64
+product 65 1*600 0*600 600 1*425 0*425 425 9 9 7*64
+product 65 1,2 0 1,1 3 1 0,0,1 9 9 7*64
+product 4 1*600 0*599 600 1*425 0*424 425 9 9 7*64
+product 4 5*600 0*600 0*4,600 5*425 0*425 0*4,425 9 9 7*64
+product 4 5 0 0*4,1 3 - 0,0,1 9 9 7*64
+product 4 2,1 2,2 1,1 5,1 1,1 1,0,0,0,1 9 9 7*64
+product 4 2,1 2,2 1,1 2,1 1,1 1,1 9 9 7*64
+product 4 2,2 0,1 0,2 2,1 1,1 1,1 9 9 7*64
+product 4 2,2 0,1 0,2 2,2 1,1 0,2 9 9 7*64
+product 4 2,2 0,0 0,2 2,2 0,1 0,2 - - 7*64
+product 4 1,2 0,0 1,1 3,5 0,0 0,0,1,0,1 - - 7*64
+product 4 1,3 0,1 1,0,1 2 0 0,1 9*2 9*3 7*64
+product 4 1,3 0,1 1,0,1 2 0 0,1 9*3 9*2 7*64
+product 4 1,3 0,1 1,0,1 2 0 0,1 9*2 9 7*64
+product 4 1,3 0,1 1,0,1 2 0 0,1 9*7 - 7*64
+product 4 - - - 1 0 1 - 9 7*64
+product 4 1 0 1 - - - 9 - 7*64
+product 4 1*512 0*512 512 1*512 0*512 512 9*1023 9*1024 7*64
+product 4 1*512 0*512 512 1*512 0*512 512 9*1024 9*1023 7*64
 """
 
 NO_WORDS = """
@@ -490,7 +491,7 @@ no_such_operation 1 2 3
 
 TABLES = {
     "word_operations": (WORDS, COMPARISONS, WORD_LINES, *CLASS_CALLS, NO_WORDS),
-    "ribbon_operations": (RIBBONS, PAIRS, TABLEAUX, PRODUCTS, RIBBON_LINES, NO_RIBBONS),
+    "ribbon_operations": (RIBBONS, PAIRS, TABLEAUX, PRODUCTS, RIBBON_LINES, *COUNT_CALLS, NO_RIBBONS),
 }
 
 

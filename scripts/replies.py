@@ -20,11 +20,14 @@ OPERATIONS = {
     "same_class": lambda n, v, m, w: meaning.same_class(n, m, v, w),
     "compare_weights": lambda n, v, m, w: meaning.compare_weights(n, m, v, w),
     "check_tableau": meaning.check_tableau,
+    "check_counted_tableau": meaning.check_counted_tableau,
     "column_reading": meaning.column_reading,
     "raise_tableau": lambda *a: meaning.move_tableau(True, *a),
     "lower_tableau": lambda *a: meaning.move_tableau(False, *a),
     "raise_count_tableau": lambda *a: meaning.count_tableau(True, *a),
     "lower_count_tableau": lambda *a: meaning.count_tableau(False, *a),
+    "same_class_of_tableaux": lambda n, *a: meaning.same_class_of_tableaux(n, a[3], *a[:3], *a[4:]),
+    "compare_weights_of_tableaux": lambda n, *a: meaning.compare_weights_of_tableaux(n, a[3], *a[:3], *a[4:]),
     "look": lambda rank, letters, marks, place: found(meaning.look_once(rank, place, letters, marks)),
     "cell_at": lambda *a: found(meaning.cell_at(*a)),
     "product": meaning.product,
@@ -32,6 +35,7 @@ OPERATIONS = {
     "class_word": class_numbers.class_word,
     "class_number": class_numbers.class_number,
     "check_pair": meaning.check_pair,
+    "check_counted_pair": meaning.check_counted_pair,
     "insert_letter": meaning.insert_letter,
     "word_of_pair": meaning.word_of_pair,
     "tableau_line_of_word": lines.tableau_line_of_word,
@@ -46,13 +50,15 @@ OPERATIONS = {
     "answer": lines.answer,
 }
 
-# By function: the values that it can answer with, where they are few, and the same of two words whose ranks differ; those of `answer` are the refusals in
-# its E lines, 0 for four lines.
+# By function: the values that it can answer with, where they are few, and the same of two words or tableaux whose ranks differ; those of `answer` are the
+# refusals in its E lines, 0 for four lines.
 TWO_RANKS = " of two ranks"
+SAME, ORDER = ("same", [0, 1]), ("order", [0, 1, 2, 3])
 FEW = {
-    "same_class": ("same", [0, 1]), "same_class" + TWO_RANKS: ("same", [0, 1]), "compare_weights": ("order", [0, 1, 2, 3]),
-    "compare_weights" + TWO_RANKS: ("order", [0, 1, 2, 3]), "look": ("found", [0, 1]), "cell_at": ("found", [0, 1]),
-    "answer": ("refusal", [0, 1, 2, 4, 14]),
+    "same_class": SAME, "same_class" + TWO_RANKS: SAME, "compare_weights": ORDER, "compare_weights" + TWO_RANKS: ORDER,
+    "same_class_of_tableaux": SAME, "same_class_of_tableaux" + TWO_RANKS: SAME,
+    "compare_weights_of_tableaux": ORDER, "compare_weights_of_tableaux" + TWO_RANKS: ORDER,
+    "look": ("found", [0, 1]), "cell_at": ("found", [0, 1]), "answer": ("refusal", [0, 1, 2, 4, 14]),
 }
 
 
