@@ -11,6 +11,10 @@
  *   tableau   its cells in ribbon order, from the top left to the bottom right: their letters, and for each cell a
  *             mark, the step into it: 0 right, 1 down. The mark at place 0 is 0. Letters never fall along the ribbon,
  *             and a step down joins a smaller letter to a larger one.
+ *   counts    how often each letter occurs in a tableau: 64 numbers of 16 bits, that of letter a at place a - 1. They
+ *             are stored with the tableau, and stand after its marks, in a pair after the entries. A function that
+ *             gives a tableau gives its counts; one that takes a tableau takes and judges them (17), but for the writer
+ *             of T lines, luchtrav_look, luchtrav_cell_at, and the checks without 'counted' in their names.
  *   recording its entries in ribbon order, 16 bits each: 1 to L, each once, rising at a step right and falling at a
  *             step down. Tableau and recording of one shape are a pair; each pair is that of one word.
  *   line      a text that ends in one line feed, its fields parted by commas, numbers in decimal:
@@ -27,24 +31,27 @@
  *
  * BUFFERS
  *   A buffer is a pointer followed by the number of its elements (elements, not bytes: entries have 16 bits). The
- *   pointer may be NULL where the number is 0. A buffer without 'const' is lent for writing.
+ *   pointer may be NULL where the number is 0. A buffer without 'const' is lent for writing. Counts are a pointer alone
+ *   and always have LUCHTRAV_COUNTS elements.
  *   - Buffers of one call must not overlap, unless both are 'const'.
  *   - With each function stands how many elements its outputs need; shorter ones are refused with 13. A result fills
- *     the first elements of a buffer; those after it keep their values, and are not looked at.
+ *     the first elements of a buffer; those after it keep their values, and are not looked at. Of counts that are given
+ *     all 64 are written, whatever they held. Insertion and moves change the counts that they take.
  *   - After a refusal every buffer holds what it held before the call.
  *   - 1, 2 and 3 (below) are judged by the numbers of the call, before memory: where one of them refuses, no buffer
  *     is read or written, whatever its pointer and its number. A number of (size_t)-1 is refused like 1,025, and so are
  *     two tableaux that have more than 1,024 cells together, also where that sum fits no size_t. A reader of lines
  *     finds its numbers in the text, which it reads. (What is not read is tested, not proved.)
- *   - NULL with a number above 0 is memory that is not there. Where 1, 2 or 3 refuses it is not looked at. Any other
- *     call with it is outside of what is promised here, and most likely ends the program by a fault.
+ *   - NULL with a number above 0, and NULL for counts, is memory that is not there. Where 1, 2 or 3 refuses it is not
+ *     looked at. Any other call with it is outside of what is promised here, and most likely ends the program by a
+ *     fault.
  *   - Nothing is kept after a call, and nothing is allocated: a call needs up to 40,000 bytes of stack.
  *   - Any function may be called from any thread at any time, each call with its own buffers.
  *
  * REPLIES
  *   Every reply begins with a number and a place. Number 0 is success, with place 0, and the values follow. Any other
  *   number refuses the input; the values are 0 then. The checks run in rising number, except that 14 comes first, and
- *   15 and 16 directly after 6, each over the whole input, and the first that fails is the reply:
+ *   17, 15 and 16 directly after 6, each over the whole input, and the first that fails is the reply:
  *
  *    number and name            place       what luchtrav_refusal_text says of it
  *     0 LUCHTRAV_OK             0           success
@@ -64,13 +71,15 @@
  *    14 LUCHTRAV_BAD_LINE       byte        byte that breaks the grammar of the line, or a line that ends early
  *    15 LUCHTRAV_TOO_LARGE      0           more than 20 cells or letters, where a class is counted
  *    16 LUCHTRAV_PAST_LAST      0           number not below the size of the class
+ *    17 LUCHTRAV_BAD_COUNT      first such  count that is not how often its letter occurs
  *
  *   Of two words or two tableaux each check searches the first, then the second, and places in the second count on from
- *   the first's length. 2 judges each word by itself, and the cells of two tableaux together. The letter to be inserted
- *   has the used count as its place. The place of 13 is the number of elements that the output needs; the first that is
- *   too short in the order letters, marks, entries. The place of 14 is that of the first byte that breaks the grammar,
- *   or the text's length; where a line is read, all other places are those of letters or entries. With each function
- *   stand the numbers that it can refuse with, in order.
+ *   the first's length. 2 judges each by itself, but the cells of a product's factors together. The letter to be
+ *   inserted has the used count as its place. The place of 13 is the number of elements that the output needs; the
+ *   first that is too short in the order letters, marks, entries. The place of 14 is that of the first byte that breaks
+ *   the grammar, or the text's length; where a line is read, all other places are those of letters or entries. The
+ *   place of 17 is the letter minus 1, in a second tableau 64 more; a letter above the rank has the count 0. With each
+ *   function stand the numbers that it can refuse with, in order.
  *
  * EXAMPLE
  *   The tableau of 4323 at rank 4, its steps in words. It prints '2 down 3 right 3 down 4'.
@@ -79,7 +88,8 @@
  *     #include "luchtrav.h"
  *     int main(void) {
  *         uint8_t word[] = {4, 3, 2, 3}, letters[4], marks[4];
- *         luchtrav_count t = luchtrav_tableau_of_word(4, word, 4, letters, 4, marks, 4);
+ *         uint16_t counts[LUCHTRAV_COUNTS];
+ *         luchtrav_count t = luchtrav_tableau_of_word(4, word, 4, letters, 4, marks, 4, counts);
  *         if (t.number != LUCHTRAV_OK) return printf("place %zu: %s\n", t.place, luchtrav_refusal_text(t.number)), 1;
  *         for (size_t i = 0; i < t.count; i++)
  *             printf("%s%d", i == 0 ? "" : marks[i] ? " down " : " right ", letters[i]);
@@ -107,13 +117,16 @@ extern "C" {
 
 /* The version; and the number at the end of the shared library's name, which goes one up whenever a program must be
  * compiled anew to run with the library. */
-#define LUCHTRAV_VERSION "0.6.0"
-#define LUCHTRAV_INTERFACE 1
+#define LUCHTRAV_VERSION "0.7.0"
+#define LUCHTRAV_INTERFACE 2
 
 /* The limits; the last is that of letters or cells where a class is counted. */
 #define LUCHTRAV_RANKS 64
 #define LUCHTRAV_LETTERS 1024
 #define LUCHTRAV_COUNTED 20
+
+/* The elements of letter counts. */
+#define LUCHTRAV_COUNTS 64
 
 /* Bytes that are always enough for one line, whatever its kind, and for an answer of luchtrav_answer. The longest
  * lines, line feed included: T 5,128 bytes and W 3,082 (1,024 letters of two digits), N 4,020 (1,024 entries), J 25
@@ -140,7 +153,8 @@ enum luchtrav_refusal {
     LUCHTRAV_NO_ROOM = 13,
     LUCHTRAV_BAD_LINE = 14,
     LUCHTRAV_TOO_LARGE = 15,
-    LUCHTRAV_PAST_LAST = 16
+    LUCHTRAV_PAST_LAST = 16,
+    LUCHTRAV_BAD_COUNT = 17
 };
 
 /* What the table says of a number, and "no such number" of one that is not in it; never NULL. It is C of this header
@@ -164,11 +178,13 @@ static inline const char *luchtrav_refusal_text(size_t number) {
     case LUCHTRAV_BAD_LINE: return "byte that breaks the grammar of the line, or a line that ends early";
     case LUCHTRAV_TOO_LARGE: return "more than 20 cells or letters, where a class is counted";
     case LUCHTRAV_PAST_LAST: return "number not below the size of the class";
+    case LUCHTRAV_BAD_COUNT: return "count that is not how often its letter occurs";
     default: return "no such number";
     }
 }
 
-/* What luchtrav_compare_weights says of the first word against the second. */
+/* What luchtrav_compare_weights says of the first word against the second, or luchtrav_compare_weights_of_tableaux of
+ * the first tableau. */
 enum { LUCHTRAV_EQUAL = 0, LUCHTRAV_LOWER = 1, LUCHTRAV_HIGHER = 2, LUCHTRAV_NEITHER = 3 };
 
 /* A check that passed. */
@@ -232,11 +248,11 @@ typedef struct {
  * Refuses 1 2 4. */
 luchtrav_done luchtrav_check_word(size_t rank, const uint8_t *word, size_t word_count);
 
-/* The quasi-ribbon tableau of a word by Krob-Thibon insertion; count is the cells written.
+/* The quasi-ribbon tableau of a word by Krob-Thibon insertion, with its counts; count is the cells written.
  * Needs word_count elements in letters and as many in marks. Refuses 1 2 4 13. */
 luchtrav_count luchtrav_tableau_of_word(size_t rank, const uint8_t *word, size_t word_count,
                                         uint8_t *letters, size_t letters_count,
-                                        uint8_t *marks, size_t marks_count);
+                                        uint8_t *marks, size_t marks_count, uint16_t *counts);
 
 /* The recording ribbon of a word; count is the entries written.
  * Needs word_count elements in entries. Refuses 1 2 4 13. */
@@ -285,36 +301,65 @@ luchtrav_order luchtrav_compare_weights(size_t first_rank, const uint8_t *first,
 luchtrav_done luchtrav_check_tableau(size_t rank, const uint8_t *letters, size_t letters_count,
                                      const uint8_t *marks, size_t marks_count);
 
+/* The same with counts: whether a stored tableau can be given to every function of its rank.
+ * Refuses 1 2 3 4 5 6 17. */
+luchtrav_done luchtrav_check_counted_tableau(size_t rank, const uint8_t *letters, size_t letters_count,
+                                             const uint8_t *marks, size_t marks_count, const uint16_t *counts);
+
 /* The column reading: columns from left to right, each from bottom to top; count is the letters written.
- * Needs letters_count elements in word. Refuses 1 2 3 4 5 6 13. */
+ * Needs letters_count elements in word. Refuses 1 2 3 4 5 6 17 13. */
 luchtrav_count luchtrav_column_reading(size_t rank, const uint8_t *letters, size_t letters_count,
-                                       const uint8_t *marks, size_t marks_count,
+                                       const uint8_t *marks, size_t marks_count, const uint16_t *counts,
                                        uint8_t *word, size_t word_count);
 
 /* Raising of a tableau turns the first index + 1 of the lent letters into index; changed is that cell's place, and the
  * marks stay. It is not defined where index + 1 stands directly below index (10), or where there is no index + 1 (11).
  * A move is defined on both a word and its tableau or on neither, and the recording entry of the changed cell is the
  * word's changed place plus 1.
- * Changes one of the letters. Refuses 1 2 3 4 5 6 9 10 11. */
+ * Changes one of the letters and two of the counts: that of index + 1 is one less, that of index one more.
+ * Refuses 1 2 3 4 5 6 17 9 10 11. */
 luchtrav_move luchtrav_raise_tableau(size_t rank, size_t index, uint8_t *letters, size_t letters_count,
-                                     const uint8_t *marks, size_t marks_count);
+                                     const uint8_t *marks, size_t marks_count, uint16_t *counts);
 
 /* Lowering of a tableau turns the last index of the lent letters into index + 1; changed is that cell's place, and the
  * marks stay. It is not defined where index + 1 stands directly below index (10), or where there is no index (11). The
  * changed places of word and tableau belong together as in raising.
- * Changes one of the letters. Refuses 1 2 3 4 5 6 9 10 11. */
+ * Changes one of the letters and two of the counts: that of index is one less, that of index + 1 one more.
+ * Refuses 1 2 3 4 5 6 17 9 10 11. */
 luchtrav_move luchtrav_lower_tableau(size_t rank, size_t index, uint8_t *letters, size_t letters_count,
-                                     const uint8_t *marks, size_t marks_count);
+                                     const uint8_t *marks, size_t marks_count, uint16_t *counts);
 
 /* count is how often raising can be done, one time after the other: 0 where it is not defined.
- * Refuses 1 2 3 4 5 6 9. */
+ * Refuses 1 2 3 4 5 6 17 9. */
 luchtrav_count luchtrav_raise_count_tableau(size_t rank, size_t index, const uint8_t *letters, size_t letters_count,
-                                            const uint8_t *marks, size_t marks_count);
+                                            const uint8_t *marks, size_t marks_count, const uint16_t *counts);
 
 /* count is how often lowering can be done, one time after the other: 0 where it is not defined.
- * Refuses 1 2 3 4 5 6 9. */
+ * Refuses 1 2 3 4 5 6 17 9. */
 luchtrav_count luchtrav_lower_count_tableau(size_t rank, size_t index, const uint8_t *letters, size_t letters_count,
-                                            const uint8_t *marks, size_t marks_count);
+                                            const uint8_t *marks, size_t marks_count, const uint16_t *counts);
+
+/* Whether two tableaux are of one class of the hypoplactic monoid, whatever their ranks: luchtrav_same_class says the
+ * same of their column readings, or of any two words that have them. It is told from their marks and counts.
+ * Refuses 1 2 3 4 5 6 17, each over both tableaux. */
+luchtrav_class luchtrav_same_class_of_tableaux(size_t first_rank,
+                                               const uint8_t *first_letters, size_t first_letters_count,
+                                               const uint8_t *first_marks, size_t first_marks_count,
+                                               const uint16_t *first_counts, size_t second_rank,
+                                               const uint8_t *second_letters, size_t second_letters_count,
+                                               const uint8_t *second_marks, size_t second_marks_count,
+                                               const uint16_t *second_counts);
+
+/* The order of two tableaux' weights, whatever their ranks and cells: luchtrav_compare_weights says the same of their
+ * column readings. It is told from their counts.
+ * Refuses 1 2 3 4 5 6 17, each over both tableaux. */
+luchtrav_order luchtrav_compare_weights_of_tableaux(size_t first_rank,
+                                                    const uint8_t *first_letters, size_t first_letters_count,
+                                                    const uint8_t *first_marks, size_t first_marks_count,
+                                                    const uint16_t *first_counts, size_t second_rank,
+                                                    const uint8_t *second_letters, size_t second_letters_count,
+                                                    const uint8_t *second_marks, size_t second_marks_count,
+                                                    const uint16_t *second_counts);
 
 /* A cell's letter, row and column, rows and columns from 0; past the last cell found is 0. The whole tableau is checked
  * first.
@@ -331,31 +376,32 @@ luchtrav_cell luchtrav_cell_at(const uint8_t *letters, size_t letters_count,
 
 /* The product of two tableaux of one rank: the tableau of the first's column reading followed by the second's. Any word
  * of the first's class followed by any word of the second's has this tableau, so that classes are multiplied without a
- * word; count is the cells written. Each factor begins a ribbon of its own: its first mark is 0, and the first may end
- * in a larger letter than the second begins with. Both factors may be the same buffers, for a square; letters and
- * marks must not overlap them. A factor without cells changes nothing.
+ * word; count is the cells written, and each of the counts is the sum of the factors'. Each factor begins a ribbon of
+ * its own: its first mark is 0, and the first may end in a larger letter than the second begins with. Both factors may
+ * be the same buffers, for a square; letters, marks and counts must not overlap them. A factor without cells changes
+ * nothing.
  * Needs as many elements in letters, and in marks, as the two factors have cells together.
- * Refuses 1 2 3 4 5 6 13; of the factors the first before the second. */
+ * Refuses 1 2 3 4 5 6 17 13; of the factors the first before the second. */
 luchtrav_count luchtrav_product(size_t rank, const uint8_t *first_letters, size_t first_letters_count,
-                                const uint8_t *first_marks, size_t first_marks_count,
+                                const uint8_t *first_marks, size_t first_marks_count, const uint16_t *first_counts,
                                 const uint8_t *second_letters, size_t second_letters_count,
-                                const uint8_t *second_marks, size_t second_marks_count,
+                                const uint8_t *second_marks, size_t second_marks_count, const uint16_t *second_counts,
                                 uint8_t *letters, size_t letters_count,
-                                uint8_t *marks, size_t marks_count);
+                                uint8_t *marks, size_t marks_count, uint16_t *counts);
 
 /* ---- classes ------------------------------------------------------------------------------------------------- */
 
 /* How many words have this tableau, of at most 20 cells; value is that size, 1 at least and below 2^63. The tableau
  * without cells has one word, the empty one. The rank bounds the letters, and changes nothing else here.
- * Refuses 1 2 3 4 5 6 15. */
+ * Refuses 1 2 3 4 5 6 17 15. */
 luchtrav_value luchtrav_class_size(size_t rank, const uint8_t *letters, size_t letters_count,
-                                   const uint8_t *marks, size_t marks_count);
+                                   const uint8_t *marks, size_t marks_count, const uint16_t *counts);
 
 /* The word with a number, of those that have this tableau: number 0 is the first of them in dictionary order, the size
  * less 1 the last; count is the letters written. A larger number is a later word.
- * Needs letters_count elements in word. Refuses 1 2 3 4 5 6 15 16 13. */
+ * Needs letters_count elements in word. Refuses 1 2 3 4 5 6 17 15 16 13. */
 luchtrav_count luchtrav_class_word(size_t rank, const uint8_t *letters, size_t letters_count,
-                                   const uint8_t *marks, size_t marks_count, uint64_t number,
+                                   const uint8_t *marks, size_t marks_count, const uint16_t *counts, uint64_t number,
                                    uint8_t *word, size_t word_count);
 
 /* The number of a word, of at most 20 letters, among the words that have its tableau; value is that number. It is the
@@ -371,19 +417,27 @@ luchtrav_done luchtrav_check_pair(size_t rank, const uint8_t *letters, size_t le
                                   const uint8_t *marks, size_t marks_count,
                                   const uint16_t *entries, size_t entries_count);
 
+/* The same with counts: whether a stored pair can be given to every function of its rank.
+ * Refuses 1 2 3 4 5 6 17 7 8. */
+luchtrav_done luchtrav_check_counted_pair(size_t rank, const uint8_t *letters, size_t letters_count,
+                                          const uint8_t *marks, size_t marks_count,
+                                          const uint16_t *entries, size_t entries_count, const uint16_t *counts);
+
 /* One letter into the pair that stands in the first 'used' elements of the three buffers, which may be longer, each
- * by itself; count is the new used count.
- * Needs used + 1 elements in each of the three. Refuses 1 2 3 4 5 6 7 8 12 13. */
+ * by itself; count is the new used count. The counts are those of the used letters: 64 times 0 before the first
+ * insertion.
+ * Changes one of the counts: that of the letter is one more. Needs used + 1 elements in each of the three buffers.
+ * Refuses 1 2 3 4 5 6 17 7 8 12 13. */
 luchtrav_count luchtrav_insert_letter(size_t rank, size_t used, size_t letter,
                                       uint8_t *letters, size_t letters_count,
                                       uint8_t *marks, size_t marks_count,
-                                      uint16_t *entries, size_t entries_count);
+                                      uint16_t *entries, size_t entries_count, uint16_t *counts);
 
 /* The one word whose pair this is; count is the letters written.
- * Needs letters_count elements in word. Refuses 1 2 3 4 5 6 7 8 13. */
+ * Needs letters_count elements in word. Refuses 1 2 3 4 5 6 17 7 8 13. */
 luchtrav_count luchtrav_word_of_pair(size_t rank, const uint8_t *letters, size_t letters_count,
                                      const uint8_t *marks, size_t marks_count,
-                                     const uint16_t *entries, size_t entries_count,
+                                     const uint16_t *entries, size_t entries_count, const uint16_t *counts,
                                      uint8_t *word, size_t word_count);
 
 /* ---- lines --------------------------------------------------------------------------------------------------- */
@@ -399,7 +453,7 @@ luchtrav_count luchtrav_tableau_line_of_word(size_t rank, const uint8_t *word, s
 luchtrav_count luchtrav_write_word_line(size_t rank, const uint8_t *word, size_t word_count,
                                         uint8_t *out, size_t out_count);
 
-/* The T line of a tableau; count is the bytes written.
+/* The T line of a tableau, which has no counts; count is the bytes written.
  * Needs the bytes of the line in out, 5,128 at most. Refuses 1 2 3 4 5 6 13. */
 luchtrav_count luchtrav_write_tableau_line(size_t rank, const uint8_t *letters, size_t letters_count,
                                            const uint8_t *marks, size_t marks_count,
@@ -424,12 +478,12 @@ luchtrav_count luchtrav_write_refusal_line(size_t number, size_t place, uint8_t 
 luchtrav_line luchtrav_read_word_line(const uint8_t *text, size_t text_count,
                                       uint8_t *letters, size_t letters_count);
 
-/* A whole T line, line feed included and nothing after it, as a tableau; count is the cells written.
+/* A whole T line, line feed included and nothing after it, as a tableau with its counts; count is the cells written.
  * Needs as many elements in letters, and in marks, as the line has cells, LUCHTRAV_LETTERS at most.
  * Refuses 14 1 2 4 5 6 13. */
 luchtrav_line luchtrav_read_tableau_line(const uint8_t *text, size_t text_count,
                                          uint8_t *letters, size_t letters_count,
-                                         uint8_t *marks, size_t marks_count);
+                                         uint8_t *marks, size_t marks_count, uint16_t *counts);
 
 /* A whole N line, line feed included and nothing after it, as a recording ribbon, which is judged alone; count is the
  * entries written.

@@ -1,5 +1,5 @@
 /* What include/luchtrav.h says beside its functions: names and texts of the refusal numbers, the longest lines, the
- * places that moves change, words of two ranks, words of a class by number, NULL.
+ * places that moves change, words of two ranks, words of a class by number, letter counts, NULL.
  *
  * Prints the table of refusals as the names and luchtrav_refusal_text have it, for scripts/packages_c to hold against
  * the table of the header's opening comment. Fails where something else is not as the header says.
@@ -9,7 +9,7 @@
 
 #include "luchtrav.h"
 
-enum { RANK = LUCHTRAV_RANKS, L = LUCHTRAV_LETTERS };
+enum { RANK = LUCHTRAV_RANKS, L = LUCHTRAV_LETTERS, COUNTS = LUCHTRAV_COUNTS };
 
 static size_t wrong;
 
@@ -29,7 +29,7 @@ static const struct {
     NAMED(LUCHTRAV_BAD_LETTER), NAMED(LUCHTRAV_FALLS), NAMED(LUCHTRAV_BAD_MARK), NAMED(LUCHTRAV_BAD_ENTRY),
     NAMED(LUCHTRAV_BAD_RECORDING), NAMED(LUCHTRAV_BAD_INDEX), NAMED(LUCHTRAV_INVERSION), NAMED(LUCHTRAV_NO_LETTER),
     NAMED(LUCHTRAV_FULL), NAMED(LUCHTRAV_NO_ROOM), NAMED(LUCHTRAV_BAD_LINE), NAMED(LUCHTRAV_TOO_LARGE),
-    NAMED(LUCHTRAV_PAST_LAST),
+    NAMED(LUCHTRAV_PAST_LAST), NAMED(LUCHTRAV_BAD_COUNT),
 };
 
 static void texts(void) {
@@ -44,9 +44,9 @@ static void texts(void) {
  * byte less each is refused, and the place is the bytes needed. */
 static void longest(void) {
     static uint8_t word[L], letters[L], marks[L], out[LUCHTRAV_ANSWER_BYTES], w_line[LUCHTRAV_LINE_BYTES];
-    static uint16_t entries[L];
+    static uint16_t entries[L], counts[COUNTS];
     for (size_t i = 0; i < L; i++) word[i] = (uint8_t)(RANK - i % 55);
-    expect("cells", luchtrav_tableau_of_word(RANK, word, L, letters, L, marks, L).count, L);
+    expect("cells", luchtrav_tableau_of_word(RANK, word, L, letters, L, marks, L, counts).count, L);
     expect("entries", luchtrav_recording_of_word(RANK, word, L, entries, L).count, L);
 
 #define LONGEST(bytes, function, ...) \
@@ -64,6 +64,11 @@ static void longest(void) {
     LONGEST(12255, answer, w_line, w_count);
 }
 
+/* Counts, one digit a letter; those of all further letters are 0. */
+static void counted(const char *what, const uint16_t *counts, const char *digits) {
+    for (size_t i = 0; i < COUNTS; i++) expect(what, counts[i], i < strlen(digits) ? (size_t)(digits[i] - '0') : 0);
+}
+
 /* A move that was made: its number and place are 0, it tells the changed place, and leaves these letters. */
 static void made(const char *what, luchtrav_move said, size_t changed, const uint8_t *letters, const char *digits) {
     expect(what, said.number, LUCHTRAV_OK);
@@ -72,11 +77,15 @@ static void made(const char *what, luchtrav_move said, size_t changed, const uin
     for (size_t i = 0; i < strlen(digits); i++) expect(what, letters[i], (size_t)(digits[i] - '0'));
 }
 
-/* A move that was refused: it tells neither place. */
-static void undefined(const char *what, luchtrav_move said, size_t number) {
+/* A move that was refused: it tells no changed place. */
+static void undefined_at(const char *what, luchtrav_move said, size_t number, size_t place) {
     expect(what, said.number, number);
-    expect(what, said.place, 0);
+    expect(what, said.place, place);
     expect(what, said.changed, 0);
+}
+
+static void undefined(const char *what, luchtrav_move said, size_t number) {
+    undefined_at(what, said, number, 0);
 }
 
 /* The changed places of words and tableaux, 0 among them; and of a word beside its tableau, where the recording entry
@@ -84,18 +93,21 @@ static void undefined(const char *what, luchtrav_move said, size_t number) {
 static void moves(void) {
     uint8_t first[] = {3, 1, 1, 3}, second[] = {3, 1, 3, 1}, third[] = {1, 3, 1}, letters[3], marks[3];
     uint8_t cells[] = {2, 3, 3}, level[] = {0, 0, 0};
-    uint16_t entries[3];
+    uint16_t entries[3], counts[COUNTS], of_cells[COUNTS] = {0, 1, 2};
     made("3113 lowered", luchtrav_lower_word(3, 1, first, 4), 2, first, "3123");
     undefined("3123 raised", luchtrav_raise_word(3, 2, first, 4), LUCHTRAV_INVERSION);
     undefined("3131 lowered", luchtrav_lower_word(3, 2, second, 4), LUCHTRAV_NO_LETTER);
     made("3131 raised", luchtrav_raise_word(3, 2, second, 4), 0, second, "2131");
-    made("the tableau 233 raised", luchtrav_raise_tableau(3, 2, cells, 3, level, 3), 1, cells, "223");
-    made("the tableau 223 lowered", luchtrav_lower_tableau(3, 2, cells, 3, level, 3), 1, cells, "233");
-    undefined("the tableau 233 lowered at 3", luchtrav_lower_tableau(3, 3, cells, 3, level, 3), LUCHTRAV_BAD_INDEX);
-    luchtrav_tableau_of_word(3, third, 3, letters, 3, marks, 3);
+    made("the tableau 233 raised", luchtrav_raise_tableau(3, 2, cells, 3, level, 3, of_cells), 1, cells, "223");
+    counted("its counts", of_cells, "021");
+    made("the tableau 223 lowered", luchtrav_lower_tableau(3, 2, cells, 3, level, 3, of_cells), 1, cells, "233");
+    counted("its counts", of_cells, "012");
+    undefined("233 lowered at 3", luchtrav_lower_tableau(3, 3, cells, 3, level, 3, of_cells), LUCHTRAV_BAD_INDEX);
+    counted("its counts", of_cells, "012");
+    luchtrav_tableau_of_word(3, third, 3, letters, 3, marks, 3, counts);
     luchtrav_recording_of_word(3, third, 3, entries, 3);
     made("131 raised", luchtrav_raise_word(3, 2, third, 3), 1, third, "121");
-    made("the tableau of 131 raised", luchtrav_raise_tableau(3, 2, letters, 3, marks, 3), 2, letters, "112");
+    made("the tableau of 131 raised", luchtrav_raise_tableau(3, 2, letters, 3, marks, 3, counts), 2, letters, "112");
     expect("the entry of the changed cell", entries[2], 2);
 }
 
@@ -128,47 +140,111 @@ static void valued(const char *what, luchtrav_value said, size_t number, uint64_
 /* A word, one digit a letter, and its number, there and back; with the size, and with the largest number, 16 falls. */
 static void numbered(const char *digits, uint64_t size, uint64_t number) {
     uint8_t word[LUCHTRAV_COUNTED], letters[LUCHTRAV_COUNTED], marks[LUCHTRAV_COUNTED], back[LUCHTRAV_COUNTED] = {0};
+    uint16_t counts[COUNTS];
     size_t l = strlen(digits);
     for (size_t i = 0; i < l; i++) word[i] = (uint8_t)(digits[i] - '0');
-    luchtrav_tableau_of_word(9, word, l, letters, l, marks, l);
-    valued(digits, luchtrav_class_size(9, letters, l, marks, l), LUCHTRAV_OK, size);
+    luchtrav_tableau_of_word(9, word, l, letters, l, marks, l, counts);
+#define CLASS 9, letters, l, marks, l, counts
+    valued(digits, luchtrav_class_size(CLASS), LUCHTRAV_OK, size);
     valued(digits, luchtrav_class_number(9, word, l), LUCHTRAV_OK, number);
-    expect(digits, luchtrav_class_word(9, letters, l, marks, l, number, back, l).count, l);
+    expect(digits, luchtrav_class_word(CLASS, number, back, l).count, l);
     expect(digits, (size_t)memcmp(back, word, l), 0);
-    expect(digits, luchtrav_class_word(9, letters, l, marks, l, size, back, l).number, LUCHTRAV_PAST_LAST);
-    expect(digits, luchtrav_class_word(9, letters, l, marks, l, UINT64_MAX, back, 0).number, LUCHTRAV_PAST_LAST);
-    expect(digits, luchtrav_class_word(9, letters, l, marks, l, number, back, l - 1).place, l);
+    expect(digits, luchtrav_class_word(CLASS, size, back, l).number, LUCHTRAV_PAST_LAST);
+    expect(digits, luchtrav_class_word(CLASS, UINT64_MAX, back, 0).number, LUCHTRAV_PAST_LAST);
+    expect(digits, luchtrav_class_word(CLASS, number, back, l - 1).place, l);
 }
 
 /* Words of a class, the largest class, and one cell more. */
 static void classes(void) {
     uint8_t letters[LUCHTRAV_COUNTED + 1], marks[LUCHTRAV_COUNTED + 1], word[LUCHTRAV_COUNTED];
+    uint16_t counts[COUNTS] = {0}, none[COUNTS] = {0};
     const size_t most = LUCHTRAV_COUNTED;
     const uint64_t size = UINT64_C(370371188237525);
     numbered("4323", 5, 3);
     numbered("421323", 61, 45);
     numbered("12446553275", 15399, 260);
-    for (size_t i = 0; i <= most; i++) letters[i] = (uint8_t)(i + 1), marks[i] = i % 2;
-    valued("the largest class", luchtrav_class_size(RANK, letters, most, marks, most), LUCHTRAV_OK, size);
-    expect("its last word", luchtrav_class_word(RANK, letters, most, marks, most, size - 1, word, most).count, most);
+    for (size_t i = 0; i <= most; i++) letters[i] = (uint8_t)(i + 1), marks[i] = i % 2, counts[i] = i < most;
+    valued("the largest class", luchtrav_class_size(RANK, letters, most, marks, most, counts), LUCHTRAV_OK, size);
+    luchtrav_count last = luchtrav_class_word(RANK, letters, most, marks, most, counts, size - 1, word, most);
+    expect("its last word", last.count, most);
     valued("its last number", luchtrav_class_number(RANK, word, most), LUCHTRAV_OK, size - 1);
-    valued("21 cells", luchtrav_class_size(RANK, letters, most + 1, marks, most + 1), LUCHTRAV_TOO_LARGE, 0);
+    counts[most] = 1;
+    valued("21 cells", luchtrav_class_size(RANK, letters, most + 1, marks, most + 1, counts), LUCHTRAV_TOO_LARGE, 0);
     valued("21 letters", luchtrav_class_number(RANK, letters, most + 1), LUCHTRAV_TOO_LARGE, 0);
-    valued("no cells", luchtrav_class_size(RANK, NULL, 0, NULL, 0), LUCHTRAV_OK, 1);
-    expect("the empty word", luchtrav_class_word(RANK, NULL, 0, NULL, 0, 0, NULL, 0).number, LUCHTRAV_OK);
-    expect("no second one", luchtrav_class_word(RANK, NULL, 0, NULL, 0, 1, NULL, 0).number, LUCHTRAV_PAST_LAST);
+    valued("no cells", luchtrav_class_size(RANK, NULL, 0, NULL, 0, none), LUCHTRAV_OK, 1);
+    expect("the empty word", luchtrav_class_word(RANK, NULL, 0, NULL, 0, none, 0, NULL, 0).number, LUCHTRAV_OK);
+    expect("no second one", luchtrav_class_word(RANK, NULL, 0, NULL, 0, none, 1, NULL, 0).number, LUCHTRAV_PAST_LAST);
+}
+
+/* What a check says of stored counts: 17 and the place of a wrong one, or number and place 0. */
+static void checked(const char *what, luchtrav_done said, size_t number, size_t place) {
+    expect(what, said.number, number);
+    expect(what, said.place, place);
+}
+
+/* The counts of 4323: given by the functions that give its tableau, kept true by insertion and moves, judged by the
+ * others at a first, a middle and a last place, 64 more in a second tableau. */
+static void counts(void) {
+    uint8_t word[] = {4, 3, 2, 3}, letters[5], marks[5], square[8], steps[8];
+    uint16_t entries[5], of_word[COUNTS], of_line[COUNTS], of_square[COUNTS], of_pair[COUNTS] = {0};
+    static const char line[] = "T,4,4,2,d,3,r,3,d,4\n";
+    const size_t places[] = {0, 2, 63};
+    memset(of_word, 0xA5, sizeof of_word);
+    memset(of_line, 0xA5, sizeof of_line);
+    memset(of_square, 0xA5, sizeof of_square);
+    for (size_t i = 0; i < 4; i++) luchtrav_insert_letter(4, i, word[i], letters, 5, marks, 5, entries, 5, of_pair);
+    counted("4323, letter by letter", of_pair, "0121");
+    luchtrav_read_tableau_line((const uint8_t *)line, sizeof line - 1, letters, 4, marks, 4, of_line);
+    counted("4323, read", of_line, "0121");
+    luchtrav_tableau_of_word(4, word, 4, letters, 4, marks, 4, of_word);
+    counted("4323", of_word, "0121");
+    luchtrav_product(4, letters, 4, marks, 4, of_word, letters, 4, marks, 4, of_word, square, 8, steps, 8, of_square);
+    counted("4323 squared", of_square, "0242");
+
+#define STORED(counts) letters, 4, marks, 4, counts
+    checked("4323", luchtrav_check_counted_tableau(4, STORED(of_word)), LUCHTRAV_OK, 0);
+    checked("4323's pair", luchtrav_check_counted_pair(4, letters, 4, marks, 4, entries, 4, of_pair), LUCHTRAV_OK, 0);
+    paired("4323 twice", luchtrav_same_class_of_tableaux(4, STORED(of_word), 6, STORED(of_line)), LUCHTRAV_OK, 0, 1);
+    for (size_t i = 0; i < 3; i++) {
+        const size_t place = places[i];
+        of_line[place]++;
+        checked("a wrong count", luchtrav_check_counted_tableau(4, STORED(of_line)), LUCHTRAV_BAD_COUNT, place);
+        luchtrav_class first = luchtrav_same_class_of_tableaux(4, STORED(of_line), 4, STORED(of_line));
+        luchtrav_class second = luchtrav_same_class_of_tableaux(4, STORED(of_word), 4, STORED(of_line));
+        paired("a wrong count in the first", first, LUCHTRAV_BAD_COUNT, place, 0);
+        paired("a wrong count in the second", second, LUCHTRAV_BAD_COUNT, COUNTS + place, 0);
+        undefined_at("a move", luchtrav_raise_tableau(4, 1, STORED(of_line)), LUCHTRAV_BAD_COUNT, place);
+        of_line[place]--;
+    }
+    counted("after refusals", of_line, "0121");
+}
+
+/* 12 and 21 as tableaux: two classes, equal weights. */
+static void two_tableaux(void) {
+    const uint8_t letters[] = {1, 2}, level[] = {0, 0}, down[] = {0, 1};
+    const uint16_t counts[COUNTS] = {1, 1};
+#define ROW letters, 2, level, 2, counts
+#define COLUMN letters, 2, down, 2, counts
+    paired("12 and 21", luchtrav_same_class_of_tableaux(2, ROW, 2, COLUMN), LUCHTRAV_OK, 0, 0);
+    paired("21 and 21", luchtrav_same_class_of_tableaux(2, COLUMN, RANK, COLUMN), LUCHTRAV_OK, 0, 1);
+    luchtrav_order order = luchtrav_compare_weights_of_tableaux(2, ROW, 2, COLUMN);
+    expect("weights of 12 and 21", order.number, LUCHTRAV_OK);
+    expect("weights of 12 and 21", order.order, LUCHTRAV_EQUAL);
 }
 
 /* The factors of a product without memory, their letters and marks as many as told. */
 static size_t product_says(size_t first, size_t first_marks, size_t second, size_t second_marks) {
-    luchtrav_count said =
-        luchtrav_product(4, NULL, first, NULL, first_marks, NULL, second, NULL, second_marks, NULL, 0, NULL, 0);
-    return said.number;
+    static const uint16_t none[COUNTS] = {0};
+    uint16_t given[COUNTS];
+#define FACTORS NULL, first, NULL, first_marks, none, NULL, second, NULL, second_marks, none
+    return luchtrav_product(4, FACTORS, NULL, 0, NULL, 0, given).number;
 }
 
 /* NULL where the number is 0, and where 1, 2 or 3 refuses by the numbers alone. */
 static void null(void) {
-    expect("the empty word", luchtrav_tableau_of_word(4, NULL, 0, NULL, 0, NULL, 0).number, LUCHTRAV_OK);
+    uint16_t given[COUNTS];
+    expect("the empty word", luchtrav_tableau_of_word(4, NULL, 0, NULL, 0, NULL, 0, given).number, LUCHTRAV_OK);
+    counted("the empty word", given, "");
     expect("rank", luchtrav_check_word(0, NULL, 4).number, LUCHTRAV_BAD_RANK);
     expect("length", luchtrav_check_word(4, NULL, (size_t)-1).number, LUCHTRAV_BAD_LENGTH);
     expect("parts", luchtrav_check_tableau(4, NULL, 4, NULL, 3).number, LUCHTRAV_BAD_PARTS);
@@ -180,7 +256,9 @@ static void null(void) {
     expect("the largest factors", product_says((size_t)-1, (size_t)-1, (size_t)-1, (size_t)-1), LUCHTRAV_BAD_LENGTH);
     expect("parts of the first factor", product_says(2, (size_t)-1, 3, 3), LUCHTRAV_BAD_PARTS);
     expect("parts of the second factor", product_says(2, 2, 3, 2), LUCHTRAV_BAD_PARTS);
-    expect("used", luchtrav_insert_letter(4, 4, 1, NULL, 4, NULL, 3, NULL, 4).number, LUCHTRAV_BAD_PARTS);
+    expect("used", luchtrav_insert_letter(4, 4, 1, NULL, 4, NULL, 3, NULL, 4, NULL).number, LUCHTRAV_BAD_PARTS);
+    expect("no counts", luchtrav_check_counted_tableau(4, NULL, 4, NULL, 3, NULL).number, LUCHTRAV_BAD_PARTS);
+    undefined("no counts to move", luchtrav_raise_tableau(4, 1, NULL, 1025, NULL, 0, NULL), LUCHTRAV_BAD_LENGTH);
     expect("room", luchtrav_answer(NULL, 4097, NULL, 0).place, sizeof "E,14,4096");
 }
 
@@ -190,6 +268,8 @@ int main(void) {
     moves();
     ranks();
     classes();
+    counts();
+    two_tableaux();
     null();
     return wrong != 0;
 }
