@@ -12,7 +12,7 @@ import unittest
 
 from support import HERE, PACKAGES, Case, lu, run_python
 
-from luchtrav import classes, places, tableaux, words
+from luchtrav import classes, places, tableaux, two_tableaux, words
 from luchtrav.library import FUNCTIONS
 
 
@@ -21,7 +21,7 @@ class Package(Case):
         with open(places.HEADER) as file:
             text = re.sub(r"/\*.*?\*/", "", file.read(), flags=re.S)
         declared = {name: inside.count(",") + 1 for name, inside in re.findall(r"luchtrav_\w+ luchtrav_(\w+)\(([^)]*)\);", text)}
-        self.assertEqual(len(declared), 35)
+        self.assertEqual(len(declared), 39)
         self.assertEqual(declared, {name: len(parameters) for name, (_, parameters) in FUNCTIONS.items()})
         offered = {name for name in lu.__all__ if name[0].islower()}
         self.assertEqual(set(declared), offered)
@@ -36,7 +36,7 @@ class Package(Case):
 
     def test_examples(self) -> None:
         """Those that docstrings have."""
-        for module, count in ((words, 3), (tableaux, 3), (classes, 3)):
+        for module, count in ((words, 3), (tableaux, 3), (two_tableaux, 3), (classes, 3)):
             failed, tried = doctest.testmod(module, extraglobs={"luchtrav": lu})
             self.assertEqual((failed, tried), (0, count))
 

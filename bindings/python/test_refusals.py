@@ -144,7 +144,7 @@ class Meanings(Case):
         """MEANINGS, the docstring that help(luchtrav) shows, and the header have the same texts."""
         with open(HEADER) as file:
             header = texts_in(re.sub(r"/\*.*?\*/", "", file.read(), flags=re.S))
-        self.assertEqual(sorted(lu.MEANINGS), list(range(1, 17)))
+        self.assertEqual(sorted(lu.MEANINGS), list(range(1, 18)))
         self.assertEqual({0: "success", **lu.MEANINGS}, header)
         shown = {int(number): text for number, text in re.findall(r"^ {4,5}(\d+)  (.*)$", str(lu.__doc__), re.M)}
         self.assertEqual(shown, lu.MEANINGS)

@@ -5,9 +5,9 @@ from typing import List, Optional, Union, overload
 
 from . import replies
 from .buffers import Integers
-from .lending import as_letters, as_marks, as_number, as_place, room
+from .lending import as_letters, as_number, as_place, room
 from .library import ask
-from .tableaux import Letters, parts_and, parts_of
+from .tableaux import Letters, lent_of, parts_and, parts_of, told
 from .values import Tableau
 
 
@@ -16,13 +16,13 @@ def class_size(rank: int, tableau: Tableau, /) -> int: ...
 @overload
 def class_size(rank: int, letters: Integers, marks: Integers) -> int: ...
 def class_size(rank: int, letters: Letters, marks: Optional[Integers] = None) -> int:
-    """How many words have the tableau, given as letters and marks or as a Tableau. The empty tableau has one word, the empty one. Refuses 1 to 6, 15.
+    """How many words have the tableau, given as letters and marks or as a Tableau. The empty tableau has one word, the empty one. Refuses 1 to 6, 17, 15.
 
     >>> luchtrav.class_size(4, luchtrav.tableau_of_word(4, [4, 2, 1, 3, 2, 3]))
     61
     """
-    letters, marks = parts_of(letters, marks)
-    said: replies.Value = ask("class_size", as_number(rank), as_letters(letters), as_marks(marks), letters=(letters,), marks=(marks,))
+    parts = parts_of(letters, marks)
+    said: replies.Value = ask("class_size", as_number(rank), *lent_of(parts), **told(parts))
     return said.value
 
 
@@ -34,15 +34,15 @@ def class_word(rank: int, tableau: Tableau, /, *, number: int) -> List[int]: ...
 def class_word(rank: int, letters: Integers, marks: Integers, number: int) -> List[int]: ...
 def class_word(rank: int, letters: Letters, marks: Union[Integers, int, None] = None, number: Optional[int] = None) -> List[int]:
     """The word with a number, of those that have the tableau, given as letters and marks or as a Tableau: 0 is the first of them in dictionary order, the
-    size of the class less 1 the last. Refuses 1 to 6, 15, 16.
+    size of the class less 1 the last. Refuses 1 to 6, 17, 15, 16.
 
     >>> [luchtrav.class_word(4, luchtrav.Tableau([2, 3, 3, 4], [0, 1, 0, 1]), number) for number in (0, 3, 4)]
     [[3, 2, 4, 3], [4, 3, 2, 3], [4, 3, 3, 2]]
     """
-    letters, marks, number = parts_and("number", letters, marks, number)
-    lent = as_letters(letters)
-    word = room("B", len(lent))
-    ask("class_word", as_number(rank), lent, as_marks(marks), as_place(number), word, letters=(letters,), marks=(marks,))
+    parts, number = parts_and("number", letters, marks, number)
+    lent = lent_of(parts)
+    word = room("B", len(lent[0]))
+    ask("class_word", as_number(rank), *lent, as_place(number), word, **told(parts))
     return word.tolist()
 
 

@@ -6,17 +6,29 @@ from array import array
 from collections import abc
 from itertools import islice
 from operator import index
-from typing import List, Optional, Sequence, Union
+from typing import TYPE_CHECKING, List, Optional, Sequence, Union
 
 from .buffers import Integers, from_buffer
 
 LARGEST = 2**64 - 1
+
+# The letters that have a count.
+COUNTED = range(1, 65)
 
 # So many elements of a sequence are taken: one more than the library accepts, so that 2 falls however long it is.
 ENOUGH = 1025
 
 # Bytes that hold a line.
 Text = Union[bytes, bytearray, memoryview]
+
+if TYPE_CHECKING:
+    Array = array[int]
+else:
+    Array = array
+
+
+class Counts(Array):
+    """Letter counts, 64 of 16 bits, which are lent without their number."""
 
 
 def taken(width: int, values: Integers, enough: Optional[int] = ENOUGH) -> Sequence[int]:
@@ -81,6 +93,17 @@ def as_entries(values: Integers) -> "array[int]":
         return array("H", fitting(65535, 0, given))
 
 
+def as_counts(stored: Optional[Sequence[int]], letters: "array[int]") -> Counts:
+    """Letter counts, all 64 of them: those that were stored, 65,535 for one that does not fit 16 bits, so that 17 falls at its place; where none were,
+    those of the lent letters. More letters than the library accepts are not counted, as 2 falls."""
+    if stored is None:
+        return Counts("H", map(letters.tobytes().count, COUNTED)) if len(letters) < ENOUGH else counts_room()
+    try:
+        return Counts("H", stored)
+    except OverflowError:
+        return Counts("H", fitting(65535, 65535, stored))
+
+
 def as_number(value: int) -> int:
     """A rank, a move's index or a letter to be inserted: 0 for one that fits no size_t, so that 1, 9 or 4 falls."""
     number = index(value)
@@ -115,3 +138,8 @@ def as_text(text: Text) -> "array[int]":
 def room(code: str, count: int) -> "array[int]":
     """Memory to lend for an output of so many elements."""
     return array(code, [0]) * count
+
+
+def counts_room() -> Counts:
+    """Memory to lend for letter counts."""
+    return Counts("H", bytes(2 * len(COUNTED)))

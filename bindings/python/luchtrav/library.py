@@ -5,7 +5,7 @@ from operator import index
 from typing import Any, Dict, List, Optional, Tuple, Union
 
 from .buffers import Integers
-from .lending import elements
+from .lending import Counts, elements
 from .places import LIBRARY
 from .refusal import Refusal
 from .replies import Cell, Class, Count, Done, Junction, Line, Move, Order, Value
@@ -14,14 +14,15 @@ LETTERS = 1024
 LINE_BYTES = 8192
 ANSWER_BYTES = 16384
 
-# A number, one of 64 bits whatever the machine, and a buffer: its address and the number of its elements.
+# A number, one of 64 bits whatever the machine, a buffer: its address and the number of its elements, and letter counts: their address.
 N: List[Any] = [c_size_t]
 U: List[Any] = [c_uint64]
 B: List[Any] = [c_void_p, c_size_t]
+C: List[Any] = [c_void_p]
 
 FUNCTIONS: Dict[str, Tuple[Any, List[Any]]] = {
     "check_word": (Done, N + B),
-    "tableau_of_word": (Count, N + B + B + B),
+    "tableau_of_word": (Count, N + B + B + B + C),
     "recording_of_word": (Count, N + B + B),
     "junctions": (Junction, N + B),
     "raise_word": (Move, N + N + B),
@@ -31,20 +32,24 @@ FUNCTIONS: Dict[str, Tuple[Any, List[Any]]] = {
     "same_class": (Class, N + B + N + B),
     "compare_weights": (Order, N + B + N + B),
     "check_tableau": (Done, N + B + B),
-    "column_reading": (Count, N + B + B + B),
-    "raise_tableau": (Move, N + N + B + B),
-    "lower_tableau": (Move, N + N + B + B),
-    "raise_count_tableau": (Count, N + N + B + B),
-    "lower_count_tableau": (Count, N + N + B + B),
+    "check_counted_tableau": (Done, N + B + B + C),
+    "column_reading": (Count, N + B + B + C + B),
+    "raise_tableau": (Move, N + N + B + B + C),
+    "lower_tableau": (Move, N + N + B + B + C),
+    "raise_count_tableau": (Count, N + N + B + B + C),
+    "lower_count_tableau": (Count, N + N + B + B + C),
+    "same_class_of_tableaux": (Class, N + B + B + C + N + B + B + C),
+    "compare_weights_of_tableaux": (Order, N + B + B + C + N + B + B + C),
     "look": (Cell, N + B + B + N),
     "cell_at": (Cell, B + B + N),
-    "product": (Count, N + B + B + B + B + B + B),
-    "class_size": (Value, N + B + B),
-    "class_word": (Count, N + B + B + U + B),
+    "product": (Count, N + B + B + C + B + B + C + B + B + C),
+    "class_size": (Value, N + B + B + C),
+    "class_word": (Count, N + B + B + C + U + B),
     "class_number": (Value, N + B),
     "check_pair": (Done, N + B + B + B),
-    "insert_letter": (Count, N + N + N + B + B + B),
-    "word_of_pair": (Count, N + B + B + B + B),
+    "check_counted_pair": (Done, N + B + B + B + C),
+    "insert_letter": (Count, N + N + N + B + B + B + C),
+    "word_of_pair": (Count, N + B + B + B + C + B),
     "tableau_line_of_word": (Count, N + B + B),
     "write_word_line": (Count, N + B + B),
     "write_tableau_line": (Count, N + B + B + B),
@@ -52,7 +57,7 @@ FUNCTIONS: Dict[str, Tuple[Any, List[Any]]] = {
     "write_junction_line": (Count, N + B + B),
     "write_refusal_line": (Count, N + N + B),
     "read_word_line": (Line, B + B),
-    "read_tableau_line": (Line, B + B + B),
+    "read_tableau_line": (Line, B + B + B + C),
     "read_recording_line": (Count, B + B),
     "answer": (Count, B + B),
 }
@@ -79,8 +84,9 @@ def opened(path: str) -> Dict[str, Any]:
 
 CALLS = opened(LIBRARY)
 
-# What a caller gave as letters, as marks or as entries, in the order in which places count.
+# What a caller gave as letters, as marks, as entries or as counts, in the order in which places count; None for counts that were not given.
 Given = Tuple[Integers, ...]
+GivenCounts = Tuple[Optional[Tuple[int, ...]], ...]
 
 
 def value_at(place: int, given: Given) -> Optional[int]:
@@ -93,19 +99,30 @@ def value_at(place: int, given: Given) -> Optional[int]:
     return None
 
 
+def count_at(place: int, given: GivenCounts) -> Optional[int]:
+    """The count that was refused, likewise; those of a second tableau have 64 more as their places."""
+    counts = given[place // 64] if place < 64 * len(given) else None
+    return None if counts is None else counts[place % 64]
+
+
 def ask(
-    name: str, *arguments: Union[int, "array[int]"], caller: str = "", letters: Given = (), marks: Given = (), entries: Given = ()
+    name: str, *arguments: Union[int, "array[int]"], caller: str = "", letters: Given = (), marks: Given = (), entries: Given = (),
+    counts: GivenCounts = (),
 ) -> Any:
     """The reply of a function, or its refusal as an exception, which names the caller where that has another name. An array is lent as address and
-    number of elements; `arguments` keeps it alive. What was given as letters, marks and entries serves the exception's text."""
+    number of elements, counts as an address; `arguments` keeps it alive. What was given as letters, marks, entries and counts serves the exception's
+    text."""
     passed: List[int] = []
     for argument in arguments:
-        if isinstance(argument, array):
+        if isinstance(argument, Counts):
+            passed.append(argument.buffer_info()[0])
+        elif isinstance(argument, array):
             passed.extend(argument.buffer_info())
         else:
             passed.append(argument)
     said = CALLS[name](*passed)
     if said.number:
         judged = {4: letters, 5: letters, 6: marks, 7: entries, 8: entries}.get(said.number, ())
-        raise Refusal(said.number, said.place, caller or name, value_at(said.place, judged))
+        value = count_at(said.place, counts) if said.number == 17 else value_at(said.place, judged)
+        raise Refusal(said.number, said.place, caller or name, value)
     return said

@@ -6,7 +6,7 @@ from typing import List, Optional, Tuple, Union, overload
 
 from . import replies
 from .buffers import Integers
-from .lending import Text, as_entries, as_letters, as_marks, as_number, as_text, as_told, room
+from .lending import Text, as_entries, as_letters, as_marks, as_number, as_text, as_told, counts_room, room
 from .library import ANSWER_BYTES, LETTERS, LINE_BYTES, Given, ask
 from .tableaux import Letters, parts_of
 from .values import Tableau, tableau_in
@@ -36,8 +36,8 @@ def write_tableau_line(rank: int, tableau: Tableau, /) -> bytes: ...
 @overload
 def write_tableau_line(rank: int, letters: Integers, marks: Integers) -> bytes: ...
 def write_tableau_line(rank: int, letters: Letters, marks: Optional[Integers] = None) -> bytes:
-    """The T line of letters and marks, or of a Tableau. Refuses 1 to 6."""
-    letters, marks = parts_of(letters, marks)
+    """The T line of letters and marks, or of a Tableau, whose counts are not looked at. Refuses 1 to 6."""
+    letters, marks, _ = parts_of(letters, marks)
     return written("write_tableau_line", as_number(rank), as_letters(letters), as_marks(marks), letters=(letters,), marks=(marks,))
 
 
@@ -65,9 +65,9 @@ def read_word_line(text: Text) -> Tuple[int, List[int]]:
 
 def read_tableau_line(text: Text) -> Tuple[int, Tableau]:
     """Rank and tableau of a whole T line, line feed included. Refuses 14 1 2 4 5 6."""
-    letters, marks = room("B", LETTERS), room("B", LETTERS)
-    said: replies.Line = ask("read_tableau_line", as_text(text), letters, marks)
-    return said.rank, tableau_in(letters[: said.count], marks[: said.count])
+    letters, marks, counts = room("B", LETTERS), room("B", LETTERS), counts_room()
+    said: replies.Line = ask("read_tableau_line", as_text(text), letters, marks, counts)
+    return said.rank, tableau_in(letters[: said.count], marks[: said.count], counts)
 
 
 def read_recording_line(text: Text) -> List[int]:

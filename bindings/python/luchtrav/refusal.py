@@ -19,6 +19,7 @@ MEANINGS: Dict[int, str] = {
     14: "byte that breaks the grammar of the line, or a line that ends early",
     15: "more than 20 cells or letters, where a class is counted",
     16: "number not below the size of the class",
+    17: "count that is not how often its letter occurs",
 }
 
 
@@ -34,8 +35,8 @@ class Refusal(ValueError):
     number      why: luchtrav.MEANINGS has the meaning of each
     place       where; places count from 0
     function    the name of the function that refused
-    value       the letter, mark or entry at the place, as the caller gave it, where 4 to 8 refuse a word, a tableau, a pair or a recording ribbon;
-                else, and where a line was read, None
+    value       the letter, mark, entry or count at the place, as the caller gave it, where 4 to 8 or 17 refuse a word, a tableau, a pair or a recording
+                ribbon; else, and where a line was read, None
 
     Two refusals are equal when number and place are: `refusal == Refusal(4, 2)`.
     """

@@ -5,7 +5,7 @@ from typing import List, Literal, Tuple
 
 from . import replies
 from .buffers import Integers
-from .lending import as_letters, as_number, room
+from .lending import as_letters, as_number, counts_room, room
 from .library import ask
 from .values import Junctions, MovedWord, Tableau, tableau_in
 
@@ -21,9 +21,9 @@ def check_word(rank: int, word: Integers) -> None:
 def tableau_of_word(rank: int, word: Integers) -> Tableau:
     """The quasi-ribbon tableau of a word by Krob-Thibon insertion. Refuses 1 2 4."""
     taken = as_letters(word)
-    letters, marks = room("B", len(taken)), room("B", len(taken))
-    ask("tableau_of_word", as_number(rank), taken, letters, marks, letters=(word,))
-    return tableau_in(letters, marks)
+    letters, marks, counts = room("B", len(taken)), room("B", len(taken)), counts_room()
+    ask("tableau_of_word", as_number(rank), taken, letters, marks, counts, letters=(word,))
+    return tableau_in(letters, marks, counts)
 
 
 def recording_of_word(rank: int, word: Integers) -> List[int]:
