@@ -1,11 +1,14 @@
 """Breaks by chance: each spoils one thing of an input, a dict from the names of the header's parameters to numbers and lists.
 
 A break may leave an input valid where there is nothing to break (no letter in an empty word); the plain Python says what the reply is in every case.
+Letter counts are drawn when all the rest is (drawn_inputs.py), and broken then.
 """
 from class_numbers import size_of
 from drawn_values import FAR
+from lent_memory import unpacked
+from meaning import letter_counts
 
-# What stands before the names of a tableau's parts: nothing, or which of two factors it is.
+# What stands before the names of a tableau's parts: nothing, or which of two factors it is, or of two tableaux that are compared.
 FACTORS = ("", "first_", "second_")
 TABLEAUX = [factor + part for factor in FACTORS for part in ("letters", "marks")]
 PARTS = ["word", "first", "second", *TABLEAUX, "entries"]
@@ -27,7 +30,7 @@ def break_rank(draw, input):
 
 
 def break_length(draw, input):
-    """More than 1,024 letters, or cells of two factors together; all parts of a ribbon alike, the cells after the first ones as the last."""
+    """More than 1,024 letters, or cells of two factors of one rank together; all parts of a ribbon alike, the cells after the first ones as the last."""
     if "used" in input:
         input["used"] = draw.one_of((1025, 1026, 1025 + draw.below(2000), draw.one_of([number for number in FAR if number > 1024])))
     names = lists_of(input)
@@ -36,7 +39,8 @@ def break_length(draw, input):
     length = draw.one_of((1025, 1025, 1026, 1025 + draw.below(1000)))
     if "first_letters" in names:
         factor = factor_of(draw, input)
-        length -= len(input["second_letters" if factor == "first_" else "first_letters"])
+        if "rank" in input:
+            length -= len(input["second_letters" if factor == "first_" else "first_letters"])
         names = [factor + "letters", factor + "marks"]
     for name in names:
         input[name] = input[name] + [input[name][-1] if input[name] else 1] * (length - len(input[name]))
@@ -64,7 +68,7 @@ def break_parts(draw, input):
 def break_letter(draw, input):
     """A letter 0 or above the rank; in insertion also the new one."""
     name = draw.one_of(lists_of(input, ("word", "first", "second", "letters", "first_letters", "second_letters")))
-    rank = input.get(name + "_rank", input.get("rank", 64))
+    rank = input.get(name.replace("_letters", "") + "_rank", input.get("rank", 64))
     if "letter" in input and draw.below(2):
         input["letter"] = draw.one_of((0, rank + 1, 256 + rank, draw.one_of(FAR)))
     elif input[name]:
@@ -99,7 +103,8 @@ def break_mark(draw, input):
 def break_both(draw, input):
     """One thing in each of two factors."""
     for factor in FACTORS[1:]:
-        tableau = {"rank": input["rank"], "letters": input[factor + "letters"], "marks": input[factor + "marks"]}
+        rank = input.get(factor + "rank", input.get("rank"))
+        tableau = {"rank": rank, "letters": input[factor + "letters"], "marks": input[factor + "marks"]}
         draw.one_of((break_letter, break_rising, break_mark, break_parts))(draw, tableau)
 
 
@@ -150,6 +155,27 @@ def break_full(draw, input):
     rank = min(64, max(1, input["rank"]))
     input["letters"], input["marks"], input["entries"] = draw.pair(rank, 1024)
     input["used"] = 1024
+
+
+def break_counts(draw, letters, counts, input):
+    """Counts that are not those of the letters: one of them wrong, often the first, the last or a letter's; one of a letter counted as of another; those of
+    more letters, a new one or cells that are not in use; none; or any."""
+    kind = draw.below(8)
+    occurring = [letter for letter in letters if 1 <= letter <= 64] or [1]
+    place = draw.one_of((0, 63, draw.below(64), draw.one_of(occurring) - 1, draw.one_of(occurring) % 64))
+    if kind == 0 and len(input.get("letters", [])) > len(letters):
+        counts[:] = letter_counts(input["letters"])
+    elif kind == 1 and 1 <= input.get("letter", 0) <= 64:
+        counts[input["letter"] - 1] += 1
+    elif kind == 2:
+        counts[:] = [0] * 64 if draw.below(2) else unpacked(2, draw.bytes(128))
+    elif kind < 5:
+        taken = draw.one_of(occurring) - 1
+        counts[taken] = max(0, counts[taken] - 1)
+        counts[draw.one_of((place, (taken + 1) % 64, taken - 1))] += 1
+    else:
+        count = counts[place]
+        counts[place] = draw.one_of((count + 1, count + 1, abs(count - 1), 0, count + 256, 65535, 65535 - count, draw.below(65536)))
 
 
 BREAKS = {

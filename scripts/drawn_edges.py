@@ -45,9 +45,10 @@ KINDS = AS_LENT, CLAIMED, HIDDEN = "as lent", "claimed", "hidden"
 # ---- buffers that are claimed to be longer
 
 
-def claimable(function):
-    """The places of the buffers that can be claimed to be longer. A text is read as far as it is a line; only the program's answer stops at a length."""
-    return [at for at, p in enumerate(function.parameters) if p.size and (p.name != "text" or function.name == "answer")]
+def claimable(function, fixed=False):
+    """The places of the buffers that can be claimed to be longer, or hidden, letter counts among them. A text is read as far as it is a line; only the
+    program's answer stops at a length."""
+    return [at for at, p in enumerate(function.parameters) if p.size and p.fixed <= 64 * fixed and (p.name != "text" or function.name == "answer")]
 
 
 def claim(draw, arguments, places):
@@ -63,17 +64,18 @@ def claim(draw, arguments, places):
             arguments[at] = Claimed(arguments[at], count)
 
 
-def hide(draw, arguments, places):
-    """No memory for any buffer, with its own count or a larger one."""
-    for at in places:
-        arguments[at] = Claimed([], draw.one_of(HUGE) if draw.below(2) else len(arguments[at]))
+def hide(draw, function, arguments):
+    """No memory for any buffer, with its own count or a larger one; of letter counts with their own, as the library is told none."""
+    for at in claimable(function, fixed=True):
+        larger = draw.below(2) and not function.parameters[at].fixed
+        arguments[at] = Claimed([], draw.one_of(HUGE) if larger else len(arguments[at]))
 
 
 def claim_sum(draw, arguments):
     """Two factors, letters and marks alike, with more than 2^64 cells together: a sum that is cut to 64 bits is 0 to 1,024."""
     first = draw.one_of([1, 2, 3, 512, 1024] + HUGE)
     counts = [first, 2**64 - first + draw.below(min(first, 1025))]
-    for at, count in zip((1, 3), counts if draw.below(2) else reversed(counts)):
+    for at, count in zip((1, 4), counts if draw.below(2) else reversed(counts)):
         for part in (at, at + 1):
             arguments[part] = Claimed(memory_of(arguments[part])[:count], count)
 
@@ -84,7 +86,10 @@ def edge_input(draw, function, kind):
         arguments = drawn_input(draw, function)[1]
         if kind == AS_LENT:
             return arguments
-        (claim if kind == CLAIMED else hide)(draw, arguments, claimable(function))
+        if kind == CLAIMED:
+            claim(draw, arguments, claimable(function))
+        else:
+            hide(draw, function, arguments)
         if function.name == "product" and draw.below(4) == 0:
             claim_sum(draw, arguments)
         try:
@@ -96,9 +101,11 @@ def edge_input(draw, function, kind):
 
 
 def answerable(function, arguments, number):
-    """Whether no element is needed that is not there: insertion may read its used cells once 1, 2 and 3 have passed, a look at a cell its marks and letter."""
+    """Whether no element is needed that is not there: insertion may read its used cells and its counts once 1, 2 and 3 have passed, a look at a cell its
+    marks and letter."""
     if function.name == "insert_letter" and number not in (1, 2, 3):
-        return all(len(memory_of(buffer)) >= arguments[1] for buffer in arguments[3:])
+        *cells, counts = arguments[3:]
+        return all(len(memory_of(buffer)) >= arguments[1] for buffer in cells) and not isinstance(counts, Claimed)
     if function.name == "cell_at":
         return arguments[2] >= count_of(arguments[0])
     return True
@@ -178,12 +185,12 @@ def apart(function, work):
 def run(arguments):
     functions = list(header.functions_of(arguments.library).values())
     (of_each, more), failed = divmod(arguments.count, len(functions)), 0
-    print("%-22s" % "function" + "".join("%9s" % kind for kind in KINDS) + "   replies where claimed; where hidden")
+    print("%-27s" % "function" + "".join("%9s" % kind for kind in KINDS) + "   replies where claimed; where hidden")
     for at, function in enumerate(functions):
         came, failure = apart(function, lambda note: calls(function, arguments.seed, of_each + (at < more), note))
         counts = [sum(count for (kind, _), count in came.items() if kind == which) for which in KINDS]
         replies = [", ".join("%d: %d" % (number, count) for (kind, number), count in sorted(came.items()) if kind == which) for which in (CLAIMED, HIDDEN)]
-        print("%-22s%9d%9d%9d   %s" % (function.name, *counts, "; ".join(replies)), flush=True)
+        print("%-27s%9d%9d%9d   %s" % (function.name, *counts, "; ".join(replies)), flush=True)
         never = ["%s %d" % reply for reply in wanted(function) if not came[reply]]
         if failure or never:
             print(failure or "never came: " + ", ".join(never), flush=True)

@@ -1,11 +1,14 @@
 """Whole inputs by chance, for every function of the header: valid, broken at one place or at two, or nothing but random bytes.
 
-Outputs are a little longer than needed, exactly as long, or (the break called "room") too short: what is needed says the plain Python's 13.
+Outputs are a little longer than needed, exactly as long, or (the break called "room") too short: what is needed says the plain Python's 13. Letter counts
+are those of the letters, whatever is broken in these, unless they are broken themselves (the breaks called "counts" and "both counts").
 """
 from class_numbers import size_of
-from drawn_breaks import BREAKS, BYTES, TEXT_BREAKS
+from drawn_breaks import BREAKS, BYTES, FACTORS, TEXT_BREAKS, break_counts
 from drawn_values import FAR
+from lent_memory import unpacked
 from lines import line, recording_line, word_line
+from meaning import letter_counts
 from replies import plain_reply
 
 # ---- valid inputs, by the names of the header's parameters
@@ -53,6 +56,14 @@ def draw_factors(draw):
     return {
         "rank": rank, "first_letters": first_letters, "first_marks": first_marks, "second_letters": second_letters, "second_marks": second_marks,
     }
+
+
+def draw_tableaux(draw):
+    """Two tableaux, of the ranks and classes of two words that are compared."""
+    input = draw_words(draw)
+    for factor in FACTORS[1:]:
+        input[factor + "letters"], input[factor + "marks"], _ = draw.pair_of(input.pop(factor[:-1]))
+    return input
 
 
 def draw_class(draw):
@@ -111,6 +122,8 @@ TEXTS = {
 WORD = ["rank", "length", "letter"]
 TABLEAU = WORD + ["parts", "falling letter", "mark"]
 PAIR = TABLEAU + ["entry", "step"]
+COUNTED = TABLEAU + ["counts"]
+BOTH = COUNTED + ["both factors", "both counts"]
 RECORDING = ["length", "entry", "entry"]
 TEXT = list(TEXT_BREAKS)
 
@@ -126,20 +139,24 @@ INPUTS = {
     "same_class": (draw_words, WORD),
     "compare_weights": (draw_words, WORD),
     "check_tableau": (draw_tableau, TABLEAU),
-    "column_reading": (draw_tableau, TABLEAU + ["room"]),
-    "raise_tableau": (draw_tableau_move, TABLEAU + ["index"]),
-    "lower_tableau": (draw_tableau_move, TABLEAU + ["index"]),
-    "raise_count_tableau": (draw_tableau_move, TABLEAU + ["index"]),
-    "lower_count_tableau": (draw_tableau_move, TABLEAU + ["index"]),
+    "check_counted_tableau": (draw_tableau, COUNTED + ["counts"]),
+    "column_reading": (draw_tableau, COUNTED + ["room"]),
+    "raise_tableau": (draw_tableau_move, COUNTED + ["index"]),
+    "lower_tableau": (draw_tableau_move, COUNTED + ["index"]),
+    "raise_count_tableau": (draw_tableau_move, COUNTED + ["index"]),
+    "lower_count_tableau": (draw_tableau_move, COUNTED + ["index"]),
+    "same_class_of_tableaux": (draw_tableaux, BOTH),
+    "compare_weights_of_tableaux": (draw_tableaux, BOTH),
     "look": (draw_look, TABLEAU),
     "cell_at": (draw_look, ["length", "letter", "parts", "falling letter", "mark"]),
-    "product": (draw_factors, TABLEAU + ["both factors", "room"]),
-    "class_size": (draw_class, TABLEAU + ["many cells"]),
-    "class_word": (draw_class_word, TABLEAU + ["many cells", "number past the last", "room"]),
+    "product": (draw_factors, BOTH + ["room"]),
+    "class_size": (draw_class, COUNTED + ["many cells"]),
+    "class_word": (draw_class_word, COUNTED + ["many cells", "number past the last", "room"]),
     "class_number": (draw_few_letters, WORD + ["many cells"]),
     "check_pair": (draw_pair, PAIR),
-    "insert_letter": (draw_insertion, PAIR + ["full", "room"]),
-    "word_of_pair": (draw_pair, PAIR + ["room"]),
+    "check_counted_pair": (draw_pair, PAIR + ["counts", "counts"]),
+    "insert_letter": (draw_insertion, PAIR + ["counts", "counts", "full", "room"]),
+    "word_of_pair": (draw_pair, PAIR + ["counts", "counts", "room"]),
     "tableau_line_of_word": (draw_word, WORD + ["room"]),
     "write_word_line": (draw_word, WORD + ["room"]),
     "write_tableau_line": (draw_tableau, TABLEAU + ["room"]),
@@ -160,11 +177,18 @@ def random_values(draw, parameter):
     """Any number, any elements: few of them, of all values or of small ones."""
     if not parameter.size:
         return draw.one_of((draw.below(6), draw.below(70), draw.one_of(FAR)))
+    if parameter.fixed:
+        return [0] * parameter.fixed if draw.below(2) else any_counts(draw, parameter)
     count = draw.below(9)
     if parameter.name == "text":
         return [draw.one_of(BYTES) for _ in range(3 * count)] if draw.below(2) else list(draw.bytes(3 * count))
     top = draw.one_of((2, 4, 256 if parameter.size == 1 else 65536))
     return [draw.below(top) for _ in range(count)]
+
+
+def any_counts(draw, parameter):
+    """As many elements as a parameter always has, with whatever they hold."""
+    return unpacked(parameter.size, draw.bytes(parameter.size * parameter.fixed))
 
 
 def output(draw, parameter, count):
@@ -197,9 +221,26 @@ def with_cells_beyond(draw, function, input, short):
     counts = [longer(draw, 1) for _ in range(3)]
     if short:
         counts[draw.below(3)] = 0
-    for parameter, count in zip(function.parameters[3:], counts):
+    for parameter, count in zip(function.parameters[3:6], counts):
         if len(input[parameter.name]) >= input["used"]:
             input[parameter.name] += output(draw, parameter, count)
+
+
+def with_counts(draw, function, input, broken):
+    """The counts of each tableau that is given; of one that is an output, whatever its memory holds. Broken are those of one tableau, or of both."""
+    counts = [parameter for parameter in function.parameters if parameter.fixed]
+    given = [parameter for parameter in counts if parameter.name.replace("counts", "letters") in input]
+    spoiled = [] if not broken or not given else given if "both counts" in broken else [draw.one_of(given)]
+    for parameter in counts:
+        letters = input.get(parameter.name.replace("counts", "letters"))
+        if letters is None:
+            input[parameter.name] = any_counts(draw, parameter)
+            continue
+        used = letters[: input.get("used", len(letters))]
+        input[parameter.name] = letter_counts(used)
+        if parameter in spoiled:
+            break_counts(draw, used, input[parameter.name], input)
+            input[parameter.name] = [count % 65536 for count in input[parameter.name]]
 
 
 def drawn_input(draw, function):
@@ -220,5 +261,6 @@ def drawn_input(draw, function):
         input = {"text": list(text)}
     if function.name == "insert_letter":
         with_cells_beyond(draw, function, input, "room" in chosen)
+    with_counts(draw, function, input, [name for name in chosen if name in ("counts", "both counts")])
     arguments = [input.get(parameter.name) for parameter in function.parameters]
     return chosen or ["none"], with_outputs(draw, function, [a % 2**64 if isinstance(a, int) else a for a in arguments], "room" in chosen)

@@ -109,9 +109,11 @@ class Draw:
         return self.stepped([min(rank, max(1, self.one_of(others) - 1 + self.below(3))) for _ in range(length)])
 
     def pair(self, rank, length):
+        return self.pair_of(self.word(rank, length))
+
+    def pair_of(self, word):
         """The pair of a word: its letters sorted, equal ones as they stand; each entry a place from 1; a step down where the entry falls."""
-        word = self.word(rank, length)
-        places = sorted(range(length), key=word.__getitem__)
+        places = sorted(range(len(word)), key=word.__getitem__)
         marks = [int(cell > 0 and place < places[cell - 1]) for cell, place in enumerate(places)]
         return [word[place] for place in places], marks, [place + 1 for place in places]
 

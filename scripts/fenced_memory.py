@@ -8,7 +8,7 @@ import sys
 from lent_memory import PAGE, Laid, Piece, packed
 
 ROOM = 8 * PAGE
-MOST_BUFFERS = 6
+MOST_BUFFERS = 9
 
 
 class NotThere(Exception):
@@ -96,7 +96,7 @@ class Fenced:
             laid.add(piece, ROOM - len(content) - len(guard) if at_end else 0, content, guard, at_end)
             address = piece.address + (ROOM - len(content) if at_end else 0)
             count = count_of(argument)
-            laid.passed += [address if count or self.draw.below(2) else None, count]
+            laid.passed += [address if count or self.draw.below(2) else None] + ([] if parameter.fixed else [count])
         return laid
 
     def held(self, laid):

@@ -1,7 +1,8 @@
 """include/luchtrav.h as data: each function with its parameters, the fields of its reply and the numbers that it can refuse with, read from the
 header's own text, and the library opened by it.
 
-A buffer of the header is two parameters, a pointer and `.._count`; here it is one, with the bytes of an element and whether it is `const`.
+A buffer of the header is two parameters, a pointer and `.._count`; here it is one, with the bytes of an element and whether it is `const`. Letter counts
+are a pointer alone; here they are a buffer whose number of elements is fixed.
 """
 import ctypes
 import os
@@ -12,11 +13,12 @@ ROOT = os.path.dirname(os.path.dirname(os.path.abspath(__file__)))
 HEADER = os.path.join(ROOT, "include", "luchtrav.h")
 LIBRARY = os.path.join(ROOT, "target", "library", "libluchtrav.so")
 
-# size: bytes of an element, 0 for a number. lent: whether the memory is lent for writing.
-Parameter = namedtuple("Parameter", "name size lent")
+# size: bytes of an element, 0 for a number. lent: whether the memory is lent for writing. fixed: how many elements there always are, 0 where that is told.
+Parameter = namedtuple("Parameter", "name size lent fixed")
 Function = namedtuple("Function", "name parameters fields refusals call")
 
 SIZES = {"uint8_t": 1, "uint16_t": 2}
+COUNTS = 64
 
 
 def fields_of(text):
@@ -36,11 +38,17 @@ def parameters_of(text):
         buffer = re.fullmatch(r"(const )?(\w+) \*(\w+)", part)
         if buffer:
             const, element, name = buffer.groups()
-            assert parts.pop(0) == "size_t %s_count" % name, part
-            parameters.append(Parameter(name, SIZES[element], not const))
+            fixed = COUNTS if name.endswith("counts") else 0
+            assert fixed or parts.pop(0) == "size_t %s_count" % name, part
+            parameters.append(Parameter(name, SIZES[element], not const, fixed))
         else:
-            parameters.append(Parameter(re.fullmatch(r"(?:size_t|uint64_t) (\w+)", part)[1], 0, False))
+            parameters.append(Parameter(re.fullmatch(r"(?:size_t|uint64_t) (\w+)", part)[1], 0, False, 0))
     return parameters
+
+
+def types_of(parameter):
+    """The types of a parameter as the library takes it."""
+    return [ctypes.c_void_p] if parameter.fixed else [ctypes.c_void_p, ctypes.c_size_t] if parameter.size else [ctypes.c_size_t]
 
 
 def refusals_of(text):
@@ -68,6 +76,6 @@ def functions_of(library):
         if opened:
             call = getattr(opened, "luchtrav_" + name)
             call.restype = type(struct, (ctypes.Structure,), {"_fields_": [(field, ctypes.c_uint64) for field in structs[struct]]})
-            call.argtypes = [kind for p in parameters for kind in ([ctypes.c_void_p, ctypes.c_size_t] if p.size else [ctypes.c_size_t])]
+            call.argtypes = [kind for parameter in parameters for kind in types_of(parameter)]
         functions[name] = Function(name, parameters, structs[struct], refusals[name], call)
     return functions

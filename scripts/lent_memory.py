@@ -77,7 +77,7 @@ class Laid:
         for parameter, span in zip(parameters, self.spans):
             first = passed.pop(0)
             if parameter.size:
-                buffer, count = unpacked(parameter.size, content[span[0] : span[1]]), passed.pop(0)
+                buffer, count = unpacked(parameter.size, content[span[0] : span[1]]), parameter.fixed or passed.pop(0)
                 values.append(buffer if count == len(buffer) else (buffer, count))
             else:
                 values.append(first)
@@ -120,17 +120,18 @@ class Memory:
             image[span[0] : span[1]] = content
         laid = Laid(image, ROOM - at if edge == 1 else 0, spans)
         self.piece.put(laid.base, bytes(image))
-        laid.passed = list(self.passed(laid, arguments))
+        laid.passed = list(self.passed(laid, function.parameters, arguments))
         return laid
 
-    def passed(self, laid, arguments):
+    def passed(self, laid, parameters, arguments):
         """The arguments as the library takes them."""
-        for argument, span in zip(arguments, laid.spans):
+        for parameter, argument, span in zip(parameters, arguments, laid.spans):
             if span is None:
                 yield argument
             else:
                 yield self.piece.address + laid.base + span[0] if argument or self.draw.below(2) else None
-                yield len(argument)
+                if not parameter.fixed:
+                    yield len(argument)
 
     def held(self, laid):
         """What the memory of a call holds now."""

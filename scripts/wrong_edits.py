@@ -1,7 +1,7 @@
 """The edits of wrong_kernels.py: what goes wrong, the module, and the text that is exchanged, which stands there once.
 
 Those of EDGES leave every reply and every byte as they must be where buffers are as long as they say: they only touch memory that they need not, or were
-not lent. RIGHT changes nothing.
+not lent. RIGHT changes nothing. Edits of letter counts are in wrong_counts.py.
 """
 
 
@@ -118,6 +118,16 @@ def counts_to(top):
 
 
 SAME_COUNTS = "sorted(first) == sorted(second)"
+OF_WORDS = "    return of_one_class(first, second)\n"
+
+
+def class_to(top):
+    """The class of two words, where the counts of letters above one are left out."""
+    return "    return [int(%s and junction_set(first) == junction_set(second))]\n" % counts_to(top)
+
+
+WEIGHTS_OF_WORDS = "    return weights(first, second)\n"
+EVERY_SUM = "range(1, 65)] for word"
 
 MOVES = [
     ("an inversion of neighbours only", "meaning", "index in word[place:]", "index in word[place : place + 2]"),
@@ -133,23 +143,24 @@ MOVES = [
         "if a in word[word.index(larger):]:",
         "if larger == a + 1 and a in word[word.index(larger):]:",
     ),
-    ("one class only where the ranks are equal", "meaning", "same = sorted(first)", "same = first_rank == second_rank and sorted(first)"),
-    ("one class by counts up to the smaller rank", "meaning", SAME_COUNTS, counts_to(SMALLER)),
-    ("one class by counts up to the first word's rank", "meaning", SAME_COUNTS, counts_to("first_rank")),
-    ("one class by counts up to the second word's rank", "meaning", SAME_COUNTS, counts_to("second_rank")),
+    ("one class only where the ranks are equal", "meaning", OF_WORDS, OF_WORDS.replace("return", "return [0] if first_rank != second_rank else")),
+    ("one class by counts up to the smaller rank", "meaning", OF_WORDS, class_to(SMALLER)),
+    ("one class by counts up to the first word's rank", "meaning", OF_WORDS, class_to("first_rank")),
+    ("one class by counts up to the second word's rank", "meaning", OF_WORDS, class_to("second_rank")),
     ("one class by counts alone", "meaning", " and junction_set(first) == junction_set(second)", ""),
     ("one class by length and junctions", "meaning", SAME_COUNTS, "len(first) == len(second)"),
     ("lower and higher exchanged", "meaning", "(True, False): 1, (False, True): 2", "(True, False): 2, (False, True): 1"),
-    ("weights without the letter 64", "meaning", "range(1, 65)]", "range(1, 64)]"),
-    ("weights to the first word's rank", "meaning", "range(1, 65)]", "range(1, first_rank + 1)]"),
+    ("weights without the letter 64", "meaning", EVERY_SUM, "range(1, 64)] for word"),
+    ("weights to the first word's rank", "meaning", WEIGHTS_OF_WORDS, "    return weights(first, [a for a in second if a <= first_rank])\n"),
     ("weights: sums begun anew at each letter", "meaning", "if letter <= k)", "if letter == k)"),
-    ("weights: compared before the next counts are added", "meaning", "range(1, 65)]", "range(max(first_rank, second_rank))]"),
+    ("weights: compared before the next counts are added", "meaning", EVERY_SUM, "range(max(first + second, default=0))] for word"),
     ("weights: the second sum fed the first word's counts", "meaning", "for word in (first, second)]\n    at_most", "for word in (first, first)]\n    at_most"),
 ]
 
 # How the moves of words and of tableaux are made, and how every reply is made of values.
 IN_WORD = "change(raising, index, word_inversion(index, word), word)"
 IN_TABLEAU = "change(raising, index, tableau_inversion(index, letters, marks), letters)"
+MOVED_BESIDE = "move_tableau(raising, rank, index, letters, marks, letter_counts(letters))"
 VALUES = "OPERATIONS[function.name](*arguments) or []"
 
 
@@ -166,16 +177,16 @@ CHANGED_PLACES = [
     ("the new letter for the changed place", "meaning", "return [place]", "return [new]"),
     ("lowering tells the leftmost, and changes the rightmost", "meaning", "return [place]", "return [places[0]]"),
     ("raising tells the rightmost, and changes the leftmost", "meaning", "return [place]", "return [places[-1]]"),
-    ("the tableau's move tells one place too far", "meaning", "return " + IN_TABLEAU, "return [%s[0] + 1]" % IN_TABLEAU),
+    ("the tableau's move tells one place too far", "meaning", "changed = " + IN_TABLEAU, "changed = [%s[0] + 1]" % IN_TABLEAU),
     (
         "the tableau's move tells a place in its column reading", "meaning",
-        "    return " + IN_TABLEAU,
-        "    word = reading(letters, marks)\n    %s\n    return move_word(raising, rank, index, word)" % IN_TABLEAU,
+        "    changed = " + IN_TABLEAU,
+        "    word = reading(letters, marks)\n    %s\n    changed = move_word(raising, rank, index, word)" % IN_TABLEAU,
     ),
     (
         "the word's move tells a cell of its tableau", "meaning",
         "    return " + IN_WORD,
-        "    letters, marks, _ = pair_of(word)\n    %s\n    return move_tableau(raising, rank, index, letters, marks)" % IN_WORD,
+        "    letters, marks, _ = pair_of(word)\n    %s\n    return %s" % (IN_WORD, MOVED_BESIDE),
     ),
     ("the changed place in place, and not in changed", "replies", "[0, 0] + (%s)" % VALUES, moves_reply("[0, *values, 0]")),
     ("the changed place in place and in changed", "replies", "[0, 0] + (%s)" % VALUES, moves_reply("[0, *values, *values]")),
@@ -189,7 +200,7 @@ CHANGED_PLACES = [
 # The place that a move changes in a word, by the recording entry of the cell that it changes in the word's tableau.
 BY_ENTRY = """    letters, marks, entries = pair_of(word)
     %s
-    return [entries[cell] - 1 for cell in move_tableau(raising, rank, index, letters, marks)]""" % IN_WORD
+    return [entries[cell] - 1 for cell in %s]""" % (IN_WORD, MOVED_BESIDE)
 
 # The product as it stands, and by letters and marks alone, as a kernel finds it: counts of both factors, the letters that a step down leaves in each, and
 # from the largest letter down the step into the next larger one of either.
@@ -205,6 +216,10 @@ BY_LETTERS = """    first, second = ([letters.count(a) for a in range(65)] for l
     new_letters = sorted(first_letters + second_letters)
     new_marks = [int(letter not in new_letters[:place] and steps.get(letter, 0)) for place, letter in enumerate(new_letters)]
 """
+
+
+# 2 of two factors.
+CELLS_TOGETHER = "    check_length(len(first_letters) + len(second_letters))\n"
 
 
 def by_letters(old, new):
@@ -243,8 +258,8 @@ PRODUCTS = [
     ),
     (
         "2 judged of each factor alone", "meaning",
-        "    check_length(first_count + len(second_letters))\n",
-        "    check_length(first_count)\n    check_length(len(second_letters))\n",
+        CELLS_TOGETHER,
+        "    check_length(len(first_letters))\n    check_length(len(second_letters))\n",
     ),
     (
         "the marks of both factors counted together", "meaning",
@@ -253,8 +268,8 @@ PRODUCTS = [
     ),
     (
         "4 of the second factor not counted on", "meaning",
-        "check_letters(rank, second_letters, first_count)",
-        "check_letters(rank, second_letters)",
+        "check_letters(second_rank, second_letters, first_count)",
+        "check_letters(second_rank, second_letters)",
     ),
     ("5 of the second factor not counted on", "meaning", "check_rising(second_letters, first_count)", "check_rising(second_letters)"),
     ("6 of the second factor not counted on", "meaning", "second_marks, first_count)", "second_marks)"),
@@ -270,8 +285,8 @@ PRODUCTS = [
     ),
     (
         "5 of the first factor before 4 of the second", "meaning",
-        "    check_letters(rank, second_letters, first_count)\n    check_rising(first_letters)\n",
-        "    check_rising(first_letters)\n    check_letters(rank, second_letters, first_count)\n",
+        "    check_letters(second_rank, second_letters, first_count)\n    check_rising(first_letters)\n",
+        "    check_rising(first_letters)\n    check_letters(second_rank, second_letters, first_count)\n",
     ),
     (
         "6 of the first factor before 5 of the second", "meaning",
@@ -314,6 +329,8 @@ LINES = [
     ("the length as the place of a long input", "lines", "Refused(14, 4096)", "Refused(14, len(text))"),
 ]
 
+COUNTED = "check_counted_tableau(rank, letters, marks, counts)"
+
 CLASSES = [
     ("classes: 21 cells counted", "class_numbers", "count > 20", "count > 21"),
     ("classes: 20 cells refused", "class_numbers", "count > 20", "count >= 20"),
@@ -337,8 +354,8 @@ CLASSES = [
     ),
     (
         "classes: 15 before 4 of a tableau", "class_numbers",
-        "    check_tableau(rank, letters, marks)\n    check_small(len(letters))\n    return",
-        "    if 1 <= rank <= 64 and len(letters) == len(marks) <= 1024:\n        check_small(len(letters))\n    check_tableau(rank, letters, marks)\n    return",
+        "    %s\n    check_small(len(letters))\n    return" % COUNTED,
+        "    if 1 <= rank <= 64 and len(letters) == len(marks) <= 1024:\n        check_small(len(letters))\n    %s\n    return" % COUNTED,
     ),
     (
         "classes: 15 before 4 of a word", "class_numbers",
@@ -363,6 +380,13 @@ CLASSES = [
 
 EDITS = CHECKS + RIBBONS + MOVES + CHANGED_PLACES + PRODUCTS + CLASSES + LINES
 
+# 1 to 3 of a pair.
+OF_A_PAIR = """def check_pair(rank, letters, marks, entries):
+    check_rank(rank)
+    check_length(len(letters))
+    check_alike(letters, marks, entries)
+"""
+
 EDGES = [
     (
         "the first letter of a word read before its rank is judged", "meaning",
@@ -378,8 +402,8 @@ EDGES = [
     ("marks read before they are as many as the letters", "meaning", "    check_alike(letters, marks)\n", "    sum(marks)\n    check_alike(letters, marks)\n"),
     (
         "entries of a pair read before they are as many as the letters", "meaning",
-        "    check_alike(letters, marks, entries)\n",
-        "    sum(entries)\n    check_alike(letters, marks, entries)\n",
+        OF_A_PAIR,
+        OF_A_PAIR.replace("    check_alike", "    sum(entries)\n    check_alike"),
     ),
     (
         "entries of a ribbon alone read before its length is judged", "lines",
@@ -410,18 +434,18 @@ EDGES = [
     ),
     (
         "column reading: the mark before the first read", "meaning",
-        "    check_tableau(rank, letters, marks)\n    check_room(len(letters), word)\n",
-        "    check_tableau(rank, letters, marks)\n    check_room(len(letters), word)\n    marks[-1]\n",
+        "    %s\n    check_room(len(letters), word)\n" % COUNTED,
+        "    %s\n    check_room(len(letters), word)\n    marks[-1]\n" % COUNTED,
     ),
     (
         "product: cells judged by a sum that is cut to 64 bits", "meaning",
-        "    check_length(first_count + len(second_letters))\n",
+        CELLS_TOGETHER,
         "    check_length((first_letters.elements + second_letters.elements) % 2**64)\n",
     ),
     (
         "product: letters of the second factor read before 2 is judged", "meaning",
-        "    check_length(first_count + len(second_letters))\n",
-        "    sum(second_letters)\n    check_length(first_count + len(second_letters))\n",
+        CELLS_TOGETHER,
+        "    sum(second_letters)\n" + CELLS_TOGETHER,
     ),
     (
         "product: marks of the second factor read before 3 is judged", "meaning",

@@ -14,14 +14,18 @@ import types
 sys.dont_write_bytecode = True
 
 import header
+import wrong_counts
+import wrong_edits
 from drawn import called
 from drawn_edges import apart, calls
 from drawn_inputs import drawn_input
 from drawn_values import Draw
 from fenced_memory import python_length
 from lent_memory import Memory, packed, unpacked
-from wrong_edits import EDGES, EDITS, RIGHT
 
+EDITS = wrong_edits.EDITS + wrong_counts.EDITS
+EDGES = wrong_edits.EDGES + wrong_counts.EDGES
+RIGHT = wrong_edits.RIGHT + wrong_counts.RIGHT
 MOST = 1000000
 MOST_RIGHT = 100000
 MOST_EDGES = 300
@@ -86,7 +90,7 @@ class Elements:
 def arguments_of(function, passed, buffer):
     """The arguments as the plain Python takes them, each buffer made of its size, address and count."""
     rest = list(passed)
-    return [buffer(p.size, rest.pop(0), rest.pop(0)) if p.size else rest.pop(0) for p in function.parameters]
+    return [buffer(p.size, rest.pop(0), p.fixed or rest.pop(0)) if p.size else rest.pop(0) for p in function.parameters]
 
 
 def in_its_place(function, replies):
