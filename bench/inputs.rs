@@ -26,12 +26,13 @@ impl Draws {
     }
 }
 
-/// A word with its tableau and its recording ribbon.
+/// A word with its tableau, letter counts included, and its recording ribbon.
 pub struct Pair {
     pub word: Vec<u8>,
     pub letters: Vec<u8>,
     pub marks: Vec<u8>,
     pub entries: Vec<u16>,
+    pub counts: [u16; 64],
 }
 
 impl Pair {
@@ -39,7 +40,9 @@ impl Pair {
         let mut letters = vec![0; word.len()];
         let mut marks = vec![0; word.len()];
         let mut entries = vec![0; word.len()];
-        let tableau = insertion::tableau_of_word(rank, &word, &mut letters, &mut marks);
+        let mut counts = [0; 64];
+        let tableau =
+            insertion::tableau_of_word(rank, &word, &mut letters, &mut marks, &mut counts);
         let recording = insertion::recording_of_word(rank, &word, &mut entries);
         assert!(tableau.is_ok() && recording.is_ok(), "drawn word refused");
         Pair {
@@ -47,6 +50,7 @@ impl Pair {
             letters,
             marks,
             entries,
+            counts,
         }
     }
 
@@ -54,6 +58,7 @@ impl Pair {
         Tableau {
             letters: &self.letters,
             marks: &self.marks,
+            counts: &self.counts,
         }
     }
 }
@@ -66,6 +71,7 @@ pub struct Input {
     pub letters: Vec<u8>,
     pub marks: Vec<u8>,
     pub entries: Vec<u16>,
+    pub counts: [u16; 64],
     /// Another word of the same class, so that both its counts and its junction set must be looked at.
     pub other: Vec<u8>,
     /// The pair of all letters of the word but the last.
@@ -100,10 +106,16 @@ impl Input {
             letters,
             marks,
             entries,
+            counts,
         } = Pair::new(rank, draws.word(count, 1, rank));
         let shorter = Pair::new(rank, word[..count - 1].to_vec());
         let mut other = vec![0; count];
-        let read = column_reading(rank, &letters, &marks, &mut other);
+        let tableau = Tableau {
+            letters: &letters,
+            marks: &marks,
+            counts: &counts,
+        };
+        let read = column_reading(rank, tableau, &mut other);
         assert!(read.is_ok(), "tableau of a drawn word refused");
         let mut raised = draws.word(count, 1, rank - 2);
         raised[count - 1] = rank as u8;
@@ -126,6 +138,16 @@ impl Input {
             letters,
             marks,
             entries,
+            counts,
+        }
+    }
+
+    /// The word's tableau.
+    pub fn tableau(&self) -> Tableau<'_> {
+        Tableau {
+            letters: &self.letters,
+            marks: &self.marks,
+            counts: &self.counts,
         }
     }
 }
@@ -136,6 +158,7 @@ pub struct Lent {
     pub letters: Vec<u8>,
     pub marks: Vec<u8>,
     pub entries: Vec<u16>,
+    pub counts: [u16; 64],
     pub text: Vec<u8>,
 }
 
@@ -145,6 +168,7 @@ impl Lent {
             letters: vec![170; 1100],
             marks: vec![170; 1100],
             entries: vec![43_690; 1100],
+            counts: [43_690; 64],
             text: vec![170; 16_500],
         }
     }
@@ -156,6 +180,7 @@ impl Lent {
         lent.letters[..count].copy_from_slice(&pair.letters);
         lent.marks[..count].copy_from_slice(&pair.marks);
         lent.entries[..count].copy_from_slice(&pair.entries);
+        lent.counts = pair.counts;
         lent
     }
 

@@ -141,6 +141,7 @@ extern "C" {
         letters_count: usize,
         marks: *mut u8,
         marks_count: usize,
+        counts: *mut u16,
     ) -> Count;
     pub fn luchtrav_recording_of_word(
         rank: usize,
@@ -189,12 +190,21 @@ extern "C" {
         marks: *const u8,
         marks_count: usize,
     ) -> Done;
+    pub fn luchtrav_check_counted_tableau(
+        rank: usize,
+        letters: *const u8,
+        letters_count: usize,
+        marks: *const u8,
+        marks_count: usize,
+        counts: *const u16,
+    ) -> Done;
     pub fn luchtrav_column_reading(
         rank: usize,
         letters: *const u8,
         letters_count: usize,
         marks: *const u8,
         marks_count: usize,
+        counts: *const u16,
         word: *mut u8,
         word_count: usize,
     ) -> Count;
@@ -205,6 +215,7 @@ extern "C" {
         letters_count: usize,
         marks: *const u8,
         marks_count: usize,
+        counts: *mut u16,
     ) -> Move;
     pub fn luchtrav_lower_tableau(
         rank: usize,
@@ -213,6 +224,7 @@ extern "C" {
         letters_count: usize,
         marks: *const u8,
         marks_count: usize,
+        counts: *mut u16,
     ) -> Move;
     pub fn luchtrav_raise_count_tableau(
         rank: usize,
@@ -221,6 +233,7 @@ extern "C" {
         letters_count: usize,
         marks: *const u8,
         marks_count: usize,
+        counts: *const u16,
     ) -> Count;
     pub fn luchtrav_lower_count_tableau(
         rank: usize,
@@ -229,7 +242,36 @@ extern "C" {
         letters_count: usize,
         marks: *const u8,
         marks_count: usize,
+        counts: *const u16,
     ) -> Count;
+    pub fn luchtrav_same_class_of_tableaux(
+        first_rank: usize,
+        first_letters: *const u8,
+        first_letters_count: usize,
+        first_marks: *const u8,
+        first_marks_count: usize,
+        first_counts: *const u16,
+        second_rank: usize,
+        second_letters: *const u8,
+        second_letters_count: usize,
+        second_marks: *const u8,
+        second_marks_count: usize,
+        second_counts: *const u16,
+    ) -> Class;
+    pub fn luchtrav_compare_weights_of_tableaux(
+        first_rank: usize,
+        first_letters: *const u8,
+        first_letters_count: usize,
+        first_marks: *const u8,
+        first_marks_count: usize,
+        first_counts: *const u16,
+        second_rank: usize,
+        second_letters: *const u8,
+        second_letters_count: usize,
+        second_marks: *const u8,
+        second_marks_count: usize,
+        second_counts: *const u16,
+    ) -> Order;
     pub fn luchtrav_look(
         rank: usize,
         letters: *const u8,
@@ -251,14 +293,17 @@ extern "C" {
         first_letters_count: usize,
         first_marks: *const u8,
         first_marks_count: usize,
+        first_counts: *const u16,
         second_letters: *const u8,
         second_letters_count: usize,
         second_marks: *const u8,
         second_marks_count: usize,
+        second_counts: *const u16,
         letters: *mut u8,
         letters_count: usize,
         marks: *mut u8,
         marks_count: usize,
+        counts: *mut u16,
     ) -> Count;
     pub fn luchtrav_class_size(
         rank: usize,
@@ -266,6 +311,7 @@ extern "C" {
         letters_count: usize,
         marks: *const u8,
         marks_count: usize,
+        counts: *const u16,
     ) -> Value;
     pub fn luchtrav_class_word(
         rank: usize,
@@ -273,6 +319,7 @@ extern "C" {
         letters_count: usize,
         marks: *const u8,
         marks_count: usize,
+        counts: *const u16,
         number: u64,
         word: *mut u8,
         word_count: usize,
@@ -287,6 +334,16 @@ extern "C" {
         entries: *const u16,
         entries_count: usize,
     ) -> Done;
+    pub fn luchtrav_check_counted_pair(
+        rank: usize,
+        letters: *const u8,
+        letters_count: usize,
+        marks: *const u8,
+        marks_count: usize,
+        entries: *const u16,
+        entries_count: usize,
+        counts: *const u16,
+    ) -> Done;
     pub fn luchtrav_insert_letter(
         rank: usize,
         used: usize,
@@ -297,6 +354,7 @@ extern "C" {
         marks_count: usize,
         entries: *mut u16,
         entries_count: usize,
+        counts: *mut u16,
     ) -> Count;
     pub fn luchtrav_word_of_pair(
         rank: usize,
@@ -306,6 +364,7 @@ extern "C" {
         marks_count: usize,
         entries: *const u16,
         entries_count: usize,
+        counts: *const u16,
         word: *mut u8,
         word_count: usize,
     ) -> Count;
@@ -364,6 +423,7 @@ extern "C" {
         letters_count: usize,
         marks: *mut u8,
         marks_count: usize,
+        counts: *mut u16,
     ) -> Line;
     pub fn luchtrav_read_recording_line(
         text: *const u8,

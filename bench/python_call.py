@@ -86,15 +86,15 @@ def ways(operation, words, call, plain, bare_call):
 
 def tableau_ways(word):
     letters = len(word)
-    first, cells, marks = buffers(word, word, word)
+    first, cells, marks, counts = buffers(word, word, word, bytes(128))
     buffer = [c_void_p, c_size_t]
-    function = bare("tableau_of_word", [c_size_t, *buffer, *buffer, *buffer])
+    function = bare("tableau_of_word", [c_size_t, *buffer, *buffer, *buffer, c_void_p])
     return ways(
         "tableau_of_word",
         [word],
         lambda given: luchtrav.tableau_of_word(RANK, given),
         plain_tableau,
-        lambda: function(RANK, first, letters, cells, letters, marks, letters),
+        lambda: function(RANK, first, letters, cells, letters, marks, letters, counts),
     )
 
 

@@ -138,9 +138,9 @@ def print_costs(counts):
     print("## Instructions a letter\n")
     print_ratios(counts, counts.operations, LETTERS, 2)
     print(
-        "`same_class` and `compare_weights`: for each letter of both words; `same_class:64` has the second word at rank"
-        " 64. `product`: for each cell of both factors together. `insert_letter`: for each cell of the pair before the"
-        " insertion. `write_refusal_line`: for the whole call.\n"
+        "`same_class` and `compare_weights`: for each letter of both words, or cell of both tableaux; `same_class:64` has"
+        " the second word at rank 64. `product`: for each cell of both factors together. `insert_letter`: for each cell of"
+        " the pair before the insertion. `write_refusal_line`: for the whole call.\n"
     )
 
 

@@ -9,15 +9,16 @@
 
 #include "luchtrav.h"
 
-enum { RANK = LUCHTRAV_RANKS, L = LUCHTRAV_LETTERS, H = L / 2, F = LUCHTRAV_COUNTED };
+enum { RANK = LUCHTRAV_RANKS, L = LUCHTRAV_LETTERS, H = L / 2, F = LUCHTRAV_COUNTED, C = LUCHTRAV_COUNTS };
 enum { STACK = 1 << 18, PAINT = 0xA5, SAID = 40000 };
 
-/* A word with its pair, its lines, one tableau of equal letters for moves, a pair with one cell left for insertion, and
- * the tableaux of the word's two halves; the first letters of the word, as many as a class is counted of, with their
- * tableau. */
-static uint8_t word[L], letters[L], marks[L], same[L], level[L], first[L], steps[L];
+/* A word with its pair, its lines, a word and a tableau of equal letters for moves, a pair with one cell left for
+ * insertion, and the tableaux of the word's two halves; the first letters of the word, as many as a class is counted
+ * of, with their tableau. The counts of each tableau are named after its letters. */
+static uint8_t word[L], letters[L], marks[L], twos[L], same[L], level[L], first[L], steps[L];
 static uint8_t front[H], front_marks[H], back[H], back_marks[H], few[F], few_marks[F];
 static uint16_t entries[L], places[L];
+static uint16_t counts[C], counts_same[C], counts_first[C], counts_front[C], counts_back[C], counts_few[C], counted[C];
 static uint8_t w_line[LUCHTRAV_LINE_BYTES], t_line[LUCHTRAV_LINE_BYTES], n_line[LUCHTRAV_LINE_BYTES];
 static size_t w_count, t_count, n_count;
 static uint8_t bytes[LUCHTRAV_ANSWER_BYTES], more[L];
@@ -26,41 +27,50 @@ static size_t refused;
 
 static void prepare(void) {
     for (size_t i = 0; i < L; i++) word[i] = (uint8_t)(1 + (i * 37 + i / 5) % RANK);
+    memset(twos, 2, L);
     memset(same, 2, L);
-    luchtrav_tableau_of_word(RANK, word, L, letters, L, marks, L);
+    counts_same[1] = L;
+    luchtrav_tableau_of_word(RANK, word, L, letters, L, marks, L, counts);
     luchtrav_recording_of_word(RANK, word, L, entries, L);
-    luchtrav_tableau_of_word(RANK, word, L - 1, first, L, steps, L);
+    luchtrav_tableau_of_word(RANK, word, L - 1, first, L, steps, L, counts_first);
     luchtrav_recording_of_word(RANK, word, L - 1, places, L);
-    luchtrav_tableau_of_word(RANK, word, H, front, H, front_marks, H);
-    luchtrav_tableau_of_word(RANK, word + H, H, back, H, back_marks, H);
-    luchtrav_tableau_of_word(RANK, word, F, few, F, few_marks, F);
+    luchtrav_tableau_of_word(RANK, word, H, front, H, front_marks, H, counts_front);
+    luchtrav_tableau_of_word(RANK, word + H, H, back, H, back_marks, H, counts_back);
+    luchtrav_tableau_of_word(RANK, word, F, few, F, few_marks, F, counts_few);
     w_count = luchtrav_write_word_line(RANK, word, L, w_line, sizeof w_line).count;
     t_count = luchtrav_write_tableau_line(RANK, letters, L, marks, L, t_line, sizeof t_line).count;
     n_count = luchtrav_write_recording_line(entries, L, n_line, sizeof n_line).count;
 }
 
 #define WORD RANK, word, L
-#define TABLEAU RANK, letters, L, marks, L
+#define CELLS letters, L, marks, L
+#define TABLEAU RANK, CELLS
+#define FACTORS front, H, front_marks, H, counts_front, back, H, back_marks, H, counts_back
+#define FEW RANK, few, F, few_marks, F, counts_few
+#define MOVED same, L, level, L, counts_same
 #define OUT bytes, sizeof bytes
 #define CALLS(call) \
-    call(check_word, WORD) call(tableau_of_word, WORD, bytes, L, more, L) call(recording_of_word, WORD, wide, L) \
-    call(junctions, WORD) call(raise_word, RANK, 1, same, L) call(lower_word, RANK, 2, same, L) \
+    call(check_word, WORD) call(tableau_of_word, WORD, bytes, L, more, L, counted) \
+    call(recording_of_word, WORD, wide, L) \
+    call(junctions, WORD) call(raise_word, RANK, 1, twos, L) call(lower_word, RANK, 2, twos, L) \
     call(raise_count_word, RANK, 1, word, L) call(lower_count_word, RANK, 1, word, L) \
     call(same_class, WORD, WORD) call(compare_weights, WORD, WORD) \
-    call(check_tableau, TABLEAU) call(column_reading, TABLEAU, OUT) \
-    call(raise_tableau, RANK, 2, same, L, level, L) call(lower_tableau, RANK, 2, same, L, level, L) \
-    call(raise_count_tableau, RANK, 1, letters, L, marks, L) call(lower_count_tableau, RANK, 1, letters, L, marks, L) \
-    call(look, TABLEAU, L - 1) call(cell_at, letters, L, marks, L, L - 1) \
-    call(product, RANK, front, H, front_marks, H, back, H, back_marks, H, bytes, L, more, L) \
-    call(class_size, RANK, few, F, few_marks, F) call(class_word, RANK, few, F, few_marks, F, 0, bytes, F) \
-    call(class_number, RANK, word, F) \
-    call(check_pair, TABLEAU, entries, L) call(insert_letter, RANK, L - 1, 1, first, L, steps, L, places, L) \
-    call(word_of_pair, TABLEAU, entries, L, OUT) call(tableau_line_of_word, WORD, OUT) \
+    call(check_tableau, TABLEAU) call(check_counted_tableau, TABLEAU, counts) \
+    call(column_reading, TABLEAU, counts, OUT) \
+    call(raise_tableau, RANK, 1, MOVED) call(lower_tableau, RANK, 2, MOVED) \
+    call(raise_count_tableau, RANK, 1, CELLS, counts) call(lower_count_tableau, RANK, 1, CELLS, counts) \
+    call(same_class_of_tableaux, TABLEAU, counts, TABLEAU, counts) \
+    call(compare_weights_of_tableaux, TABLEAU, counts, TABLEAU, counts) \
+    call(look, TABLEAU, L - 1) call(cell_at, CELLS, L - 1) call(product, RANK, FACTORS, bytes, L, more, L, counted) \
+    call(class_size, FEW) call(class_word, FEW, 0, bytes, F) call(class_number, RANK, word, F) \
+    call(check_pair, TABLEAU, entries, L) call(check_counted_pair, TABLEAU, entries, L, counts) \
+    call(insert_letter, RANK, L - 1, 1, first, L, steps, L, places, L, counts_first) \
+    call(word_of_pair, TABLEAU, entries, L, counts, OUT) call(tableau_line_of_word, WORD, OUT) \
     call(write_word_line, WORD, OUT) call(write_tableau_line, TABLEAU, OUT) \
     call(write_recording_line, entries, L, OUT) call(write_junction_line, WORD, OUT) \
     call(write_refusal_line, 14, 4096, OUT) call(read_word_line, w_line, w_count, more, L) \
-    call(read_tableau_line, t_line, t_count, bytes, L, more, L) call(read_recording_line, n_line, n_count, wide, L) \
-    call(answer, w_line, w_count, OUT)
+    call(read_tableau_line, t_line, t_count, bytes, L, more, L, counted) \
+    call(read_recording_line, n_line, n_count, wide, L) call(answer, w_line, w_count, OUT)
 
 #define DEFINE(name, ...) \
     static void name(void) { refused = luchtrav_##name(__VA_ARGS__).number; }
@@ -94,7 +104,7 @@ int main(void) {
     prepare();
     for (size_t i = 0; i < sizeof calls / sizeof *calls; i++) {
         size_t bytes_used = used_by(calls[i].call);
-        printf("%-22s %6zu%s\n", calls[i].name, bytes_used, refused ? " refused" : "");
+        printf("%-27s %6zu%s\n", calls[i].name, bytes_used, refused ? " refused" : "");
         wrong += refused != 0 || bytes_used > SAID;
     }
     return wrong != 0;

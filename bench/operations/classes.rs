@@ -9,8 +9,16 @@ pub const OPERATIONS: [Operation; 3] = [
         unit: Unit::Call,
         ..operation(
             "class_size",
-            |i, _| call!(luchtrav_class_size, i.rank, [i.letters], [i.marks]),
-            |i, _| value(classes::class_size(i.rank, &i.letters, &i.marks)),
+            |i, _| {
+                call!(
+                    luchtrav_class_size,
+                    i.rank,
+                    [i.letters],
+                    [i.marks],
+                    i.counts.as_ptr()
+                )
+            },
+            |i, _| value(classes::class_size(i.rank, i.tableau())),
         )
     },
     Operation {
@@ -23,6 +31,7 @@ pub const OPERATIONS: [Operation; 3] = [
                     i.rank,
                     [i.letters],
                     [i.marks],
+                    i.counts.as_ptr(),
                     i.number,
                     [mut m.letters]
                 )
@@ -30,8 +39,7 @@ pub const OPERATIONS: [Operation; 3] = [
             |i, m| {
                 count(classes::class_word(
                     i.rank,
-                    &i.letters,
-                    &i.marks,
+                    i.tableau(),
                     i.number,
                     &mut m.letters,
                 ))

@@ -57,10 +57,23 @@ pub const OPERATIONS: [Operation; 10] = [
     ),
     operation(
         "read_tableau_line",
-        |i, m| call!(luchtrav_read_tableau_line, [i.tableau_line], [mut m.letters], [mut m.marks]),
+        |i, m| {
+            call!(
+                luchtrav_read_tableau_line,
+                [i.tableau_line],
+                [mut m.letters],
+                [mut m.marks],
+                m.counts.as_mut_ptr()
+            )
+        },
         |i, m| {
             said(
-                readers::read_tableau_line(&i.tableau_line, &mut m.letters, &mut m.marks),
+                readers::read_tableau_line(
+                    &i.tableau_line,
+                    &mut m.letters,
+                    &mut m.marks,
+                    &mut m.counts,
+                ),
                 |(rank, count)| [rank, count],
             )
         },

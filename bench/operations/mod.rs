@@ -1,9 +1,11 @@
 //! Every function of the C interface beside its plain Rust version, as calls on one input and lent memory.
 
-/// A call of the kernel: a number is handed over as it is, a slice in brackets as a pointer and a count.
+/// A call of the kernel: a number, and the pointer to letter counts, is handed over as it is, a slice in brackets as a pointer
+/// and a count.
 macro_rules! call {
     (@ $f:ident ($($given:expr),*)) => {
-        // SAFETY: each pointer comes from a slice, with the count of its elements, and no two of a call overlap.
+        // SAFETY: each pointer comes from a slice, with the count of its elements, or from an array of 64 counts, and no two
+        // of a call overlap where one is written.
         Reply::from(unsafe { $f($($given),*) })
     };
     (@ $f:ident ($($given:expr),*), [mut $slice:expr] $($rest:tt)*) => {
@@ -38,7 +40,7 @@ pub type Call = fn(&Input, &mut Lent) -> Reply;
 pub enum Unit {
     /// A letter of the word, a cell of the tableau or pair or of the two factors, an item of the line.
     Letter,
-    /// A letter of one of two words.
+    /// A letter of one of two words, a cell of one of two tableaux that are compared.
     LetterOfBoth,
     /// A cell that stands there before an insertion.
     CellBefore,

@@ -3,10 +3,10 @@
 use super::{count, done, operation, Operation, Unit};
 use crate::inputs::Lent;
 use crate::kernel::*;
-use crate::plain::checks::check_pair;
+use crate::plain::checks::{check_counted_pair, check_pair};
 use crate::plain::pairs;
 
-pub const OPERATIONS: [Operation; 3] = [
+pub const OPERATIONS: [Operation; 4] = [
     operation(
         "check_pair",
         |i, _| {
@@ -19,6 +19,20 @@ pub const OPERATIONS: [Operation; 3] = [
             )
         },
         |i, _| done(check_pair(i.rank, &i.letters, &i.marks, &i.entries)),
+    ),
+    operation(
+        "check_counted_pair",
+        |i, _| {
+            call!(
+                luchtrav_check_counted_pair,
+                i.rank,
+                [i.letters],
+                [i.marks],
+                [i.entries],
+                i.counts.as_ptr()
+            )
+        },
+        |i, _| done(check_counted_pair(i.rank, i.tableau(), &i.entries)),
     ),
     Operation {
         unit: Unit::CellBefore,
@@ -33,7 +47,8 @@ pub const OPERATIONS: [Operation; 3] = [
                     1,
                     [mut m.letters],
                     [mut m.marks],
-                    [mut m.entries]
+                    [mut m.entries],
+                    m.counts.as_mut_ptr()
                 )
             },
             |i, m| {
@@ -44,6 +59,7 @@ pub const OPERATIONS: [Operation; 3] = [
                     &mut m.letters,
                     &mut m.marks,
                     &mut m.entries,
+                    &mut m.counts,
                 ))
             },
         )
@@ -57,14 +73,14 @@ pub const OPERATIONS: [Operation; 3] = [
                 [i.letters],
                 [i.marks],
                 [i.entries],
+                i.counts.as_ptr(),
                 [mut m.letters]
             )
         },
         |i, m| {
             count(pairs::word_of_pair(
                 i.rank,
-                &i.letters,
-                &i.marks,
+                i.tableau(),
                 &i.entries,
                 &mut m.letters,
             ))

@@ -1,27 +1,48 @@
-//! Tableaux: column reading, moves, repeat counts, cells, products.
+//! Tableaux: column reading, moves, repeat counts, classes and weights, cells, products.
 
-use super::{cell, changed, count, done, operation, Operation};
+use super::{cell, changed, count, done, operation, said, Operation, Unit};
 use crate::inputs::Lent;
 use crate::kernel::*;
-use crate::plain::checks::check_tableau;
+use crate::plain::checks::{check_counted_tableau, check_tableau};
 use crate::plain::products::product;
-use crate::plain::tableaux;
 use crate::plain::words::Side::{Lowering, Raising};
+use crate::plain::{stored, tableaux};
 
-pub const OPERATIONS: [Operation; 9] = [
+pub const OPERATIONS: [Operation; 12] = [
     operation(
         "check_tableau",
         |i, _| call!(luchtrav_check_tableau, i.rank, [i.letters], [i.marks]),
         |i, _| done(check_tableau(i.rank, &i.letters, &i.marks)),
     ),
     operation(
+        "check_counted_tableau",
+        |i, _| {
+            call!(
+                luchtrav_check_counted_tableau,
+                i.rank,
+                [i.letters],
+                [i.marks],
+                i.counts.as_ptr()
+            )
+        },
+        |i, _| done(check_counted_tableau(i.rank, i.tableau())),
+    ),
+    operation(
         "column_reading",
-        |i, m| call!(luchtrav_column_reading, i.rank, [i.letters], [i.marks], [mut m.letters]),
+        |i, m| {
+            call!(
+                luchtrav_column_reading,
+                i.rank,
+                [i.letters],
+                [i.marks],
+                i.counts.as_ptr(),
+                [mut m.letters]
+            )
+        },
         |i, m| {
             count(tableaux::column_reading(
                 i.rank,
-                &i.letters,
-                &i.marks,
+                i.tableau(),
                 &mut m.letters,
             ))
         },
@@ -36,7 +57,8 @@ pub const OPERATIONS: [Operation; 9] = [
                     i.rank,
                     i.rank - 1,
                     [mut m.letters[..i.count]],
-                    [i.raising.marks]
+                    [i.raising.marks],
+                    m.counts.as_mut_ptr()
                 )
             },
             |i, m| {
@@ -46,6 +68,7 @@ pub const OPERATIONS: [Operation; 9] = [
                     i.rank - 1,
                     &mut m.letters[..i.count],
                     &i.raising.marks,
+                    &mut m.counts,
                 ))
             },
         )
@@ -60,7 +83,8 @@ pub const OPERATIONS: [Operation; 9] = [
                     i.rank,
                     1,
                     [mut m.letters[..i.count]],
-                    [i.lowering.marks]
+                    [i.lowering.marks],
+                    m.counts.as_mut_ptr()
                 )
             },
             |i, m| {
@@ -70,6 +94,7 @@ pub const OPERATIONS: [Operation; 9] = [
                     1,
                     &mut m.letters[..i.count],
                     &i.lowering.marks,
+                    &mut m.counts,
                 ))
             },
         )
@@ -82,7 +107,8 @@ pub const OPERATIONS: [Operation; 9] = [
                 i.rank,
                 i.rank - 1,
                 [i.raising.letters],
-                [i.raising.marks]
+                [i.raising.marks],
+                i.raising.counts.as_ptr()
             )
         },
         |i, _| {
@@ -90,8 +116,7 @@ pub const OPERATIONS: [Operation; 9] = [
                 Raising,
                 i.rank,
                 i.rank - 1,
-                &i.raising.letters,
-                &i.raising.marks,
+                i.raising.tableau(),
             ))
         },
     ),
@@ -103,7 +128,8 @@ pub const OPERATIONS: [Operation; 9] = [
                 i.rank,
                 1,
                 [i.lowering.letters],
-                [i.lowering.marks]
+                [i.lowering.marks],
+                i.lowering.counts.as_ptr()
             )
         },
         |i, _| {
@@ -111,11 +137,62 @@ pub const OPERATIONS: [Operation; 9] = [
                 Lowering,
                 i.rank,
                 1,
-                &i.lowering.letters,
-                &i.lowering.marks,
+                i.lowering.tableau(),
             ))
         },
     ),
+    Operation {
+        unit: Unit::LetterOfBoth,
+        ..operation(
+            "same_class_of_tableaux",
+            |i, _| {
+                call!(
+                    luchtrav_same_class_of_tableaux,
+                    i.rank,
+                    [i.letters],
+                    [i.marks],
+                    i.counts.as_ptr(),
+                    i.rank,
+                    [i.letters],
+                    [i.marks],
+                    i.counts.as_ptr()
+                )
+            },
+            |i, _| {
+                said(
+                    stored::same_class(i.rank, i.tableau(), i.rank, i.tableau()),
+                    |same| [usize::from(same)],
+                )
+            },
+        )
+    },
+    Operation {
+        unit: Unit::LetterOfBoth,
+        ..operation(
+            "compare_weights_of_tableaux",
+            |i, _| {
+                call!(
+                    luchtrav_compare_weights_of_tableaux,
+                    i.rank,
+                    [i.letters],
+                    [i.marks],
+                    i.counts.as_ptr(),
+                    i.rank,
+                    [i.letters],
+                    [i.marks],
+                    i.counts.as_ptr()
+                )
+            },
+            |i, _| {
+                count(stored::compare_weights(
+                    i.rank,
+                    i.tableau(),
+                    i.rank,
+                    i.tableau(),
+                ))
+            },
+        )
+    },
     operation(
         "look",
         |i, _| call!(luchtrav_look, i.rank, [i.letters], [i.marks], i.count - 1),
@@ -134,10 +211,13 @@ pub const OPERATIONS: [Operation; 9] = [
                 i.rank,
                 [i.front.letters],
                 [i.front.marks],
+                i.front.counts.as_ptr(),
                 [i.back.letters],
                 [i.back.marks],
+                i.back.counts.as_ptr(),
                 [mut m.letters],
-                [mut m.marks]
+                [mut m.marks],
+                m.counts.as_mut_ptr()
             )
         },
         |i, m| {
@@ -147,6 +227,7 @@ pub const OPERATIONS: [Operation; 9] = [
                 i.back.tableau(),
                 &mut m.letters,
                 &mut m.marks,
+                &mut m.counts,
             ))
         },
     ),

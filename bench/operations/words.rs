@@ -20,6 +20,7 @@ pub const OPERATIONS: [Operation; 11] = [
                 &i.word,
                 &mut m.letters,
                 &mut m.marks,
+                &mut m.counts,
             ))
         }),
         ..operation(
@@ -30,7 +31,8 @@ pub const OPERATIONS: [Operation; 11] = [
                     i.rank,
                     [i.word],
                     [mut m.letters],
-                    [mut m.marks]
+                    [mut m.marks],
+                    m.counts.as_mut_ptr()
                 )
             },
             |i, m| {
@@ -39,6 +41,7 @@ pub const OPERATIONS: [Operation; 11] = [
                     &i.word,
                     &mut m.letters,
                     &mut m.marks,
+                    &mut m.counts,
                 ))
             },
         )

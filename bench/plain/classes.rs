@@ -1,7 +1,7 @@
 //! The words of a class by number. A word is an order in which the cells of its ribbon are taken out; orders are counted as
 //! the kernel counts them.
 
-use super::checks::{check_room, check_tableau, check_word, refuse_if, Answer};
+use super::checks::{check_counted_tableau, check_room, check_word, refuse_if, Answer, Tableau};
 use super::words::lay_tableau;
 
 const MOST: usize = 20;
@@ -86,10 +86,10 @@ fn check_small(count: usize) -> Answer<()> {
     refuse_if(count > MOST, 15, 0)
 }
 
-pub fn class_size(rank: usize, letters: &[u8], marks: &[u8]) -> Answer<u64> {
-    check_tableau(rank, letters, marks)?;
-    check_small(letters.len())?;
-    Ok(Ribbon::of(letters, marks).orders())
+pub fn class_size(rank: usize, tableau: Tableau) -> Answer<u64> {
+    check_counted_tableau(rank, tableau)?;
+    check_small(tableau.letters.len())?;
+    Ok(Ribbon::of(tableau.letters, tableau.marks).orders())
 }
 
 /// The word with a number below the size.
@@ -109,20 +109,15 @@ fn lay_word(mut ribbon: Ribbon, mut number: u64, word: &mut [u8]) {
     }
 }
 
-pub fn class_word(
-    rank: usize,
-    letters: &[u8],
-    marks: &[u8],
-    number: u64,
-    word: &mut [u8],
-) -> Answer<usize> {
-    check_tableau(rank, letters, marks)?;
-    check_small(letters.len())?;
-    let ribbon = Ribbon::of(letters, marks);
+pub fn class_word(rank: usize, tableau: Tableau, number: u64, word: &mut [u8]) -> Answer<usize> {
+    check_counted_tableau(rank, tableau)?;
+    let cells = tableau.letters.len();
+    check_small(cells)?;
+    let ribbon = Ribbon::of(tableau.letters, tableau.marks);
     refuse_if(ribbon.orders() <= number, 16, 0)?;
-    check_room(letters.len(), word.len())?;
-    lay_word(ribbon, number, &mut word[..letters.len()]);
-    Ok(letters.len())
+    check_room(cells, word.len())?;
+    lay_word(ribbon, number, &mut word[..cells]);
+    Ok(cells)
 }
 
 pub fn class_number(rank: usize, word: &[u8]) -> Answer<u64> {

@@ -8,6 +8,7 @@ pub mod lines;
 pub mod pairs;
 pub mod products;
 pub mod readers;
+pub mod stored;
 pub mod tableaux;
 pub mod words;
 pub mod writers;

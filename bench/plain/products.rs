@@ -1,7 +1,7 @@
-//! The product of two tableaux, from letters and marks alone.
+//! The product of two tableaux, from marks and counts.
 
 use super::checks::{check_factors, check_room, Answer, Tableau};
-use super::words::{lay_cells, letter_counts};
+use super::words::lay_cells;
 
 /// Which letters of a valid tableau a step down leaves.
 fn letters_left(tableau: Tableau) -> [bool; 64] {
@@ -12,12 +12,19 @@ fn letters_left(tableau: Tableau) -> [bool; 64] {
     left
 }
 
-/// Letters and marks of the product of two valid tableaux. From the largest letter down: a step down leaves a letter where
-/// the next larger one of either stands in the first, and such a step leaves the letter there or the second has it, or where
-/// the next larger one stands in the second, and such a step leaves the letter there.
-fn lay_product(rank: usize, first: Tableau, second: Tableau, letters: &mut [u8], marks: &mut [u8]) {
-    let mut counts = letter_counts(first.letters);
-    let others = letter_counts(second.letters);
+/// Letters, marks and counts of the product of two valid tableaux. From the largest letter down: a step down leaves a letter
+/// where the next larger one of either stands in the first, and such a step leaves the letter there or the second has it, or
+/// where the next larger one stands in the second, and such a step leaves the letter there.
+fn lay_product(
+    rank: usize,
+    first: Tableau,
+    second: Tableau,
+    letters: &mut [u8],
+    marks: &mut [u8],
+    counts: &mut [u16; 64],
+) {
+    *counts = *first.counts;
+    let others = second.counts;
     let left = letters_left(first);
     let others_left = letters_left(second);
     let mut set = 0;
@@ -33,7 +40,7 @@ fn lay_product(rank: usize, first: Tableau, second: Tableau, letters: &mut [u8],
     for (count, other) in counts.iter_mut().zip(others) {
         *count += other;
     }
-    lay_cells(rank, &counts, set, letters, marks);
+    lay_cells(rank, counts, set, letters, marks);
 }
 
 pub fn product(
@@ -42,11 +49,12 @@ pub fn product(
     second: Tableau,
     letters: &mut [u8],
     marks: &mut [u8],
+    counts: &mut [u16; 64],
 ) -> Answer<usize> {
     check_factors(rank, first, second)?;
     let cells = first.letters.len() + second.letters.len();
     check_room(cells, letters.len())?;
     check_room(cells, marks.len())?;
-    lay_product(rank, first, second, letters, marks);
+    lay_product(rank, first, second, letters, marks, counts);
     Ok(cells)
 }

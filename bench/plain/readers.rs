@@ -4,6 +4,7 @@ use super::checks::{
     check_entries, check_length, check_limits, check_room, check_tableau, check_word, Answer,
     Refusal,
 };
+use super::words::letter_counts;
 
 /// A line, read from the left: its bytes, and the place of the next.
 struct Reader<'a> {
@@ -111,6 +112,7 @@ pub fn read_tableau_line(
     text: &[u8],
     letters: &mut [u8],
     marks: &mut [u8],
+    counts: &mut [u16; 64],
 ) -> Answer<(usize, usize)> {
     let mut line = Reader { text, at: 0 };
     let mut cells = [0; 1024];
@@ -132,6 +134,7 @@ pub fn read_tableau_line(
     check_room(count, marks.len())?;
     letters[..count].copy_from_slice(cells);
     marks[..count].copy_from_slice(steps);
+    *counts = letter_counts(cells);
     Ok((rank, count))
 }
 

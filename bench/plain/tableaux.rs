@@ -1,7 +1,7 @@
 //! Operations on tableaux: column reading, moves, repeat counts, cells.
 
-use super::checks::{check_room, check_tableau, Answer};
-use super::words::{check_index, move_letters, repeat_letters, Side};
+use super::checks::{check_counted_tableau, check_room, check_tableau, Answer, Tableau};
+use super::words::{check_index, move_letters, Side};
 
 /// The column reading of a valid tableau: the letters copied, then each column of two or more cells reversed.
 pub fn lay_reading(letters: &[u8], marks: &[u8], word: &mut [u8]) {
@@ -15,11 +15,11 @@ pub fn lay_reading(letters: &[u8], marks: &[u8], word: &mut [u8]) {
     }
 }
 
-pub fn column_reading(rank: usize, letters: &[u8], marks: &[u8], word: &mut [u8]) -> Answer<usize> {
-    check_tableau(rank, letters, marks)?;
-    check_room(letters.len(), word.len())?;
-    lay_reading(letters, marks, word);
-    Ok(letters.len())
+pub fn column_reading(rank: usize, tableau: Tableau, word: &mut [u8]) -> Answer<usize> {
+    check_counted_tableau(rank, tableau)?;
+    check_room(tableau.letters.len(), word.len())?;
+    lay_reading(tableau.letters, tableau.marks, word);
+    Ok(tableau.letters.len())
 }
 
 /// Whether index + 1 stands directly below index.
@@ -36,26 +36,37 @@ pub fn move_tableau(
     index: usize,
     letters: &mut [u8],
     marks: &[u8],
+    counts: &mut [u16; 64],
 ) -> Answer<usize> {
-    check_tableau(rank, letters, marks)?;
+    let tableau = Tableau {
+        letters,
+        marks,
+        counts,
+    };
+    check_counted_tableau(rank, tableau)?;
     check_index(rank, index)?;
-    let index = index as u8;
-    let inversion = has_below(index, letters, marks);
-    move_letters(side, index, inversion, letters)
+    let inversion = has_below(index as u8, letters, marks);
+    let place = move_letters(side, index as u8, inversion, letters)?;
+    let (taken, given) = match side {
+        Side::Raising => (index, index - 1),
+        Side::Lowering => (index - 1, index),
+    };
+    counts[taken] -= 1;
+    counts[given] += 1;
+    Ok(place)
 }
 
-pub fn repeat_tableau(
-    side: Side,
-    rank: usize,
-    index: usize,
-    letters: &[u8],
-    marks: &[u8],
-) -> Answer<usize> {
-    check_tableau(rank, letters, marks)?;
+/// The repeat count, from the stored counts.
+pub fn repeat_tableau(side: Side, rank: usize, index: usize, tableau: Tableau) -> Answer<usize> {
+    check_counted_tableau(rank, tableau)?;
     check_index(rank, index)?;
-    let index = index as u8;
-    let inversion = has_below(index, letters, marks);
-    Ok(repeat_letters(side, index, inversion, letters))
+    if has_below(index as u8, tableau.letters, tableau.marks) {
+        return Ok(0);
+    }
+    Ok(usize::from(match side {
+        Side::Raising => tableau.counts[index],
+        Side::Lowering => tableau.counts[index - 1],
+    }))
 }
 
 /// Letter, row and column of the cell at a place.
