@@ -253,7 +253,7 @@ def cases(*lists):
     return sum(len(re.findall(r"^ *(?:∷ )?case\b", body, re.M)) for body in bodies)
 
 
-# What pages say of the tree in figures below 1,000: the words about a number, its count, and the only pages where these words mean that.
+# What pages say of the tree in figures: the words about a number, its count, and the only pages where these words mean that.
 FIGURES = [
     ("# must-fail edits", len(EDITS), None),
     ("of their # names", len({name for name, _ in EDITS}), [PROMISES]),
@@ -275,9 +275,9 @@ FIGURES = [
 
 def check_figures():
     for words, count, only in FIGURES:
-        form = words.replace("#", r"(?<![\d,])(\d+)")
+        form = words.replace("#", r"(?<![\d,])(\d+(?:,\d{3})*)")
         told = [(page, said) for page in only or pages() for said in re.findall(form, re.sub(r"\s+", " ", page.read_text()), re.I)]
-        yield from ((page, f'"{words.replace("#", said)}", where the tree has {count}') for page, said in told if int(said) != count)
+        yield from ((page, f'"{words.replace("#", said)}", where the tree has {count}') for page, said in told if int(said.replace(",", "")) != count)
         if not told:
             yield (only or [README])[0], f'no page says how many: "{words}"'
 
