@@ -1,14 +1,21 @@
--- Letter counts in lent memory after a call (document 02, N6), as the theorems of proofs/Theory/CountsHeld.antt say it.
+-- Letter counts in lent memory after a call (document 02, N6): after each accepted call they are those of the letters in memory.
 --     cellsGiven s              how many cells a reply says are in memory: its last value
 --     Held s letters counts     the counts are those of the letters of these cells
 --     HeldIn run                the same of a call that leaves letters, marks and counts
--- Assumes nothing.
+--     CountsHeld                the claim, over every operation that gives counts or changes them
+-- Counts that a call takes are 64 numbers, as lent memory has; those that it only gives may be any. That it is so is the theorem counts-held of
+-- proofs/Theory/CountsHeld. Assumes nothing.
 use Prim.Native.Nat.{ℕ}
 use mathlib.Core.Path.{_≡_}
 use mathlib.Core.List.{List, [], _∷_}
-use lib.ListN.{take}
+use lib.ListN.{length, take}
 use Rattle.hypoplactic.specs.Counts.{countsOf}
-use Rattle.hypoplactic.specs.Replies.{Said, gives, refused}
+use Rattle.hypoplactic.specs.Insertion.{Pair}
+use Rattle.hypoplactic.specs.LineReadings.{readTRun}
+use Rattle.hypoplactic.specs.Moves.{Move}
+use Rattle.hypoplactic.specs.Replies.{Passes, Said, gives, refused}
+use Rattle.hypoplactic.specs.TableauOperations.{insertRun, moveTableauRun, tableauRun}
+use Rattle.products.specs.Products.{productRun}
 
 -- The last of some values.
 abbrev pub lastOf : List ℕ → ℕ
@@ -26,3 +33,19 @@ Held s letters counts = counts ≡ countsOf (take (cellsGiven s) letters)
 
 abbrev pub HeldIn : Said × (List ℕ × (List ℕ × List ℕ)) → Type 0
 HeldIn run = Held (run .0) (run .1 .0) (run .1 .1 .1)
+
+-- Of any input that is not refused, by the reply and by what is left.
+pub record CountsHeld : Type 0 where
+  -- The tableau of a word.
+  pub tableau : (n : ℕ) (w letters marks counts : List ℕ) → Passes ((tableauRun n w letters marks counts) .0) → HeldIn (tableauRun n w letters marks counts)
+  -- One letter inserted.
+  pub inserted : (n used a : ℕ) (p : Pair) (cs : List ℕ) → length cs ≡ 64 → Passes ((insertRun n used a p cs) .0)
+      → Held ((insertRun n used a p cs) .0) ((insertRun n used a p cs) .1 .0 .letters) ((insertRun n used a p cs) .1 .1)
+  -- A move, which leaves all letters that it was lent.
+  pub moved : (n : ℕ) (m : Move) (xs ms cs : List ℕ) → length cs ≡ 64 → Passes ((moveTableauRun n m xs ms cs) .0)
+      → (moveTableauRun n m xs ms cs) .1 .1 ≡ countsOf ((moveTableauRun n m xs ms cs) .1 .0)
+  -- The product of two tableaux.
+  pub multiplied : (n : ℕ) (xs ms cs ys ns ds letters marks counts : List ℕ) → Passes ((productRun n xs ms cs ys ns ds letters marks counts) .0)
+      → HeldIn (productRun n xs ms cs ys ns ds letters marks counts)
+  -- A T line read.
+  pub read : (text letters marks counts : List ℕ) → Passes ((readTRun text letters marks counts) .0) → HeldIn (readTRun text letters marks counts)

@@ -5,14 +5,14 @@
 --     storing                          the ruleset of the operations
 -- Assumes nothing.
 use Prim.Native.Nat.{ℕ}
-use mathlib.Core.Path.{_≡_, ap, sym, _∙_}
+use mathlib.Core.Path.{_≡_, ap, _∙_}
 use mathlib.Core.List.{List, [], _∷_}
 use mathlib.Core.Bool.{Bool, true, false, _&&_}
 use borrow.Author.Needs.{needs}
 use borrow.Author.Tests.{not-false, not-true}
 use Rattle.hypoplactic.specs.Counts.{TrueCounts}
 use Rattle.hypoplactic.specs.Replies.{Said, gives, passed, first}
-use Rattle.hypoplactic.specs.Weights.{Comparison, compareWeights}
+use Rattle.hypoplactic.specs.Weights.{Comparison}
 use Rattle.hypoplactic.specs.WordOperations.{comparisonNumber}
 use Rattle.hypoplactic.specs.Words.{tick}
 use Rattle.hypoplactic.proofs.Theory.Passing.{first-else}

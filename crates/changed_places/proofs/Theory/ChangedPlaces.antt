@@ -5,8 +5,6 @@
 --     changed-held         the place that a move changes, whatever tells of an inversion
 --     word-moved-at        every move on a word that gives values is MovedAt, whatever the rank and the word
 --     tableau-moved-at     every move on a tableau that gives values is, in its letters, whatever the tableau and its counts
---     tableau-counted-at   and where there are 64 counts, they are those of the letters before it and after it
---     counts-held          a move on any input, made or refused, leaves true counts true
 --     word-made, word-unmade           a move on an accepted word that is defined replies a place and leaves its result; else it is refused
 --     tableau-made, tableau-unmade     so does one on a tableau within the limits with its counts, and leaves those of its result
 -- Assumes nothing.
@@ -22,14 +20,14 @@ use lib.ListN.{length, getD, set}
 use borrow.Author.Tests.{eqb-true, eqb-false}
 use Rattle.hypoplactic.specs.Words.{Accepted}
 use Rattle.hypoplactic.specs.Ribbons.{TableauAt}
-use Rattle.hypoplactic.specs.Moves.{Side, raising, lowering, Move, taken, onward, leftmost, orHere, rightmost, target, changedPlace, inverted, below, given, guarded, moveTableau, moveWord, moved, movedTableau, placeInTableau, replaced}
-use Rattle.hypoplactic.specs.Replies.{Said, gives, refused, Passes, after, first, ranTo}
+use Rattle.hypoplactic.specs.Moves.{Side, raising, lowering, Move, taken, onward, leftmost, orHere, rightmost, target, changedPlace, inverted, below, given, guarded, moveTableau, moveWord, moved, movedTableau, replaced}
+use Rattle.hypoplactic.specs.Replies.{Said, gives, refused, Passes, first, ranTo}
 use Rattle.hypoplactic.specs.Counts.{TrueCounts, countsOf, oneOver, withCounts}
 use Rattle.hypoplactic.specs.Judgements.{countedJudgements, wordJudgements}
 use Rattle.hypoplactic.specs.WordOperations.{moveJudgements, moveWordRun, moveWordSays, orSame, placeTold, undefinedBy}
 use Rattle.hypoplactic.specs.TableauOperations.{moveTableauRun, moveTableauSays}
 use Rattle.changed_places.specs.ChangedPlaces.{MovedAt, Past, inLetters}
-use Rattle.hypoplactic.proofs.Theory.Counts.{counts-size, counts-true, counts-whole}
+use Rattle.hypoplactic.proofs.Theory.Counts.{counts-true}
 use Rattle.hypoplactic.proofs.Theory.Judged.{counted-passing, word-passing}
 use Rattle.hypoplactic.proofs.Theory.MoveResults.{move-replaced, move-tableau-made, move-tableau-refused, move-word-made, move-word-refused}
 use Rattle.hypoplactic.proofs.Theory.Passing.{first-past, passing-before}
@@ -178,31 +176,6 @@ tableau-moved-at n m xs ms cs h =
     let same = one-run n m xs ms cs a t in
     moved-at n m (below (m .index) xs ms) xs _ (inLetters (moveTableauRun n m xs ms cs))
     (λ p e. same ∙ ap inLetters (move-tableau-made n m xs ms a p e)) (λ e. same ∙ ap inLetters (move-tableau-refused n m xs ms a e)) h
-
--- Where it has 64 counts, as lent memory has, they are those of the letters before a move that is made, and those of the letters after it,
-pub tableau-counted-at : (n : ℕ) (m : Move) (xs ms cs : List ℕ) → length cs ≡ 64 → Passes ((moveTableauRun n m xs ms cs) .0)
-    → (cs ≡ countsOf xs) × ((moveTableauRun n m xs ms cs) .1 ≡ withCounts ((moveTableauRun n m xs ms cs) .1 .0))
-tableau-counted-at n m xs ms cs size h =
-    let (a, t) = taken-in n m xs ms cs h in
-    let true-before : cs ≡ countsOf xs = counts-whole xs cs size t in
-    (true-before, rw true-before (go a (placeInTableau n m xs ms) refl))
-  where
-    go : TableauAt n xs ms → (o : Option ℕ) → placeInTableau n m xs ms ≡ o
-        → (moveTableauRun n m xs ms (countsOf xs)) .1 ≡ withCounts ((moveTableauRun n m xs ms (countsOf xs)) .1 .0)
-    go a none e = rw (move-tableau-refused n m xs ms a e)
-    go a (some c) e = rw (move-tableau-made n m xs ms a c e)
-
--- so that a move, made or not, leaves true counts true.
-pub counts-held : (n : ℕ) (m : Move) (xs ms : List ℕ)
-    → (moveTableauRun n m xs ms (countsOf xs)) .1 ≡ withCounts ((moveTableauRun n m xs ms (countsOf xs)) .1 .0)
-unfolding moveTableauRun
-counts-held n m xs ms =
-    go (moveTableauSays n m xs ms (countsOf xs)) (moved-over m xs ms (countsOf xs)) (λ h. tableau-counted-at n m xs ms (countsOf xs) (counts-size xs) h .1)
-  where
-    go : (s : Said) (new : List ℕ × List ℕ) → (Passes s → after s new (withCounts xs) ≡ withCounts ((after s new (withCounts xs)) .0))
-        → after s new (withCounts xs) ≡ withCounts ((after s new (withCounts xs)) .0)
-    go (gives vs) new h = h tt
-    go (refused k p) new h = refl
 
 -- By the definition of the move, on a tableau within the limits with its counts.
 module _ (n : ℕ) (m : Move) (xs ms : List ℕ) (a : TableauAt n xs ms) where

@@ -23,7 +23,7 @@ use Rattle.hypoplactic.specs.Words.{Inside, count}
 use Rattle.hypoplactic.specs.Insertion.{lettersOf}
 use Rattle.hypoplactic.specs.Moves.{Side, raising, lowering, given, taken}
 use Rattle.hypoplactic.specs.Replies.{Passes, refused}
-use Rattle.hypoplactic.specs.FirstPlaces.{First, scan}
+use Rattle.hypoplactic.specs.FirstPlaces.{First}
 use Rattle.hypoplactic.specs.Counts.{TrueCounts, countFault, countsFrom, countsJudged, countsOf, oneLess, oneMore, oneOver}
 use Rattle.hypoplactic.proofs.Theory.FirstPlaces.{scan-first, scan-passes}
 use Rattle.hypoplactic.proofs.Theory.Letters.{count-letters}

@@ -1,7 +1,7 @@
 -- After each accepted call the letter counts in lent memory are those of the letters in memory (document 02, N6), said of the very definitions that the
 -- contracts cite, for every input that is not refused.
---     tableau-held, read-held, product-held, insert-held, move-held     the counts left are those of the letters left
---     tableau-word-held                                                 and after the tableau of a word those of the word
+--     counts-held                                                       the claim: the counts left are those of the letters left
+--     tableau-word-held                                                 after the tableau of a word they are those of the word
 --     tableau-kept, read-kept, insert-kept, move-kept                   a refusal leaves the counts, and all lent memory, as they were
 --     seventeen-exactly                                                 17 passes exactly the counts of the letters, and else names the first wrong one
 -- Counts that a call takes are 64 numbers, as lent memory has; those that it only gives may be any. Which of them a move changes is in
@@ -23,8 +23,8 @@ use Rattle.hypoplactic.specs.Moves.{Move}
 use Rattle.hypoplactic.specs.Replies.{Passes, Said, first, gives, ranTo, refused, written}
 use Rattle.hypoplactic.specs.FirstPlaces.{First}
 use Rattle.hypoplactic.specs.Counts.{countFault, countsJudged, countsOf, oneMore}
-use Rattle.hypoplactic.specs.Judgements.{entriesJudged, fullJudged, lengthJudged, lettersJudged, marksJudged, rankJudged, recordingJudged, risingJudged, roomJudged, tableauJudgements, tableauRooms, usedJudged, wordJudgements}
-use Rattle.hypoplactic.specs.TableauOperations.{insertRun, insertSays, moveTableauRun, tableauRun, tableauSays, usedCells, writtenPair}
+use Rattle.hypoplactic.specs.Judgements.{fullJudged, roomJudged, tableauJudgements, tableauRooms, wordJudgements}
+use Rattle.hypoplactic.specs.TableauOperations.{insertJudgements, insertRun, insertSays, moveTableauRun, tableauRun, tableauSays, usedCells, writtenPair}
 use Rattle.hypoplactic.specs.LineReadings.{readRun, readTRun, tableauRead}
 use Rattle.hypoplactic.proofs.Theory.Counts.{counts-first, counts-judged, counts-same, counts-true, counts-whole, letters-counts, snoc-counts}
 use Rattle.hypoplactic.proofs.Theory.Judgements.{letters-judged, rank-judged, used-judged}
@@ -37,7 +37,7 @@ use Rattle.hypoplactic.proofs.Theory.Placing.{count-placed, length-placed, plac
 use Rattle.products.specs.Products.{factorsJudgements, leftCounts, productLetters, productMarks, productRun, productSays, productWord}
 use Rattle.products.proofs.Theory.ProductContents.{product-cells, product-counts}
 use Rattle.products.proofs.Theory.ProductReplies.{factors-passing, needed}
-use Rattle.letter_counts.specs.CountsHeld.{Held, HeldIn, lastOf}
+use Rattle.letter_counts.specs.CountsHeld.{CountsHeld, Held, HeldIn, lastOf}
 use Rattle.letter_counts.proofs.Theory.MovedEntries.{move-passing}
 
 -- ---- 17
@@ -87,7 +87,7 @@ written-held js vs us letters ms cs old size e p =
     after-values HeldIn js vs (written us letters, (ms, cs)) old p (e ∙ sym (ap countsOf (needed (lastOf vs) us letters size)))
 
 -- The tableau of a word: the counts left are those of its letters left,
-pub tableau-held : (n : ℕ) (w letters marks counts : List ℕ) → Passes ((tableauRun n w letters marks counts) .0)
+tableau-held : (n : ℕ) (w letters marks counts : List ℕ) → Passes ((tableauRun n w letters marks counts) .0)
     → HeldIn (tableauRun n w letters marks counts)
 unfolding tableauRun tableauSays
 tableau-held n w letters marks counts =
@@ -104,7 +104,7 @@ tableau-word-held n w letters marks counts p =
     (written (lettersOf w) letters, (written (marksOf w) marks, countsOf w)) (letters, (marks, counts)) p refl
 
 -- The reading of a T line: the counts left are those of the letters read.
-pub read-held : (text letters marks counts : List ℕ) → Passes ((readTRun text letters marks counts) .0) → HeldIn (readTRun text letters marks counts)
+read-held : (text letters marks counts : List ℕ) → Passes ((readTRun text letters marks counts) .0) → HeldIn (readTRun text letters marks counts)
 unfolding readTRun
 read-held text letters marks counts p = go (readT text) p
   where
@@ -115,7 +115,7 @@ read-held text letters marks counts p = go (readT text) p
         (countsOf xs) (letters, (marks, counts)) refl refl p
 
 -- The product: the counts left are those of its letters left.
-pub product-held : (n : ℕ) (xs ms cs ys ns ds letters marks counts : List ℕ) → Passes ((productRun n xs ms cs ys ns ds letters marks counts) .0)
+product-held : (n : ℕ) (xs ms cs ys ns ds letters marks counts : List ℕ) → Passes ((productRun n xs ms cs ys ns ds letters marks counts) .0)
     → HeldIn (productRun n xs ms cs ys ns ds letters marks counts)
 unfolding productRun productSays
 product-held n xs ms cs ys ns ds letters marks counts p =
@@ -140,17 +140,15 @@ put-counts k a xs i =
     more false c = omega arith
 
 -- Insertion: the counts left are those of the used letters left.
-pub insert-held : (n used a : ℕ) (p : Pair) (cs : List ℕ) → length cs ≡ 64 → Passes ((insertRun n used a p cs) .0)
+insert-held : (n used a : ℕ) (p : Pair) (cs : List ℕ) → length cs ≡ 64 → Passes ((insertRun n used a p cs) .0)
     → Held ((insertRun n used a p cs) .0) ((insertRun n used a p cs) .1 .0 .letters) ((insertRun n used a p cs) .1 .1)
 unfolding insertRun insertSays insert
 insert-held n used a p cs e q =
     let xs : List ℕ = take used (p .letters) in
-    let ms : List ℕ = take used (p .marks) in
-    let rs : List ℕ = take used (p .recording) in
     let lengths : List ℕ = length (p .letters) ∷ length (p .marks) ∷ length (p .recording) ∷ [] in
-    let checks : List Said = rankJudged n ∷ lengthJudged used ∷ usedJudged used lengths ∷ lettersJudged n (xs ++ a ∷ []) ∷ risingJudged xs
-    ∷ marksJudged xs ms ∷ countsJudged cs xs ∷ entriesJudged used rs ∷ recordingJudged rs ms ∷ fullJudged used
-    ∷ roomJudged (suc used) (length (p .letters)) ∷ roomJudged (suc used) (length (p .marks)) ∷ roomJudged (suc used) (length (p .recording)) ∷ [] in
+    let rooms : List Said = fullJudged used ∷ roomJudged (suc used) (length (p .letters)) ∷ roomJudged (suc used) (length (p .marks))
+    ∷ roomJudged (suc used) (length (p .recording)) ∷ [] in
+    let checks : List Said = insertJudgements n used a p cs ++ rooms in
     let (rank, (short, (held, (letters, (rising, (marks, (counts, rest))))))) = passing-first checks (suc used ∷ []) q in
     let (within, low, high) = within-snoc n a xs (letters-judged n (xs ++ a ∷ []) .0 letters) in
     let top : n ≤ 64 = rank-judged n .0 rank .1 in
@@ -163,13 +161,18 @@ insert-held n used a p cs e q =
     ∙ sym (ap countsOf (needed (suc used) (putAt (seat a xs) a xs) (p .letters) cells)))
 
 -- A move: the counts left are those of the letters left.
-pub move-held : (n : ℕ) (m : Move) (xs ms cs : List ℕ) → length cs ≡ 64 → Passes ((moveTableauRun n m xs ms cs) .0)
+move-held : (n : ℕ) (m : Move) (xs ms cs : List ℕ) → length cs ≡ 64 → Passes ((moveTableauRun n m xs ms cs) .0)
     → (moveTableauRun n m xs ms cs) .1 .1 ≡ countsOf ((moveTableauRun n m xs ms cs) .1 .0)
 unfolding moveTableauRun
 move-held n m xs ms cs e p =
     let (h, c, low, high, some) = move-passing n m xs ms cs p in
     let run = ap (moveTableauRun n m xs ms) (counts-whole xs cs e c) ∙ move-tableau-result n m xs ms h in
     subst (λ (r : Said × (List ℕ × List ℕ)). r .1 .1 ≡ countsOf (r .1 .0)) (sym run) refl
+
+-- ---- the claim
+
+pub counts-held : CountsHeld
+counts-held = record { tableau = tableau-held; inserted = insert-held; moved = move-held; multiplied = product-held; read = read-held }
 
 -- ---- refusals
 
