@@ -37,7 +37,8 @@ DECLARED = r"\b(fn|struct|enum) NAME\b|^ *pub NAME:|^ *(abbrev |unfoldable )?(pu
 REQUIRED = """
     classes written-classes word-of-pair pair-of-word word-reading read-back class-joined tableau-answer repeat-word starred outputs
     product-of-classes stepped-weights word-moved-at changed-cell move-together class-size class-word class-number class-members
-    class-complete class-later number-recording recording-number theorem-8-2 ranks written-ranks
+    class-complete class-later number-recording recording-number theorem-8-2 ranks written-ranks counts-held seventeen-exactly
+    class-as-readings weights-as-readings
 """.split()
 EDITS = [(edit.stem, re.search(r"^file: (\w+)/", edit.read_text(), re.M).group(1).replace("proofs", "specs")) for edit in CRATES.glob("*/must-fail/*.edit")]
 HEADER = header.functions_of(None)
@@ -141,14 +142,15 @@ def numbers(text):
 
 
 def listed():
-    """The refusals that specs/ of hypoplactic, products and numbering list for definitions: in headers, for a reply with and without memory; in comments above
-    judgements."""
+    """The refusals that specs/ of hypoplactic, products, numbering and letter_counts list for definitions: in headers, for a reply with and without memory; in
+    comments above judgements."""
     specs, found, told = CRATES / "hypoplactic/specs", {}, ""
     products, classes = CRATES / "products/specs/Products.antt", CRATES / "numbering/specs/Operations.antt"
-    for file in (*specs.glob("*Operations.antt"), specs / "LineReadings.antt", products, classes):
+    tableaux = CRATES / "letter_counts/specs/TwoTableaux.antt"
+    for file in (*specs.glob("*Operations.antt"), specs / "LineReadings.antt", products, classes, tableaux):
         for names, checks in re.findall(rf"^--     (\w+(?:, \w+)*) {{2,}}({NUMBERS})", file.read_text(), re.M):
             found.update((re.sub("(Says|Run)$", end, name), numbers(checks)) for name in names.split(", ") for end in ("Says", "Run"))
-    for file in (specs / "Judgements.antt", classes):
+    for file in (specs / "Judgements.antt", specs / "Counts.antt", classes):
         for comment, name in re.findall(rf"^-- ({NUMBERS})|\bpub (\w+(?:Judged|Judgements)) :", file.read_text(), re.M):
             told = comment or told
             found[name] = numbers(told)
@@ -211,7 +213,7 @@ def check_functions():
     takes, calls = functions(), re.findall(r"`([a-z]\w+)\(([^`]*)\)`", prose(PROMISES))
     had = {name for row in rows(prose(PROMISES)) for name, form, _ in claims(row) if form == FUNCTION}
     yield from ((PROMISES, "function without a row: " + name) for name in sorted({*takes, *EXPORTED} - had))
-    yield from ((PROMISES, f"no such call: {name}({shown})") for name, shown in calls if takes.get(name) != shown)
+    yield from ((PROMISES, f"no such call: {name}({shown})") for name, shown in calls if takes.get(name) != " ".join(shown.split()))
     called = {*EXPORTED, *dict(calls), *(name.replace("raise", "lower") for name, _ in calls)}
     yield from ((PROMISES, "function without a call: " + name) for name, taken in takes.items() if taken != "answer" and name not in called)
 

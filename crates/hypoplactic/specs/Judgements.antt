@@ -133,11 +133,11 @@ pairJudgements n xs ms rs =
     rankJudged n ∷ lengthJudged (length xs) ∷ alikeJudged (length xs) (length ms ∷ length rs ∷ []) ∷ lettersJudged n xs ∷ risingJudged xs
     ∷ marksJudged xs ms ∷ entriesJudged (length xs) rs ∷ recordingJudged rs ms ∷ []
 
--- 1 to 6 of a tableau, and 17 of its letter counts.
+-- 1 to 6, 17 of a tableau that brings its letter counts.
 abbrev pub countedJudgements : ℕ → List ℕ → List ℕ → List ℕ → List Said
 countedJudgements n xs ms cs = tableauJudgements n xs ms ++ (countsJudged cs xs ∷ [])
 
--- 1 to 6 of a pair, 17 of its letter counts, 7 and 8.
+-- 1 to 6, 17, 7, 8 of a pair that brings its letter counts.
 abbrev pub countedPairJudgements : ℕ → List ℕ → List ℕ → List ℕ → List ℕ → List Said
 countedPairJudgements n xs ms rs cs =
     rankJudged n ∷ lengthJudged (length xs) ∷ alikeJudged (length xs) (length ms ∷ length rs ∷ []) ∷ lettersJudged n xs ∷ risingJudged xs

@@ -37,7 +37,8 @@ HeldIn run = Held (run .0) (run .1 .0) (run .1 .1 .1)
 -- Of any input that is not refused, by the reply and by what is left.
 pub record CountsHeld : Type 0 where
   -- The tableau of a word.
-  pub tableau : (n : ℕ) (w letters marks counts : List ℕ) → Passes ((tableauRun n w letters marks counts) .0) → HeldIn (tableauRun n w letters marks counts)
+  pub tableau : (n : ℕ) (w letters marks counts : List ℕ) → Passes ((tableauRun n w letters marks counts) .0)
+      → HeldIn (tableauRun n w letters marks counts)
   -- One letter inserted.
   pub inserted : (n used a : ℕ) (p : Pair) (cs : List ℕ) → length cs ≡ 64 → Passes ((insertRun n used a p cs) .0)
       → Held ((insertRun n used a p cs) .0) ((insertRun n used a p cs) .1 .0 .letters) ((insertRun n used a p cs) .1 .1)
@@ -45,7 +46,8 @@ pub record CountsHeld : Type 0 where
   pub moved : (n : ℕ) (m : Move) (xs ms cs : List ℕ) → length cs ≡ 64 → Passes ((moveTableauRun n m xs ms cs) .0)
       → (moveTableauRun n m xs ms cs) .1 .1 ≡ countsOf ((moveTableauRun n m xs ms cs) .1 .0)
   -- The product of two tableaux.
-  pub multiplied : (n : ℕ) (xs ms cs ys ns ds letters marks counts : List ℕ) → Passes ((productRun n xs ms cs ys ns ds letters marks counts) .0)
-      → HeldIn (productRun n xs ms cs ys ns ds letters marks counts)
+  pub multiplied : (n : ℕ) (xs ms cs ys ns ds letters marks counts : List ℕ)
+      → Passes ((productRun n xs ms cs ys ns ds letters marks counts) .0) → HeldIn (productRun n xs ms cs ys ns ds letters marks counts)
   -- A T line read.
-  pub read : (text letters marks counts : List ℕ) → Passes ((readTRun text letters marks counts) .0) → HeldIn (readTRun text letters marks counts)
+  pub read : (text letters marks counts : List ℕ) → Passes ((readTRun text letters marks counts) .0)
+      → HeldIn (readTRun text letters marks counts)

@@ -21,7 +21,7 @@ smallJudged L = refuseIf (ltb 20 L) 15 0 passed
 unfoldable pub numberJudged : ℕ → ℕ → Said
 numberJudged k size = refuseIf (leb size k) 16 0 passed
 
--- 1 to 6 of a tableau, 17 of its letter counts, and 15.
+-- 1 to 6, 17, 15 of a tableau that brings its letter counts.
 abbrev pub classJudgements : ℕ → List ℕ → List ℕ → List ℕ → List Said
 classJudgements n xs ms cs = countedJudgements n xs ms cs ++ (smallJudged (length xs) ∷ [])
 
