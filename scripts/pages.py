@@ -271,6 +271,7 @@ FIGURES = [
     ("# of changed places", cases("placeCases"), [README, TESTS]),
     ("# of two ranks", cases("rankCases"), [README, TESTS]),
     ("# of sizes and numbers", cases("numberCases"), [README, TESTS]),
+    ("# of two tableaux", cases("tableauxCases"), [README, TESTS]),
     ("# (?:more )?(?:cases|fix)", cases("orderCases", "valueCases", "lineCases", "sharedCases"), [README, TESTS]),
 ]
 
