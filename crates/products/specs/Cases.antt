@@ -97,6 +97,6 @@ productRefusals =
 -- 1,024 cells together pass, however they are shared out.
 abbrev pub productLimits : List Case
 productLimits =
-    case (numbers (timesSays 1 (replicate 1024 1) (replicate 1024 0) [] [] 1024 1024)) (0 ∷ 1024 ∷ [])
-    ∷ case (numbers (timesSays 1 (replicate 600 1) (replicate 600 0) (replicate 424 1) (replicate 424 0) 1024 1024)) (0 ∷ 1024 ∷ [])
+    case (numbers (productSays 1 (replicate 1024 1) (replicate 1024 0) (counts (1024 ∷ [])) [] [] (counts []) 1024 1024)) (0 ∷ 1024 ∷ [])
+    ∷ case (numbers (productSays 1 (replicate 600 1) (replicate 600 0) (counts (600 ∷ [])) (replicate 424 1) (replicate 424 0) (counts (424 ∷ [])) 1024 1024)) (0 ∷ 1024 ∷ [])
     ∷ []

@@ -25,5 +25,5 @@ refused-products = refl
 
 -- 1,024 cells together.
 pub largest-products : map (λ (c : Case). c .meaning) productLimits ≡ map (λ (c : Case). c .document) productLimits
-unfolding countsOf countsJudged rankJudged lengthJudged alikeJudged lettersJudged risingJudged marksJudged roomJudged productSays
+unfolding countsJudged rankJudged lengthJudged alikeJudged lettersJudged risingJudged marksJudged roomJudged productSays
 largest-products = refl
