@@ -249,7 +249,7 @@ def check_links():
 
 def cases(*lists):
     """How many computed cases some lists have."""
-    crates = ("hypoplactic", "examples", "products", "changed_places", "ranks", "numbering")
+    crates = ("hypoplactic", "examples", "products", "changed_places", "ranks", "numbering", "letter_counts")
     text = "".join(file.read_text() for crate in crates for file in CRATES.glob(crate + "/specs/*.antt"))
     bodies = [re.search(rf"^{name} =(.*?)(?=^\S|\Z)", text, re.M | re.S).group(1) for name in lists]
     return sum(len(re.findall(r"^ *(?:∷ )?case\b", body, re.M)) for body in bodies)
@@ -272,7 +272,7 @@ FIGURES = [
     ("# of two ranks", cases("rankCases"), [README, TESTS]),
     ("# of sizes and numbers", cases("numberCases"), [README, TESTS]),
     ("# of two tableaux", cases("tableauxCases"), [README, TESTS]),
-    ("# (?:more )?(?:cases|fix)", cases("orderCases", "valueCases", "lineCases", "sharedCases"), [README, TESTS]),
+    ("# (?:more )?(?:cases|fix)", cases("orderCases", "valueCases", "countCases", "lineCases", "sharedCases"), [README, TESTS]),
 ]
 
 

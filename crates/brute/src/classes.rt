@@ -71,7 +71,9 @@ fn wrong_numbered(reply: Numbered, number: u64) -> usize
 // In how many of count and letters the word with a number, of the class of a tableau, differs from an answer.
 fn compare_word(
     length: usize,
-    tableau: Tableau,
+    letters: [u8; 1024],
+    marks: [u8; 1024],
+    counts: [u16; 64],
     number: u64,
     count: usize,
     answer: [u8; 1024],
@@ -79,9 +81,6 @@ fn compare_word(
     requires { ⌜ length ≤ 1024 ⌝ }
     ensures { λ r. ⌜ r ≤ 2 ⌝ }
 {
-    let letters = tableau.letters;
-    let marks = tableau.marks;
-    let counts = tableau.counts;
     let mut word = [0u8; 1024];
     let reply = class_word(
         3,
@@ -122,7 +121,7 @@ fn compare_class(
     let told_number = class_number(3, first_bytes(&given, length));
     wrong_numbered(told_size, size)
         + wrong_numbered(told_number, number)
-        + compare_word(length, tableau, asked, count, answer)
+        + compare_word(length, letters, marks, counts, asked, count, answer)
 }
 
 // The same for one of these words, which its class must give back by its number.

@@ -49,7 +49,25 @@ pub(crate) fn compare_with(word: Word, cut: usize, cells: usize, answer: Tableau
     let others = word.length - cut;
     let first = plain_tableau(cut, letters);
     let second = plain_tableau(others, letters_from(cut, letters));
-    compare(word.rank, cut, first, others, second, cells, answer)
+    let first_letters = first.letters;
+    let first_marks = first.marks;
+    let first_counts = first.counts;
+    let second_letters = second.letters;
+    let second_marks = second.marks;
+    let second_counts = second.counts;
+    compare(
+        word.rank,
+        cut,
+        first_letters,
+        first_marks,
+        first_counts,
+        others,
+        second_letters,
+        second_marks,
+        second_counts,
+        cells,
+        answer,
+    )
 }
 
 // The same from the tableau of the whole word.

@@ -10,21 +10,19 @@ ghost use Prim.Native.Nat.{_≤_};
 pub(crate) fn compare(
     rank: usize,
     first_count: usize,
-    first: Tableau,
+    first_letters: [u8; 1024],
+    first_marks: [u8; 1024],
+    first_counts: [u16; 64],
     second_count: usize,
-    second: Tableau,
+    second_letters: [u8; 1024],
+    second_marks: [u8; 1024],
+    second_counts: [u16; 64],
     cells: usize,
     answer: Tableau,
 ) -> usize
     requires { ⌜ («first_count» ≤ 1024) × («second_count» ≤ 1024) ⌝ }
     ensures { λ r. ⌜ r ≤ 4 ⌝ }
 {
-    let first_letters = first.letters;
-    let first_marks = first.marks;
-    let first_counts = first.counts;
-    let second_letters = second.letters;
-    let second_marks = second.marks;
-    let second_counts = second.counts;
     let mut letters = [0u8; 1024];
     let mut marks = [0u8; 1024];
     let mut counts = [65535u16; 64];

@@ -49,6 +49,8 @@ fn count_move(
     let after = tableau_after(moved, length, tableau);
     let on_word = compare_on_word(side, rank, index, length, letters, moved, times);
     let before = tableau.letters;
+    let marks = tableau.marks;
+    let before_counts = tableau.counts;
     let later = after.letters;
     let reply = moved.reply;
     let cell = first_difference(length, before, later);
@@ -57,7 +59,9 @@ fn count_move(
         rank,
         index,
         length,
-        tableau,
+        before,
+        marks,
+        before_counts,
         told(reply, cell),
         after,
         times,
@@ -86,7 +90,38 @@ pub(crate) fn count_moves(k: usize, word: Word, counts: [usize; 16]) -> [usize; 
     all
 }
 
-// One word beside another, and their tableaux, of which the same is so.
+// The tableaux of two words, of which is so what is so of the words.
+fn compare_stored(one: Word, other: Word, class: usize, weights: usize) -> usize
+    requires { ⌜ (one .length ≤ 1024) × (other .length ≤ 1024) ⌝ }
+    ensures { λ r. ⌜ r ≤ 2 ⌝ }
+{
+    let word = one.letters;
+    let other_word = other.letters;
+    let first = plain_tableau(one.length, word);
+    let second = plain_tableau(other.length, other_word);
+    let letters = first.letters;
+    let marks = first.marks;
+    let counts = first.counts;
+    let other_letters = second.letters;
+    let other_marks = second.marks;
+    let other_counts = second.counts;
+    compare_on_two_tableaux(
+        one.rank,
+        one.length,
+        letters,
+        marks,
+        counts,
+        other.rank,
+        other.length,
+        other_letters,
+        other_marks,
+        other_counts,
+        class,
+        weights,
+    )
+}
+
+// One word beside another, and their tableaux.
 fn count_two(one: Word, other: Word, counts: [usize; 16]) -> [usize; 16]
     requires { ⌜ (one .length ≤ 1024) × (other .length ≤ 1024) ⌝ }
 {
@@ -104,16 +139,7 @@ fn count_two(one: Word, other: Word, counts: [usize; 16]) -> [usize; 16]
         class,
         weights,
     );
-    let stored = compare_on_two_tableaux(
-        one.rank,
-        one.length,
-        plain_tableau(one.length, letters),
-        other.rank,
-        other.length,
-        plain_tableau(other.length, other_letters),
-        class,
-        weights,
-    );
+    let stored = compare_stored(one, other, class, weights);
     let all = counted(3 + weights, 0, counted(1 + class, found + stored, counts));
     if one.rank == other.rank {
         return all;

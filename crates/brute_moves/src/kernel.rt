@@ -91,7 +91,9 @@ pub(crate) fn compare_on_tableau(
     rank: usize,
     index: usize,
     length: usize,
-    before: Tableau,
+    letters: [u8; 1024],
+    marks: [u8; 1024],
+    counts: [u16; 64],
     expected: usize,
     after: Tableau,
     times: usize,
@@ -99,9 +101,6 @@ pub(crate) fn compare_on_tableau(
     requires { ⌜ length ≤ 1024 ⌝ }
     ensures { λ r. ⌜ r ≤ 5 ⌝ }
 {
-    let letters = before.letters;
-    let marks = before.marks;
-    let counts = before.counts;
     let mut changed = letters;
     let mut recounted = counts;
     let repeats = repeat_tableau(
@@ -155,22 +154,20 @@ pub(crate) fn compare_on_two(
 pub(crate) fn compare_on_two_tableaux(
     rank: usize,
     length: usize,
-    one: Tableau,
+    letters: [u8; 1024],
+    marks: [u8; 1024],
+    counts: [u16; 64],
     other_rank: usize,
     other_length: usize,
-    other: Tableau,
+    other_letters: [u8; 1024],
+    other_marks: [u8; 1024],
+    other_counts: [u16; 64],
     class: usize,
     weights: usize,
 ) -> usize
     requires { ⌜ (length ≤ 1024) × («other_length» ≤ 1024) ⌝ }
     ensures { λ r. ⌜ r ≤ 2 ⌝ }
 {
-    let letters = one.letters;
-    let marks = one.marks;
-    let counts = one.counts;
-    let other_letters = other.letters;
-    let other_marks = other.marks;
-    let other_counts = other.counts;
     let told = same_class_of_tableaux(
         rank,
         &letters[0..length],

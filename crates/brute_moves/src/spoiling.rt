@@ -62,6 +62,9 @@ pub(crate) fn spoilt_on_tableau() -> usize
     let moved_letters = moved.letters;
     let before = plain_tableau(4, word_letters);
     let right = plain_tableau(4, moved_letters);
+    let from = before.letters;
+    let steps = before.marks;
+    let numbers = before.counts;
     let letters = right.letters;
     let marks = right.marks;
     let counts = right.counts;
@@ -80,12 +83,23 @@ pub(crate) fn spoilt_on_tableau() -> usize
         marks,
         counts: turned_counts(counts),
     };
-    let reply = compare_on_tableau(Side::Lowering, 3, 1, 4, before, 2058, right, 2);
-    let cell = compare_on_tableau(Side::Lowering, 3, 1, 4, before, 2, right, 2);
-    let letter = compare_on_tableau(Side::Lowering, 3, 1, 4, before, 1, wrong, 2);
-    let mark = compare_on_tableau(Side::Lowering, 3, 1, 4, before, 1, stepped, 2);
-    let number = compare_on_tableau(Side::Lowering, 3, 1, 4, before, 1, counted, 2);
-    let times = compare_on_tableau(Side::Lowering, 3, 1, 4, before, 1, right, 3);
+    let reply = compare_on_tableau(
+        Side::Lowering,
+        3,
+        1,
+        4,
+        from,
+        steps,
+        numbers,
+        2058,
+        right,
+        2,
+    );
+    let cell = compare_on_tableau(Side::Lowering, 3, 1, 4, from, steps, numbers, 2, right, 2);
+    let letter = compare_on_tableau(Side::Lowering, 3, 1, 4, from, steps, numbers, 1, wrong, 2);
+    let mark = compare_on_tableau(Side::Lowering, 3, 1, 4, from, steps, numbers, 1, stepped, 2);
+    let number = compare_on_tableau(Side::Lowering, 3, 1, 4, from, steps, numbers, 1, counted, 2);
+    let times = compare_on_tableau(Side::Lowering, 3, 1, 4, from, steps, numbers, 1, right, 3);
     one_if(reply == 1)
         + one_if(cell == 1)
         + one_if(letter == 1)
@@ -108,18 +122,43 @@ pub(crate) fn spoilt_on_two() -> usize
     one_if(class == 1) + one_if(weights == 1) + one_if(of_ranks == 1)
 }
 
+// The differences for their tableaux, the second at a rank, from a class and weights.
+fn spoilt_stored(other_rank: usize, class: usize, weights: usize) -> usize
+    ensures { λ r. ⌜ r ≤ 2 ⌝ }
+{
+    let one = word_of(12, 0);
+    let other = word_of(0, 0);
+    let word = one.letters;
+    let other_word = other.letters;
+    let first = plain_tableau(4, word);
+    let second = plain_tableau(4, other_word);
+    let letters = first.letters;
+    let marks = first.marks;
+    let counts = first.counts;
+    let other_letters = second.letters;
+    let other_marks = second.marks;
+    let other_counts = second.counts;
+    compare_on_two_tableaux(
+        4,
+        4,
+        letters,
+        marks,
+        counts,
+        other_rank,
+        4,
+        other_letters,
+        other_marks,
+        other_counts,
+        class,
+        weights,
+    )
+}
+
 // The same of their tableaux.
 pub(crate) fn spoilt_on_two_tableaux() -> usize
     ensures { λ r. ⌜ r ≤ 3 ⌝ }
 {
-    let one = word_of(12, 0);
-    let other = word_of(0, 0);
-    let letters = one.letters;
-    let other_letters = other.letters;
-    let first = plain_tableau(4, letters);
-    let second = plain_tableau(4, other_letters);
-    let class = compare_on_two_tableaux(4, 4, first, 4, 4, second, 0, 0);
-    let weights = compare_on_two_tableaux(4, 4, first, 4, 4, second, 1, 1);
-    let of_ranks = compare_on_two_tableaux(4, 4, first, 6, 4, second, 0, 0);
-    one_if(class == 1) + one_if(weights == 1) + one_if(of_ranks == 1)
+    one_if(spoilt_stored(4, 0, 0) == 1)
+        + one_if(spoilt_stored(4, 1, 1) == 1)
+        + one_if(spoilt_stored(6, 0, 0) == 1)
 }
