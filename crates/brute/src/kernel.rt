@@ -84,6 +84,19 @@ fn put_reading(
     )
 }
 
+// The answers with both words that a pair leads to.
+fn put_words(
+    rank: usize,
+    letters: &[u8],
+    marks: &[u8],
+    entries: &[u16],
+    counts: &[u16; 64],
+    answers: [u64; 8192],
+) -> [u64; 8192] {
+    let all = put_reading(rank, letters, marks, counts, answers);
+    put_back(rank, letters, marks, entries, counts, all)
+}
+
 // The answers with the junction set and the rows of a word; for a refusal, rows that no word has.
 fn put_junctions(rank: usize, word: &[u8], answers: [u64; 8192]) -> [u64; 8192] {
     match junctions(rank, word) {
@@ -104,14 +117,18 @@ fn answers_of(
 ) -> [u64; 8192]
     requires { ⌜ length (now word) ≤ 1024 ⌝ }
 {
-    let all = put(0, widened(wrong, letters), filled(0));
+    let all = put_words(
+        rank,
+        &letters[0..word.len()],
+        &marks[0..word.len()],
+        &entries[0..word.len()],
+        &counts,
+        filled(0),
+    );
+    let all = put(0, widened(wrong, letters), all);
     let all = put(1, widened(wrong, marks), all);
     let all = put(7, lengthened(counts), put(2, entries, all));
-    let all = put_junctions(rank, word, all);
-    let letters = &letters[0..word.len()];
-    let marks = &marks[0..word.len()];
-    let all = put_reading(rank, letters, marks, &counts, all);
-    put_back(rank, letters, marks, &entries[0..word.len()], &counts, all)
+    put_junctions(rank, word, all)
 }
 
 // All answers for a word, its tableau and its recording ribbon made at once.

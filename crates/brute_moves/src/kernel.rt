@@ -151,6 +151,44 @@ pub(crate) fn compare_on_two(
 }
 
 // Class and weights of two tableaux, from their counts.
+fn compare_tableaux(
+    rank: usize,
+    letters: &[u8],
+    marks: &[u8],
+    counts: &[u16; 64],
+    other_rank: usize,
+    other_letters: &[u8],
+    other_marks: &[u8],
+    other_counts: &[u16; 64],
+    class: usize,
+    weights: usize,
+) -> usize
+    ensures { λ r. ⌜ r ≤ 2 ⌝ }
+{
+    let told = same_class_of_tableaux(
+        rank,
+        letters,
+        marks,
+        counts,
+        other_rank,
+        other_letters,
+        other_marks,
+        other_counts,
+    );
+    let compared = compare_weights_of_tableaux(
+        rank,
+        letters,
+        marks,
+        counts,
+        other_rank,
+        other_letters,
+        other_marks,
+        other_counts,
+    );
+    one_if(class_number(told) != class) + one_if(weights_number(compared) != weights)
+}
+
+// The same of tableaux in the first cells of arrays.
 pub(crate) fn compare_on_two_tableaux(
     rank: usize,
     length: usize,
@@ -168,7 +206,7 @@ pub(crate) fn compare_on_two_tableaux(
     requires { ⌜ (length ≤ 1024) × («other_length» ≤ 1024) ⌝ }
     ensures { λ r. ⌜ r ≤ 2 ⌝ }
 {
-    let told = same_class_of_tableaux(
+    compare_tableaux(
         rank,
         &letters[0..length],
         &marks[0..length],
@@ -177,16 +215,7 @@ pub(crate) fn compare_on_two_tableaux(
         &other_letters[0..other_length],
         &other_marks[0..other_length],
         &other_counts,
-    );
-    let compared = compare_weights_of_tableaux(
-        rank,
-        &letters[0..length],
-        &marks[0..length],
-        &counts,
-        other_rank,
-        &other_letters[0..other_length],
-        &other_marks[0..other_length],
-        &other_counts,
-    );
-    one_if(class_number(told) != class) + one_if(weights_number(compared) != weights)
+        class,
+        weights,
+    )
 }

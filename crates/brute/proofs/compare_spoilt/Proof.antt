@@ -5,10 +5,10 @@ use Rattle.brute.proofs.compare_spoilt.Statement.{statement}
 use Rattle.brute.proofs.compare_spoilt.Tie as tie
 
 abbrev Inv-loop : tie.InvT-loop
-Inv-loop own found₀ part₀ found part = (part ≤ 7) × (found ≤ part)
+Inv-loop own found₀ part₀ found part = (part ≤ 8) × (found ≤ part)
 
 abbrev μ-loop : tie.MeasureT-loop
-μ-loop own found₀ part₀ found part = 7 - part
+μ-loop own found₀ part₀ found part = 8 - part
 
 pub compare-spoilt-spec : {M : Type 1} → statement M
 compare-spoilt-spec =

@@ -5,10 +5,10 @@ use Rattle.brute.proofs.comparing.differences.Statement.{statement}
 use Rattle.brute.proofs.comparing.differences.Tie as tie
 
 abbrev Inv-loop : tie.InvT-loop
-Inv-loop one other found₀ part₀ found part = (part ≤ 7) × (found ≤ part)
+Inv-loop one other found₀ part₀ found part = (part ≤ 8) × (found ≤ part)
 
 abbrev μ-loop : tie.MeasureT-loop
-μ-loop one other found₀ part₀ found part = 7 - part
+μ-loop one other found₀ part₀ found part = 8 - part
 
 pub differences-spec : {M : Type 1} → statement M
 differences-spec =

@@ -7,4 +7,4 @@ pub luchtrav-read-tableau-line-spec : {M : Type 1} → statement M
 luchtrav-read-tableau-line-spec =
     tie.close
     (tie.spec (λ c κs. search replying) (λ c κs. search replying) (λ c. search replying) (λ c. search replying)
-    (λ c. search replying) (λ c. search replying))
+    (λ c. search replying))

@@ -7,4 +7,4 @@ pub luchtrav-insert-letter-spec : {M : Type 1} → statement M
 luchtrav-insert-letter-spec =
     tie.close
     (tie.spec (λ c κs. search replying) (λ c κs. search replying) (λ c. search replying) (λ c. search replying)
-    (λ c. search replying) (λ c. search replying) (λ c. search replying))
+    (λ c. search replying) (λ c. search replying))

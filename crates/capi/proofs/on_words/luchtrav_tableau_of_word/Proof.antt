@@ -7,4 +7,4 @@ pub luchtrav-tableau-of-word-spec : {M : Type 1} → statement M
 luchtrav-tableau-of-word-spec =
     tie.close
     (tie.spec (λ c κs. search replying) (λ c κs. search replying) (λ c. search replying) (λ c. search replying)
-    (λ c. search replying) (λ c. search replying))
+    (λ c. search replying))
