@@ -2,7 +2,7 @@
 -- 0 and the values, or the refusal's number and place; what lent letters, marks and counts then hold follows.
 --     productCases      products, with one element of lent memory beyond those needed
 --     productRefusals      every refusal number in both factors, at its place and in its order
---     productLimits      1,024 cells together are not refused
+--     productLimits      1,024 cells together are not refused by their number
 -- That the checker computes the one from the other stands in proofs/Theory/ProductCases. Assumes nothing.
 use Prim.Native.Nat.{ℕ}
 use mathlib.Core.List.{List, [], _∷_}
@@ -94,9 +94,9 @@ productRefusals =
 
 -- ---- limits
 
--- 1,024 cells together pass, however they are shared out.
+-- 1,024 cells together pass 1 to 6, however they are shared out: 17 of no counts is what refuses them.
 abbrev pub productLimits : List Case
 productLimits =
-    case (numbers (productSays 1 (replicate 1024 1) (replicate 1024 0) (counts (1024 ∷ [])) [] [] (counts []) 1024 1024)) (0 ∷ 1024 ∷ [])
-    ∷ case (numbers (productSays 1 (replicate 600 1) (replicate 600 0) (counts (600 ∷ [])) (replicate 424 1) (replicate 424 0) (counts (424 ∷ [])) 1024 1024)) (0 ∷ 1024 ∷ [])
+    case (numbers (productSays 1 (replicate 1024 1) (replicate 1024 0) [] [] [] [] 1024 1024)) (17 ∷ 0 ∷ [])
+    ∷ case (numbers (productSays 1 (replicate 600 1) (replicate 600 0) [] (replicate 424 1) (replicate 424 0) [] 1024 1024)) (17 ∷ 0 ∷ [])
     ∷ []

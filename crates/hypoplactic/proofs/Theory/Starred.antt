@@ -32,5 +32,5 @@ worked = refl
 
 -- The other checked words, and every refusal number.
 pub refusals : map (λ (c : Case). c .meaning) refusalCases ≡ map (λ (c : Case). c .document) refusalCases
-unfolding refusalCases output countsJudged readTRun readNRun readW readT readN program tableauLine tLine nLine wLine jLine eLine decimal pairOf insert columnReading junctionSet number rowsOf ones onesIn sameClass repeatTableau rankJudged lengthJudged alikeJudged usedJudged lettersJudged risingJudged marksJudged entriesJudged recordingJudged indexJudged inversionJudged letterJudged fullJudged roomJudged junctionSays moveWordSays moveWordRun sameClassSays tableauSays recordingSays recordingRun insertSays wordSays readingSays moveTableauSays moveTableauRun repeatTableauSays viewerSays
+unfolding refusalCases output countsJudged readTRun readNRun readW readT readN program tableauLine tLine nLine wLine jLine eLine decimal pairOf insert columnReading junctionSet number rowsOf ones onesIn sameClass repeatTableau rankJudged lengthJudged alikeJudged usedJudged lettersJudged risingJudged marksJudged entriesJudged recordingJudged indexJudged inversionJudged letterJudged fullJudged roomJudged junctionSays moveWordSays moveWordRun sameClassSays tableauSays recordingSays recordingRun insertSays wordSays moveTableauSays moveTableauRun repeatTableauSays viewerSays
 refusals = refl
