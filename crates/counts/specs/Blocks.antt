@@ -1,7 +1,7 @@
 -- The first pass of the check 17. Rising letters are cut into blocks as long as the counts say: where each block begins and ends with its own letter and
 -- the blocks use up all letters, every count is true. Where this does not come out, nothing is said, and the scan (Comparing) decides.
 --     Rises xs                  the numbers never fall, from any place to any later one
---     Block xs at end b r       what the test of one block shows: it is within the letters, and begins and ends with b where it is not empty
+--     Block xs at end b r       what the test of one block shows: where it is not empty it is within the letters, and begins and ends with b
 --     Confirmed xs cs r         what the pass shows: where r is true, so is each count
 --     Agreed xs cs a at         the loop's invariant: the first a counts are those of the letters before place at, which are at most a
 --     agreed-start, agreed-turn, agreed-end, not-confirmed     where it begins, after a block, past the last one, where it gives up
@@ -11,6 +11,7 @@ use Prim.Native.Nat.{ℕ, zero, suc, _+_, _-_, _≤_, _<_}
 use mathlib.Core.Path.{_≡_, refl, sym, subst, _∙_}
 use mathlib.Core.Bool.{Bool, true, false, true≢false}
 use mathlib.Core.List.{List, [], _∷_, _++_}
+use mathlib.Core.Logic.{_⊎_, inl, inr}
 use native.Mathlib.Numerals.{add-one}
 use native.Mathlib.Omega.{arith}
 use lib.Dec.{eqb, ltb}
@@ -22,6 +23,7 @@ use Rattle.hypoplactic.specs.Words.{count}
 use Rattle.hypoplactic.specs.Replies.{Passes, refuseIf}
 use Rattle.hypoplactic.specs.Judgements.{risingFrom, risingJudged}
 use Rattle.hypoplactic.specs.Counts.{TrueCounts}
+use Rattle.hypoplactic.proofs.Theory.Pairs.{le-or-lt}
 use Rattle.hypoplactic.proofs.Theory.Pairs.{Rising}
 use Rattle.refusals.specs.declared.answers.Fault.{Fault}
 use Rattle.refusals.specs.declared.answers.Fault.the-variants.{Nowhere}
@@ -68,7 +70,7 @@ rises xs h = record { later = along 0 xs (rising-passing xs h) }
 -- ---- blocks
 
 pub record Block (xs : List ℕ) (at end b : ℕ) (r : Bool) : Type 0 where
-  pub within : r ≡ true → end ≤ length xs
+  pub within : r ≡ true → at < end → end ≤ length xs
   pub begins : r ≡ true → at < end → getD xs at 0 ≡ b
   pub ends : r ≡ true → at < end → getD xs (end - 1) 0 ≡ b
 
@@ -81,9 +83,9 @@ no-block xs at end b = record {
 }
 
 -- an empty one does,
-pub empty-block : (xs : List ℕ) (at end b : ℕ) → end ≤ length xs → end ≤ at → Block xs at end b true
-empty-block xs at end b h l = record {
-  within = λ e. h;
+pub empty-block : (xs : List ℕ) (at end b : ℕ) → end ≤ at → Block xs at end b true
+empty-block xs at end b l = record {
+  within = λ e k. let z : ⊥ = omega arith in absurd z;
   begins = λ e k. let z : ⊥ = omega arith in absurd z;
   ends = λ e k. let z : ⊥ = omega arith in absurd z;
 }
@@ -92,7 +94,7 @@ empty-block xs at end b h l = record {
 pub full-block : (xs : List ℕ) (at end b : ℕ) {x y : ℕ} → end ≤ length xs → x ≡ getD xs at 0 → x ≡ b → y ≡ getD xs (end - 1) 0
     → Block xs at end b (eqb y b)
 full-block xs at end b {x} {y} h e f g = record {
-  within = λ t. h;
+  within = λ t l. h;
   begins = λ t l. sym e ∙ f;
   ends = λ t l. sym g ∙ eqb-true y b t;
 }
@@ -100,8 +102,9 @@ full-block xs at end b {x} {y} h e f g = record {
 -- All letters of a block are one, where they rise.
 block-letter : (xs : List ℕ) (at end b : ℕ) → Rises xs → Block xs at end b true → (p : ℕ) → at ≤ p → p < end → getD xs p 0 ≡ b
 block-letter xs at end b s k p h l =
-    let low : getD xs at 0 ≤ getD xs p 0 = s .later at p h (omega (arith, k .within refl)) in
-    let high : getD xs p 0 ≤ getD xs (end - 1) 0 = s .later p (end - 1) (omega arith) (omega (arith, k .within refl)) in
+    let room : end ≤ length xs = k .within refl (omega arith) in
+    let low : getD xs at 0 ≤ getD xs p 0 = s .later at p h (omega arith) in
+    let high : getD xs p 0 ≤ getD xs (end - 1) 0 = s .later p (end - 1) (omega arith) (omega arith) in
     let first : getD xs at 0 ≡ b = k .begins refl (omega arith) in
     let last : getD xs (end - 1) 0 ≡ b = k .ends refl (omega arith) in
     omega arith
@@ -159,7 +162,11 @@ agreed-turn {xs} {cs} {a} {at} {n} {r} g e k t = record {
     block = rw t at k
 
     within : at + n ≤ length xs
-    within = block .within refl
+    within = go (le-or-lt (at + n) at)
+      where
+        go : (at + n ≤ at) ⊎ (at < at + n) → at + n ≤ length xs
+        go (inl l) = omega (arith, g .reached)
+        go (inr l) = block .within refl l
 
     letter : (p : ℕ) → at ≤ p → p < at + n → getD xs p 0 ≡ a + 1
     letter = block-letter xs at (at + n) (a + 1) (g .rises) block

@@ -14,15 +14,15 @@ fn wide(count: u16) -> usize
     count as usize
 }
 
-// Whether the letters from one place up to another are there, and begin and end with a letter where there are any.
+// Whether the letters from one place up to another are there, and begin and end with a letter, where there are any. Most counts are 0: that is asked first.
 fn block_agrees(letters: &[u8], at: usize, end: usize, letter: usize) -> bool
     ensures { λ r. ⌜ Block (now (letters .entry)) at end letter r ⌝ }
 {
-    if letters.len() < end {
-        return false;
-    }
     if end <= at {
         return true;
+    }
+    if letters.len() < end {
+        return false;
     }
     if place_of(letters[at]) != letter {
         return false;

@@ -1,6 +1,6 @@
 -- Two lists of marks compared, one by one.
---     Alike xs ys i                    the loop: the lists are as long, and what is left from place i on decides
---     start, turn, differ, end         the loop
+--     Alike xs ys i same               the loop: the lists are as long; whether all marks before place i are equal, and what is left from there on decide
+--     start, turn, end, second-room    the loop
 --     other-length                     lists of other lengths are not equal
 --     comparing                        the ruleset of the comparison
 -- Assumes nothing.
@@ -14,37 +14,47 @@ use lib.Dec.{eqb}
 use lib.ListN.{length, getD, drop, drop-of-length-le}
 use lib.Seq.{drop-cons}
 use borrow.Author.Needs.{needs}
-use borrow.Author.Tests.{eq-eqb, ne-eqb}
 use Rattle.numbering.specs.Dictionary.{sameList}
 use Rattle.numbering.proofs.Theory.ClassSize.{same-equal}
 
--- At place i the marks left decide.
-pub record Alike (xs ys : List ℕ) (i : ℕ) : Type 0 where
+-- At place i the marks so far and those left decide.
+pub record Alike (xs ys : List ℕ) (i : ℕ) (same : Bool) : Type 0 where
   pub within : i ≤ length xs
   pub size : length xs ≡ length ys
-  pub left : sameList xs ys ≡ sameList (drop i xs) (drop i ys)
+  pub whole : sameList xs ys ≡ (same && sameList (drop i xs) (drop i ys))
 
-pub start : (xs ys : List ℕ) → length xs ≡ length ys → Alike xs ys 0
-start xs ys e = record { within = omega arith; size = e; left = refl }
+pub start : (xs ys : List ℕ) → length xs ≡ length ys → Alike xs ys 0 true
+start xs ys e = record { within = omega arith; size = e; whole = refl }
 
--- What is left, from its first mark.
-next : (xs ys : List ℕ) (i : ℕ) → Alike xs ys i → i < length xs
-    → sameList xs ys ≡ (eqb (getD xs i 0) (getD ys i 0) && sameList (drop (suc i) xs) (drop (suc i) ys))
-next xs ys i h l = rw (drop-cons xs i 0 l, drop-cons ys i 0 (omega (arith, h .size))) at (h .left)
+and-join : (a b c : Bool) → (a && (b && c)) ≡ ((a && b) && c)
+and-join true b c = refl
+and-join false b c = refl
 
--- The same marks leave the next ones to decide,
-pub turn : (xs ys : List ℕ) (i : ℕ) → Alike xs ys i → i < length xs → getD xs i 0 ≡ getD ys i 0 → Alike xs ys (i + 1)
-turn xs ys i h l e = rw (add-one i) (record { within = l; size = h .size; left = next xs ys i h l ∙ rw (eq-eqb _ _ e) })
+and-last : (a : Bool) → (a && true) ≡ a
+and-last true = refl
+and-last false = refl
 
--- two that differ decide,
-pub differ : (xs ys : List ℕ) (i : ℕ) → Alike xs ys i → i < length xs → (getD xs i 0 ≡ getD ys i 0 → ⊥) → false ≡ sameList xs ys
-differ xs ys i h l e = sym (next xs ys i h l ∙ rw (ne-eqb _ _ e))
+-- The next two marks,
+pub turn : (xs ys : List ℕ) (i : ℕ) {same next : Bool} → Alike xs ys i same → i < length xs
+    → next ≡ (same && eqb (getD xs i 0) (getD ys i 0)) → Alike xs ys (i + 1) next
+turn xs ys i {same} {next} h l e =
+    let first : sameList xs ys ≡ (same && (eqb (getD xs i 0) (getD ys i 0) && sameList (drop (suc i) xs) (drop (suc i) ys)))
+    = rw (drop-cons xs i 0 l, drop-cons ys i 0 (omega (arith, h .size))) at (h .whole) in
+    rw (add-one i) (record {
+      within = l;
+      size = h .size;
+      whole = first ∙ rw e (and-join same (eqb (getD xs i 0) (getD ys i 0)) (sameList (drop (suc i) xs) (drop (suc i) ys)));
+    })
 
--- and past the last all are equal.
-pub end : (xs ys : List ℕ) (i : ℕ) → Alike xs ys i → length xs ≤ i → true ≡ sameList xs ys
-end xs ys i h l =
+-- and past the last nothing is left.
+pub end : (xs ys : List ℕ) (i : ℕ) {same : Bool} → Alike xs ys i same → length xs ≤ i → same ≡ sameList xs ys
+end xs ys i {same} h l =
     let past : length ys ≤ i = omega (arith, h .size) in
-    sym (rw (drop-of-length-le xs l, drop-of-length-le ys past) at (h .left))
+    sym (rw (drop-of-length-le xs l, drop-of-length-le ys past) at (h .whole) ∙ and-last same)
+
+-- Both lists have the place.
+pub second-room : (xs ys : List ℕ) (i : ℕ) {same : Bool} → Alike xs ys i same → i < length xs → i < length ys
+second-room xs ys i h l = omega (arith, h .size)
 
 -- Equal lists are as long.
 pub other-length : (xs ys : List ℕ) → (length xs ≡ length ys → ⊥) → false ≡ sameList xs ys
@@ -54,4 +64,4 @@ other-length xs ys apart = go (sameList xs ys) refl
     go true e = absurd (apart (ap length (same-equal xs ys e)))
     go false e = refl
 
-pub ruleset comparing = (start, turn, differ, end, other-length, needs)
+pub ruleset comparing = (start, turn, end, second-room, other-length, needs)

@@ -1,4 +1,4 @@
--- `stored_tableaux::marks::same_marks` meets its contract, the marks left decide. Assumes nothing.
+-- `stored_tableaux::marks::same_marks` meets its contract: the marks so far and those left decide. Assumes nothing.
 use Prim.Native.Nat.{_-_}
 use lib.ListN.{length}
 use Rattle.stored_tableaux.specs.Marks.{Alike, comparing}
@@ -6,14 +6,14 @@ use Rattle.stored_tableaux.proofs.marks.same_marks.Statement.{statement
 use Rattle.stored_tableaux.proofs.marks.same_marks.Tie as tie
 
 abbrev Inv-loop : tie.InvT-loop
-Inv-loop first second i₀ i = Alike first second i
+Inv-loop first second same₀ i₀ same i = Alike first second i same
 
 abbrev μ-loop : tie.MeasureT-loop
-μ-loop first second i₀ i = length first - i
+μ-loop first second same₀ i₀ same i = length first - i
 
 pub same-marks-spec : {M : Type 1} → statement M
 same-marks-spec =
     tie.close
     (tie.spec Inv-loop μ-loop (λ c. search comparing) (λ c. search comparing) (λ c. search comparing)
-    (λ c. search comparing) (λ c. search comparing) (λ c. search comparing) (λ c. search comparing)
+    (λ c. search comparing) (λ c κs. search comparing) (λ c. search comparing) (λ c. search comparing)
     (λ c. search comparing) (λ c. search comparing))
