@@ -1,7 +1,7 @@
 // The checks of insertion in rising number, each over the whole input. The used cells can be looked at once 1, 2 and 3 have passed; every later check is
 // total and linear, so all of them are made and the first refusal counts.
 use acceptance::letters::check_letters;
-use counts::check::check_counts;
+use counts::shape::check_counted_shape;
 use refusals::answers::Verdict;
 use refusals::chains::check_limits;
 use refusals::chains::or_else;
@@ -11,8 +11,6 @@ use refusals::numbers::check_used;
 use refusals::numbers::either;
 use refusals::numbers::refuse_if;
 use refusals::refusal::Refusal;
-use shapes::marks::check_marks;
-use shapes::rising::check_rising;
 use validity::tableau::check_ribbon;
 ghost use Prim.Native.Nat.{_+_, _≤_};
 ghost use mathlib.Core.Path.{_≡_};
@@ -62,11 +60,9 @@ fn check_cells(
         ⌝ }
 {
     let inside = check_all_letters(rank, letter, letters);
-    let rising = check_rising(letters);
-    let marked = check_marks(letters, marks);
-    let counted = check_counts(letters, counts);
-    let rest = or_else(counted, check_ribbon(used, entries, marks));
-    or_else(inside, or_else(rising, or_else(marked, rest)))
+    let shaped = check_counted_shape(letters, marks, counts);
+    let rest = or_else(shaped, check_ribbon(used, entries, marks));
+    or_else(inside, rest)
 }
 
 // 12 and 13: a free cell, and room for it in each of the three lists.

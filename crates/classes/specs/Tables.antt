@@ -2,8 +2,9 @@
 --     sameFrom n j cs ds     n numbers, from place j on, are equal
 --     sameTables cs ds       all 64 are
 --     same-true              of true letter counts: each letter stands equally often in both words
---     Matching               the loop over the letters: what is left decides
---     start, turn, differ, end     the loop
+--     Matching               the loop over the letters: whether all numbers so far are equal, and what is left, decide
+--     start, turn, end       the loop
+--     and-join, and-last     two tests in one
 --     comparing              the ruleset of the comparison
 -- Elements are looked up and none is counted: lent memory has 64, and nothing rests on how many there are. Assumes nothing.
 use Prim.Native.Nat.{ℕ, zero, suc, _+_, _-_, _≤_, _<_}
@@ -15,7 +16,6 @@ use mathlib.Core.Bool.{Bool, true, false, _&&_}
 use lib.Dec.{eqb}
 use lib.ListN.{getD}
 use borrow.Author.Needs.{needs}
-use borrow.Author.Tests.{eq-eqb, ne-eqb}
 use Rattle.hypoplactic.specs.Counts.{TrueCounts}
 use Rattle.hypoplactic.specs.Junctions.{sameCounts}
 
@@ -42,34 +42,40 @@ same-true u v f g = same-from u v f g 64 0 (omega arith)
 
 -- ---- the loop
 
--- At place i the numbers left decide.
-pub record Matching (cs ds : List ℕ) (i : ℕ) : Type 0 where
+-- A test more,
+pub and-join : (a b c : Bool) → (a && (b && c)) ≡ ((a && b) && c)
+and-join true b c = refl
+and-join false b c = refl
+
+-- and one that passes.
+pub and-last : (a : Bool) → (a && true) ≡ a
+and-last true = refl
+and-last false = refl
+
+-- At place i the numbers so far and those left decide.
+pub record Matching (cs ds : List ℕ) (i : ℕ) (same : Bool) : Type 0 where
   pub within : i ≤ 64
-  pub left : sameTables cs ds ≡ sameFrom (64 - i) i cs ds
+  pub whole : sameTables cs ds ≡ (same && sameFrom (64 - i) i cs ds)
 
-pub start : (cs ds : List ℕ) → Matching cs ds 0
+pub start : (cs ds : List ℕ) → Matching cs ds 0 true
 unfolding sameTables
-start cs ds = record { within = omega arith; left = refl }
+start cs ds = record { within = omega arith; whole = refl }
 
--- What is left, from its first number.
-next : (cs ds : List ℕ) (i : ℕ) → Matching cs ds i → i < 64
-    → sameTables cs ds ≡ (eqb (getD cs i 0) (getD ds i 0) && sameFrom (64 - suc i) (suc i) cs ds)
-next cs ds i h l =
+-- The next two numbers,
+pub turn : (cs ds : List ℕ) (i : ℕ) {same next : Bool} → Matching cs ds i same → i < 64
+    → next ≡ (same && eqb (getD cs i 0) (getD ds i 0)) → Matching cs ds (i + 1) next
+turn cs ds i {same} {next} h l e =
     let more : 64 - i ≡ suc (64 - suc i) = omega arith in
-    rw more at (h .left)
+    let first : sameTables cs ds ≡ (same && (eqb (getD cs i 0) (getD ds i 0) && sameFrom (64 - suc i) (suc i) cs ds)) = rw more at (h .whole) in
+    rw (add-one i) (record {
+      within = omega arith;
+      whole = first ∙ rw e (and-join same (eqb (getD cs i 0) (getD ds i 0)) (sameFrom (64 - suc i) (suc i) cs ds));
+    })
 
--- An equal number leaves the next ones to decide,
-pub turn : (cs ds : List ℕ) (i : ℕ) → Matching cs ds i → i < 64 → getD cs i 0 ≡ getD ds i 0 → Matching cs ds (i + 1)
-turn cs ds i h l e = rw (add-one i) (record { within = omega arith; left = next cs ds i h l ∙ rw (eq-eqb _ _ e) })
-
--- one that differs decides,
-pub differ : (cs ds : List ℕ) (i : ℕ) → Matching cs ds i → i < 64 → (getD cs i 0 ≡ getD ds i 0 → ⊥) → false ≡ sameTables cs ds
-differ cs ds i h l e = sym (next cs ds i h l ∙ rw (ne-eqb _ _ e))
-
--- and past the last all are equal.
-pub end : (cs ds : List ℕ) (i : ℕ) → Matching cs ds i → 64 ≤ i → true ≡ sameTables cs ds
-end cs ds i h l =
+-- and past the last none is left.
+pub end : (cs ds : List ℕ) (i : ℕ) {same : Bool} → Matching cs ds i same → 64 ≤ i → same ≡ sameTables cs ds
+end cs ds i {same} h l =
     let none : 64 - i ≡ 0 = omega arith in
-    sym (rw none at (h .left))
+    sym (rw none at (h .whole) ∙ and-last same)
 
-pub ruleset comparing = (start, turn, differ, end, needs)
+pub ruleset comparing = (start, turn, end, needs)

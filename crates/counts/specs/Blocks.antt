@@ -20,14 +20,11 @@ use lib.Seq.{take-suc, take-length}
 use borrow.Author.Needs.{needs}
 use borrow.Author.Tests.{eqb-true, eqb-false, ltb-false}
 use Rattle.hypoplactic.specs.Words.{count}
-use Rattle.hypoplactic.specs.Replies.{Passes, refuseIf}
+use Rattle.hypoplactic.specs.Replies.{Passes, passed, refuseIf}
 use Rattle.hypoplactic.specs.Judgements.{risingFrom, risingJudged}
 use Rattle.hypoplactic.specs.Counts.{TrueCounts}
 use Rattle.hypoplactic.proofs.Theory.Pairs.{le-or-lt}
 use Rattle.hypoplactic.proofs.Theory.Pairs.{Rising}
-use Rattle.refusals.specs.declared.answers.Fault.{Fault}
-use Rattle.refusals.specs.declared.answers.Fault.the-variants.{Nowhere}
-use Rattle.refusals.specs.Said.{saidFault}
 use Rattle.counts.specs.Tallies.{count-more, count-other}
 
 -- ---- rising letters
@@ -139,10 +136,10 @@ pub record Agreed (xs cs : List ℕ) (a at : ℕ) : Type 0 where
   pub entry : (j : ℕ) → j < a → getD cs j 0 ≡ count (suc j) (take at xs)
   pub above : (b : ℕ) → a < b → count b (take at xs) ≡ 0
 
--- Where 5 found no fault, the pass begins.
-pub agreed-start : {xs : List ℕ} (cs : List ℕ) {f : Fault} → saidFault 5 f ≡ risingJudged xs → f ≡ Nowhere → Agreed xs cs 0 0
-agreed-start {xs} cs {f} e q = record {
-  rises = rises xs (subst Passes (rw q at e) tt);
+-- Where 5 passes, the pass begins.
+pub agreed-start : {xs : List ℕ} (cs : List ℕ) → risingJudged xs ≡ passed → Agreed xs cs 0 0
+agreed-start {xs} cs e = record {
+  rises = rises xs (subst Passes (sym e) tt);
   reached = omega arith;
   entry = λ j l. let z : ⊥ = omega arith in absurd z;
   above = λ b l. refl;

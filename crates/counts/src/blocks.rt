@@ -1,10 +1,10 @@
-// The first pass of the check 17, 64 steps for a tableau with true counts: rising letters are cut into blocks as long as the counts say, of which only the
-// first and the last letter are looked at.
+// The first pass of the check 17, 64 steps for a tableau with true counts: letters that rise are cut into blocks as long as the counts say, of which only
+// the first and the last letter are looked at.
 use crate::tally::place_of;
-use refusals::answers::Fault;
-use shapes::rising::rising_fault;
 ghost use Prim.Native.Nat.{_<_};
 ghost use mathlib.Core.Path.{_≡_};
+ghost use Rattle.hypoplactic.specs.Judgements.{risingJudged};
+ghost use Rattle.hypoplactic.specs.Replies.{passed};
 ghost use Rattle.counts.specs.Blocks.{Block, Confirmed};
 
 // A count, wide enough to be added up.
@@ -30,13 +30,11 @@ fn block_agrees(letters: &[u8], at: usize, end: usize, letter: usize) -> bool
     place_of(letters[end - 1]) == letter
 }
 
-// Whether the letters rise and the blocks that the counts cut off agree and use up all letters. Then every count is true; else nothing is said.
+// Whether the blocks that the counts cut off rising letters agree and use up all letters. Then every count is true; else nothing is said.
 pub(crate) fn confirmed(letters: &[u8], counts: &[u16; 64]) -> bool
+    requires { ⌜ risingJudged (now letters) ≡ passed ⌝ }
     ensures { λ r. ⌜ Confirmed (now (letters .entry)) (now (counts .entry)) r ⌝ }
 {
-    if let Fault::At(_) = rising_fault(letters) {
-        return false;
-    }
     let mut at = 0;
     let mut a = 0;
     while a < 64 {

@@ -4,10 +4,13 @@ use crate::tally::tally;
 use refusals::answers::Fault;
 use refusals::answers::Verdict;
 use refusals::refusal::Refusal;
+use shapes::rising::rising_fault;
 ghost use mathlib.Core.Bool.{not};
 ghost use mathlib.Core.Path.{_≡_};
 ghost use lib.Dec.{eqb};
 ghost use Rattle.hypoplactic.specs.Counts.{countsJudged};
+ghost use Rattle.hypoplactic.specs.Judgements.{risingJudged};
+ghost use Rattle.hypoplactic.specs.Replies.{passed};
 ghost use Rattle.refusals.specs.Said.{saidFault, saidVerdict};
 
 // Whether a number differs from how often a letter stands.
@@ -17,13 +20,10 @@ fn number_wrong(number: u16, count: usize) -> bool
     number as usize != count
 }
 
-// Where the first wrong number stands, if there is one. The letters are counted only where the first pass did not confirm the numbers.
-pub fn count_fault(letters: &[u8], counts: &[u16; 64]) -> Fault
+// Where the first wrong number stands, if there is one, by a count of all letters.
+fn first_wrong(letters: &[u8], counts: &[u16; 64]) -> Fault
     ensures { λ r. ⌜ saidFault 17 r ≡ countsJudged (now (counts .entry)) (now (letters .entry)) ⌝ }
 {
-    if confirmed(letters, counts) {
-        return Fault::Nowhere;
-    }
     let table = tally(letters);
     let mut i = 0;
     while i < 64 {
@@ -33,6 +33,27 @@ pub fn count_fault(letters: &[u8], counts: &[u16; 64]) -> Fault
         i += 1;
     }
     Fault::Nowhere
+}
+
+// The same of letters that rise, which are counted only where the first pass did not confirm the numbers.
+fn rising_count_fault(letters: &[u8], counts: &[u16; 64]) -> Fault
+    requires { ⌜ risingJudged (now letters) ≡ passed ⌝ }
+    ensures { λ r. ⌜ saidFault 17 r ≡ countsJudged (now (counts .entry)) (now (letters .entry)) ⌝ }
+{
+    if confirmed(letters, counts) {
+        return Fault::Nowhere;
+    }
+    first_wrong(letters, counts)
+}
+
+// The same of any letters.
+pub fn count_fault(letters: &[u8], counts: &[u16; 64]) -> Fault
+    ensures { λ r. ⌜ saidFault 17 r ≡ countsJudged (now (counts .entry)) (now (letters .entry)) ⌝ }
+{
+    if let Fault::At(_) = rising_fault(letters) {
+        return first_wrong(letters, counts);
+    }
+    rising_count_fault(letters, counts)
 }
 
 // The verdict of 17 from that place.
@@ -50,4 +71,12 @@ pub fn check_counts(letters: &[u8], counts: &[u16; 64]) -> Verdict
     ensures { λ r. ⌜ saidVerdict r ≡ countsJudged (now (counts .entry)) (now (letters .entry)) ⌝ }
 {
     counts_verdict(count_fault(letters, counts))
+}
+
+// 17 of letters that rise.
+pub(crate) fn check_rising_counts(letters: &[u8], counts: &[u16; 64]) -> Verdict
+    requires { ⌜ risingJudged (now letters) ≡ passed ⌝ }
+    ensures { λ r. ⌜ saidVerdict r ≡ countsJudged (now (counts .entry)) (now (letters .entry)) ⌝ }
+{
+    counts_verdict(rising_count_fault(letters, counts))
 }

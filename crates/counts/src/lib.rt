@@ -2,4 +2,5 @@
 // written meaning (crate hypoplactic).
 mod blocks;
 pub mod check;
+pub mod shape;
 mod tally;

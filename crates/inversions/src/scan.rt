@@ -1,4 +1,5 @@
 // The inversion of a tableau (document 01, "Moves"): one scan of the down steps tells whether i+1 stands directly below i. It takes whatever it is given.
+use refusals::numbers::both;
 use refusals::numbers::either;
 use refusals::numbers::least;
 ghost use mathlib.Core.Path.{_≡_};
@@ -6,13 +7,6 @@ ghost use Prim.Native.Nat.{_+_, _<_};
 ghost use mathlib.Core.Bool.{_&&_};
 ghost use lib.Dec.{eqb};
 ghost use Rattle.hypoplactic.specs.Moves.{below, fromTo};
-
-// Whether both of two tests pass. Each is made before either is looked at.
-fn both(one: bool, other: bool) -> bool
-    ensures { λ r. ⌜ r ≡ (one && other) ⌝ }
-{
-    one && other
-}
 
 // Whether a step goes down from the letter `here` to `next`, the one after it. A mark 1 is a step down. Every test is made, so that no branch is left.
 fn steps_below(here: u8, next: u8, upper: u8, lower: u8, mark: u8) -> bool

@@ -3,7 +3,7 @@ use crate::answers::Verdict;
 use crate::refusal::Refusal;
 ghost use Prim.Native.Nat.{_+_, min};
 ghost use mathlib.Core.Path.{_≡_};
-ghost use mathlib.Core.Bool.{_||_};
+ghost use mathlib.Core.Bool.{_&&_, _||_};
 ghost use mathlib.Core.List.{[], _∷_};
 ghost use Rattle.hypoplactic.specs.Replies.{passed, refuseIf};
 ghost use Rattle.hypoplactic.specs.Judgements.{rankJudged, lengthJudged, alikeJudged, usedJudged, indexJudged, fullJudged, roomJudged};
@@ -32,6 +32,13 @@ pub fn either(one: bool, other: bool) -> bool
     ensures { λ r. ⌜ r ≡ (one || other) ⌝ }
 {
     one || other
+}
+
+// Whether both of two tests pass. Each is made before either is looked at.
+pub fn both(one: bool, other: bool) -> bool
+    ensures { λ r. ⌜ r ≡ (one && other) ⌝ }
+{
+    one && other
 }
 
 // 1: the rank is 1 to 64.

@@ -2,6 +2,7 @@
 // refusal counts.
 use acceptance::letters::check_letters;
 use counts::check::check_counts;
+use counts::shape::check_counted_shape;
 use refusals::answers::Verdict;
 use refusals::chains::or_else;
 use refusals::numbers::check_marks_alike;
@@ -107,8 +108,8 @@ fn check_both_counts(
     )
 }
 
-// 4 to 6 and 17 of both.
-pub(crate) fn check_cells(
+// 4 to 6 and 17 of both, every check in its place.
+fn check_in_order(
     first_rank: usize,
     first_letters: &[u8],
     first_marks: &[u8],
@@ -137,4 +138,50 @@ pub(crate) fn check_cells(
     let shaped = check_both_shapes(first_letters, first_marks, second_letters, second_marks);
     let counted = check_both_counts(first_letters, first_counts, second_letters, second_counts);
     or_else(inside, or_else(shaped, counted))
+}
+
+// 4 to 6 and 17 of both. Where 5, 6 and 17 pass in each tableau, 4 is all that is left to judge; else the first refusal is looked for in the order of the
+// checks.
+pub(crate) fn check_cells(
+    first_rank: usize,
+    first_letters: &[u8],
+    first_marks: &[u8],
+    first_counts: &[u16; 64],
+    second_rank: usize,
+    second_letters: &[u8],
+    second_marks: &[u8],
+    second_counts: &[u16; 64],
+) -> Verdict
+    ensures { λ r. ⌜
+        saidVerdict r
+        ≡ first
+        (cellsJudgements
+        «first_rank»
+        (now («first_letters» .entry))
+        (now («first_marks» .entry))
+        (now («first_counts» .entry))
+        «second_rank»
+        (now («second_letters» .entry))
+        (now («second_marks» .entry))
+        (now («second_counts» .entry)))
+        passed
+        ⌝ }
+{
+    let shaped = or_else(
+        check_counted_shape(first_letters, first_marks, first_counts),
+        check_counted_shape(second_letters, second_marks, second_counts),
+    );
+    if let Verdict::Passed = shaped {
+        return check_both_letters(first_rank, first_letters, second_rank, second_letters);
+    }
+    check_in_order(
+        first_rank,
+        first_letters,
+        first_marks,
+        first_counts,
+        second_rank,
+        second_letters,
+        second_marks,
+        second_counts,
+    )
 }

@@ -14,6 +14,7 @@ use lib.Dec.{eqb}
 use lib.ListN.{length, getD, drop, drop-of-length-le}
 use lib.Seq.{drop-cons}
 use borrow.Author.Needs.{needs}
+use Rattle.classes.specs.Tables.{and-join, and-last}
 use Rattle.numbering.specs.Dictionary.{sameList}
 use Rattle.numbering.proofs.Theory.ClassSize.{same-equal}
 
@@ -25,14 +26,6 @@ pub record Alike (xs ys : List ℕ) (i : ℕ) (same : Bool) : Type 0 where
 
 pub start : (xs ys : List ℕ) → length xs ≡ length ys → Alike xs ys 0 true
 start xs ys e = record { within = omega arith; size = e; whole = refl }
-
-and-join : (a b c : Bool) → (a && (b && c)) ≡ ((a && b) && c)
-and-join true b c = refl
-and-join false b c = refl
-
-and-last : (a : Bool) → (a && true) ≡ a
-and-last true = refl
-and-last false = refl
 
 -- The next two marks,
 pub turn : (xs ys : List ℕ) (i : ℕ) {same next : Bool} → Alike xs ys i same → i < length xs

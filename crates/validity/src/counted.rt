@@ -1,10 +1,10 @@
 // The checks of a tableau and of a pair that bring letter counts: those of the plain checks, and 17 directly after 6. Where 1, 2 or 3 refuses, no element is
 // read.
-use crate::tableau::check_cells;
 use crate::tableau::check_pair_sizes;
 use crate::tableau::check_ribbon;
 use crate::tableau::check_tableau_sizes;
-use counts::check::check_counts;
+use acceptance::letters::check_letters;
+use counts::shape::check_counted_shape;
 use refusals::answers::Verdict;
 use refusals::chains::or_else;
 ghost use mathlib.Core.Path.{_≡_};
@@ -25,8 +25,8 @@ fn check_counted_cells(rank: usize, letters: &[u8], marks: &[u8], counts: &[u16;
         ⌝ }
 {
     or_else(
-        check_cells(rank, letters, marks),
-        check_counts(letters, counts),
+        check_letters(rank, letters),
+        check_counted_shape(letters, marks, counts),
     )
 }
 

@@ -17,7 +17,7 @@ ghost use Rattle.hypoplactic.specs.Judgements.{alikeJudged, entriesJudged, leng
 ghost use Rattle.refusals.specs.Said.{saidVerdict};
 
 // 4, 5 and 6: the cells of a tableau or of a pair.
-pub(crate) fn check_cells(rank: usize, letters: &[u8], marks: &[u8]) -> Verdict
+fn check_cells(rank: usize, letters: &[u8], marks: &[u8]) -> Verdict
     ensures { λ r. ⌜
         saidVerdict r
         ≡ first

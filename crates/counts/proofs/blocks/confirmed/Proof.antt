@@ -13,7 +13,6 @@ abbrev μ-loop : tie.MeasureT-loop
 pub confirmed-spec : {M : Type 1} → statement M
 confirmed-spec =
     tie.close
-    (tie.spec Inv-loop μ-loop (λ c κs. search agreeing) (λ c. search agreeing) (λ c. search agreeing)
-    (λ c. search agreeing) (λ c. search agreeing) (λ c. search agreeing) (λ c. search agreeing)
+    (tie.spec Inv-loop μ-loop (λ c. search agreeing) (λ c. search agreeing) (λ c. search agreeing)
     (λ c κs. search agreeing) (λ c. search agreeing) (λ c. search agreeing) (λ c κs. search agreeing)
     (λ c. search agreeing) (λ c. search agreeing) (λ c. search agreeing) (λ c. search agreeing))

@@ -1,19 +1,10 @@
 -- `counts::check::count_fault` meets its contract, by the laws of specs/Comparing. Assumes nothing.
-use Prim.Native.Nat.{_-_}
-use Rattle.counts.specs.Comparing.{Comparing, counting}
+use Rattle.counts.specs.Comparing.{counting}
 use Rattle.counts.proofs.check.count_fault.Statement.{statement}
 use Rattle.counts.proofs.check.count_fault.Tie as tie
-
-abbrev Inv-loop : tie.InvT-loop
-Inv-loop letters counts table i₀ i = Comparing counts letters table i
-
-abbrev μ-loop : tie.MeasureT-loop
-μ-loop letters counts table i₀ i = 64 - i
 
 pub count-fault-spec : {M : Type 1} → statement M
 count-fault-spec =
     tie.close
-    (tie.spec Inv-loop μ-loop (λ c κs. search counting) (λ c. search counting) (λ c κs. search counting)
-    (λ c. search counting) (λ c. search counting) (λ c. search counting) (λ c. search counting)
-    (λ c. search counting) (λ c. search counting) (λ c κs. search counting) (λ c. search counting)
-    (λ c. search counting) (λ c. search counting) (λ c. search counting) (λ c. search counting))
+    (tie.spec (λ c κs. search counting) (λ c. search counting) (λ c κs. search counting) (λ c. search counting)
+    (λ c. search counting) (λ c κs. search counting) (λ c. search counting))
