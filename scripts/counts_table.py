@@ -250,6 +250,22 @@ same_class_of_tableaux 4 4 {CELLS} {COUNTS} 2,1,3 0,0,0 1,1,1
 same_class_of_tableaux 4 4 2,3,3,4 0,1,1,1 {COUNTS} {CELLS} {COUNTS}
 same_class_of_tableaux 4 4 {CELLS} {COUNTS} 2,3,3,4 1,1,0,1 {COUNTS}
 same_class_of_tableaux 4 3 {CELLS} {COUNTS} 3,3 0,1 -
+same_class_of_tableaux 0 4 1*1025 - - - - -
+same_class_of_tableaux 4 4 5 - - 1*1025 - -
+same_class_of_tableaux 4 4 3,2,5 0,0,0 - 5 0 -
+same_class_of_tableaux 4 4 1,2,1 0,0,2 - 2,1 0,0 -
+same_class_of_tableaux 4 4 1,1 0,1 - 3 1 -
+same_class_of_tableaux 4 4 1 0 - 1,1 0,1 -
+same_class_of_tableaux 4 4 1,2,3 0,0,0 - 2,1 0,0 -
+same_class_of_tableaux 4 4 1 0 - 1 0 -
+compare_weights_of_tableaux 0 4 1*1025 - - - - -
+compare_weights_of_tableaux 4 4 5 - - 1*1025 - -
+compare_weights_of_tableaux 4 4 3,2,5 0,0,0 - 5 0 -
+compare_weights_of_tableaux 4 4 1,2,1 0,0,2 - 2,1 0,0 -
+compare_weights_of_tableaux 4 4 1,1 0,1 - 3 1 -
+compare_weights_of_tableaux 4 4 1 0 - 1,1 0,1 -
+compare_weights_of_tableaux 4 4 1,2,3 0,0,0 - 2,1 0,0 -
+compare_weights_of_tableaux 4 4 1 0 - 1 0 -
 same_class_of_tableaux 4 4 {CELLS} {COUNTS} 2,3,3,4 0,1,0,2 {COUNTS}
 same_class_of_tableaux 4 4 {CELLS} {FIRST} {CELLS} {COUNTS}
 same_class_of_tableaux 4 4 {CELLS} {MIDDLE} {CELLS} {COUNTS}

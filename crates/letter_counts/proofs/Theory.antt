@@ -5,5 +5,6 @@ pub mod TwoTableaux
 -- ---- counts in lent memory after a call
 pub mod MovedEntries
 pub mod CountsHeld
+pub mod NextCalls
 -- ---- cases
 pub mod Cases

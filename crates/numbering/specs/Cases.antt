@@ -28,7 +28,15 @@ numberCases =
     ∷ case (outcome (classWordRun 1 [] [] (counts []) 0 (lent 1))) (0 ∷ 0 ∷ 99 ∷ [])
     ∷ case (outcome (classWordRun 1 [] [] (counts []) 1 (lent 1))) (16 ∷ 0 ∷ 99 ∷ [])
     ∷ case (numbers (classNumberSays 1 [])) (0 ∷ 0 ∷ [])
-    -- 15: 21 cells or letters; 4 and 6 come before it
+    -- 1, 3, 4 and 5 of a tableau, each before the later checks
+    ∷ case (numbers (classSizeSays 0 (1 ∷ []) [] [])) (1 ∷ 0 ∷ [])
+    ∷ case (numbers (classSizeSays 2 (3 ∷ []) [] [])) (3 ∷ 0 ∷ [])
+    ∷ case (numbers (classSizeSays 2 (2 ∷ 1 ∷ 3 ∷ []) (0 ∷ 0 ∷ 0 ∷ []) [])) (4 ∷ 2 ∷ [])
+    ∷ case (numbers (classSizeSays 2 (2 ∷ 1 ∷ []) (1 ∷ 0 ∷ []) [])) (5 ∷ 1 ∷ [])
+    ∷ case (numbers (classSizeSays 3 (replicate 20 3 ++ 1 ∷ []) (1 ∷ replicate 20 0) [])) (5 ∷ 20 ∷ [])
+    ∷ case (outcome (classWordRun 2 (2 ∷ 1 ∷ 3 ∷ []) (0 ∷ 0 ∷ 0 ∷ []) [] 9 (lent 1))) (4 ∷ 2 ∷ 99 ∷ [])
+    ∷ case (outcome (classWordRun 2 (2 ∷ 1 ∷ []) (1 ∷ 0 ∷ []) [] 9 (lent 1))) (5 ∷ 1 ∷ 99 ∷ [])
+    -- 15: 21 cells or letters; 6 of a tableau and 4 of a word come before it
     ∷ case (numbers (classSizeSays 1 (replicate 21 1) (replicate 21 0) (counts (21 ∷ [])))) (15 ∷ 0 ∷ [])
     ∷ case (numbers (classSizeSays 1 (replicate 21 1) (replicate 20 0 ++ 1 ∷ []) (counts (21 ∷ [])))) (6 ∷ 20 ∷ [])
     ∷ case (outcome (classWordRun 1 (replicate 21 1) (replicate 21 0) (counts (21 ∷ [])) 1 (lent 1))) (15 ∷ 0 ∷ 99 ∷ [])

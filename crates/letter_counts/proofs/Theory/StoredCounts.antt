@@ -2,7 +2,9 @@
 --     reading-counts        the letter counts of a tableau are those of its column reading
 --     letters-of-counts     two tableaux within the limits with equal letter counts have equal letters
 --     class-stored          equal letter counts and equal marks tell whether two column readings are of one class
+--     weights-same          words that have each letter equally often compare alike
 --     weights-stored        the comparison of weights of two column readings is that of the tableaux' letters
+--     one-truth             two tests that pass exactly when one fact holds are equal
 -- Each tableau is within the limits of its own rank. Assumes nothing.
 use Prim.Native.Nat.{ℕ, zero, suc, _+_, _≤_}
 use mathlib.Core.Path.{_≡_, refl, sym, ap, ap₂, _∙_}
@@ -50,6 +52,12 @@ counts-test (suc n) k u v e = ap₂ _&&_ (eq-eqb _ _ (ap (λ (cs : List ℕ). ge
 letters-rise : (xs ms : List ℕ) → Tableau xs ms → Rising 0 xs
 letters-rise xs ms h = rising-of-along 0 xs ms (along-of-tableau xs ms h)
 
+-- Two tests that pass exactly when one fact holds are equal.
+pub one-truth : {P : Type 0} (a b : Bool) → (a ≡ true) ↔ P → (b ≡ true) ↔ P → a ≡ b
+one-truth true b p q = sym (q .1 (p .0 refl))
+one-truth false true p q = p .1 (q .0 refl)
+one-truth false false p q = refl
+
 module _ {n m : ℕ} {xs ms ys ns : List ℕ} (h : TableauAt n xs ms) (k : TableauAt m ys ns) where
   -- Two tableaux that pass the test of their counts have equal letters,
   tested-letters : sameCounts 64 1 xs ys ≡ true → xs ≡ ys
@@ -87,12 +95,6 @@ module _ {n m : ℕ} {xs ms ys ns : List ℕ} (h : TableauAt n xs ms) (k : Table
   -- What is stored tells whether the two column readings are of one class.
   pub class-stored : sameClass (columnReading xs ms) (columnReading ys ns) ≡ sameStored xs ms ys ns
   class-stored = one-truth (sameClass (columnReading xs ms) (columnReading ys ns)) (sameStored xs ms ys ns) class-tableaux stored-tableaux
-    where
-      -- Two tests that pass exactly when one fact holds are equal.
-      one-truth : {P : Type 0} (a b : Bool) → (a ≡ true) ↔ P → (b ≡ true) ↔ P → a ≡ b
-      one-truth true b p q = sym (q .1 (p .0 refl))
-      one-truth false true p q = p .1 (q .0 refl)
-      one-truth false false p q = refl
 
 -- ---- weights
 
@@ -106,12 +108,12 @@ at-most-same : (k : ℕ) (u v u′ v′ : List ℕ) → ((a : ℕ) → count a u
 at-most-same zero u v u′ v′ e f = refl
 at-most-same (suc k) u v u′ v′ e f = ap₂ _&&_ (at-most-same k u v u′ v′ e f) (ap₂ leb (sums-same (suc k) u u′ e) (sums-same (suc k) v v′ f))
 
+pub weights-same : (u v u′ v′ : List ℕ) → ((a : ℕ) → count a u ≡ count a u′) → ((a : ℕ) → count a v ≡ count a v′)
+    → compareWeights u v ≡ compareWeights u′ v′
+unfolding compareWeights
+weights-same u v u′ v′ e f = ap₂ comparison (at-most-same 64 u v u′ v′ e f) (at-most-same 64 v u v′ u′ f e)
+
 -- The comparison of two column readings is that of the tableaux' letters.
 pub weights-stored : (xs ms ys ns : List ℕ) → Tableau xs ms → Tableau ys ns
     → compareWeights (columnReading xs ms) (columnReading ys ns) ≡ compareWeights xs ys
-unfolding compareWeights
-weights-stored xs ms ys ns h k =
-    let first = reading-count xs ms h in
-    let second = reading-count ys ns k in
-    ap₂ comparison (at-most-same 64 (columnReading xs ms) (columnReading ys ns) xs ys first second)
-    (at-most-same 64 (columnReading ys ns) (columnReading xs ms) ys xs second first)
+weights-stored xs ms ys ns h k = weights-same (columnReading xs ms) (columnReading ys ns) xs ys (reading-count xs ms h) (reading-count ys ns k)
