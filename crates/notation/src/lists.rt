@@ -8,6 +8,7 @@ use crate::fields::number_at;
 use crate::fields::place_of;
 use crate::fields::wide;
 ghost use Prim.Native.Nat.{_≤_};
+ghost use mathlib.Core.Path.{_≡_};
 ghost use lib.ListN.{length};
 
 // How many elements an item has. A dash alone has none.
@@ -159,7 +160,9 @@ fn entries(list: &[u8], out: &mut [u16]) -> usize
 }
 
 // The letter counts that are a line's argument of one of two kinds: numbers that are missing are 0.
-pub fn counts_of(kinds: &[u8], line: &[u8], kind: u8, other: u8) -> [u16; 64] {
+pub fn counts_of(kinds: &[u8], line: &[u8], kind: u8, other: u8) -> [u16; 64]
+    ensures { λ r. ⌜ length r ≡ 64 ⌝ }
+{
     let mut counts: [u16; 64] = [0; 64];
     let out: &mut [u16] = &mut counts;
     entries(field(line, argument(kinds, kind, other)), out);
