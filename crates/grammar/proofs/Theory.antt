@@ -3,6 +3,7 @@ pub mod Decimal
 pub mod Determined
 pub mod Exact
 pub mod Examples
+pub mod Halves
 pub mod Items
 pub mod LinesExact
 pub mod Longest

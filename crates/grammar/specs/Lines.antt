@@ -1,5 +1,6 @@
--- The five kinds of lines as bytes, over ranks, letters, marks, entries and numbers.
---     wLine, tLine, nLine, jLine, eLine
+-- The six kinds of lines as bytes, over ranks, letters, marks, entries and numbers.
+--     wLine, tLine, pLine, nLine, jLine, eLine
+-- N lines are written no more: they stand in old files, each beside its T line (document 02, N7).
 -- Fields are parted by commas (44), and a line ends in a line feed (10). Nothing here asks whether the values are a word or a tableau. Assumes nothing.
 use Prim.Native.Nat.{ℕ, zero, suc}
 use mathlib.Core.List.{List, [], _∷_, _++_}
@@ -45,6 +46,11 @@ wLine rank letters = line 87 (field rank ++ (field (length letters) ++ items fie
 -- T, rank, how many letters, the letters in ribbon order with r or d between neighbours.
 unfoldable pub tLine : ℕ → List ℕ → List ℕ → List ℕ
 tLine rank letters marks = line 84 (field rank ++ (field (length letters) ++ items firstCell cell (cells letters marks)))
+
+-- P, rank, how many cells, the items of the T line, the recording entries in ribbon order.
+unfoldable pub pLine : ℕ → List ℕ → List ℕ → List ℕ → List ℕ
+pLine rank letters marks entries =
+    line 80 (field rank ++ (field (length letters) ++ (items firstCell cell (cells letters marks) ++ items field field entries)))
 
 -- N, how many entries, the recording entries in ribbon order.
 unfoldable pub nLine : List ℕ → List ℕ

@@ -2,6 +2,7 @@
 -- breaks the grammar (nothing is left when the text ends early); the place of that byte is the text's length less what is left.
 --     readNumber          one to four digits, as many as there are; after a leading 0 nothing more
 --     readW, readT, readN a whole line: after exactly L items the line feed, and nothing after it
+--     readP               the same, with L cells and then L entries
 -- Values are only read here, and judged elsewhere. Assumes nothing.
 use Prim.Native.Nat.{ℕ, zero, suc, _+_, _-_, _*_}
 use mathlib.Core.List.{List, [], _∷_, map}
@@ -95,6 +96,14 @@ marks = map (λ c. c .1)
 abbrev pub counted : {A : Type 0} → (List ℕ → Read A) → (List ℕ → Read A) → List ℕ → Read (List A)
 counted first later = both (λ n items. items) readField (many first later)
 
+-- Exactly so many items of one sort, then as many of another.
+abbrev pub twice : {A B : Type 0} → (List ℕ → Read A) → (List ℕ → Read A) → (List ℕ → Read B) → ℕ → List ℕ → Read (List A × List B)
+twice {A} {B} first later other n = both {C = List A × List B} (λ l k. (l, k)) (many first later n) (λ l. many other other n)
+
+-- One count, then so many items of each sort.
+abbrev pub countedTwice : {A B : Type 0} → (List ℕ → Read A) → (List ℕ → Read A) → (List ℕ → Read B) → List ℕ → Read (List A × List B)
+countedTwice first later other = both (λ n parts. parts) readField (twice first later other)
+
 -- A rank, a count and then so many items.
 abbrev pub ranked : {A B : Type 0} → (ℕ → List A → B) → (List ℕ → Read A) → (List ℕ → Read A) → List ℕ → Read B
 ranked join first later = both join readField (λ n. counted first later)
@@ -106,6 +115,10 @@ readW = readLine 87 (ranked (λ n ws. (n, ws)) readField readField)
 -- T: rank, letters and marks.
 unfoldable pub readT : List ℕ → Read (ℕ × List ℕ × List ℕ)
 readT = readLine 84 (ranked (λ n cells. (n, letters cells, marks cells)) readFirst readCell)
+
+-- P: rank, letters, marks and entries. One count tells how many cells and how many entries there are.
+unfoldable pub readP : List ℕ → Read (ℕ × List ℕ × List ℕ × List ℕ)
+readP = readLine 80 (both (λ n parts. (n, letters (parts .0), marks (parts .0), parts .1)) readField (λ n. countedTwice readFirst readCell readField))
 
 -- N: entries.
 unfoldable pub readN : List ℕ → Read (List ℕ)

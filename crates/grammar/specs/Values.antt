@@ -2,6 +2,7 @@
 --     Small xs      fewer than 10,000 numbers, each below 10,000
 --     Marked xs ms  a mark for each letter, the first 0, each other 0 or 1
 --     WGood, TGood  the values of a W line, of a T line; those of an N line are Small
+--     PGood         the values of a P line: those of a T line, and as many entries, which share its count
 -- Assumes nothing.
 use Prim.Native.Nat.{ℕ, _≤_, _<_}
 use mathlib.Core.Path.{_≡_}
@@ -42,3 +43,7 @@ WGood v = Short (v .0) × Small (v .1)
 -- What a T line holds: rank, letters and marks.
 abbrev pub TGood : ℕ × List ℕ × List ℕ → Type 0
 TGood v = Short (v .0) × Small (v .1) × Marked (v .1) (v .2)
+
+-- What a P line holds: rank, letters, marks and entries.
+abbrev pub PGood : ℕ × List ℕ × List ℕ × List ℕ → Type 0
+PGood v = Short (v .0) × Small (v .1) × Marked (v .1) (v .2) × (length (v .3) ≡ length (v .1)) × Items Short Short (v .3)

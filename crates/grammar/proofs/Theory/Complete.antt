@@ -1,4 +1,4 @@
--- What a line's definition gives, the grammar reads back: w-complete, n-complete, t-complete.
+-- What a line's definition gives, the grammar reads back: w-complete, t-complete, p-complete, n-complete.
 -- Assumes nothing.
 use Prim.Native.Nat.{ℕ, zero, suc, _≤_}
 use mathlib.Core.Path.{_≡_, refl, sym, ap, _∙_}
@@ -7,9 +7,9 @@ use native.Mathlib.Omega.{arith}
 use borrow.Author.Tests.{eq-eqb}
 use lib.ListN.{length}
 use Rattle.grammar.specs.Numbers.{decimal}
-use Rattle.grammar.specs.Lines.{line, field, items, step, firstCell, cell, cells, wLine, tLine, nLine}
+use Rattle.grammar.specs.Lines.{line, field, items, step, firstCell, cell, cells, wLine, tLine, pLine, nLine}
 use Rattle.grammar.specs.Values.{Items, Short, Small, Stepped, Marked}
-use Rattle.grammar.specs.Reading.{Read, got, readField, readStep, readFirst, readCell, letters, marks, readW, readT, readN, both, many, readLine, counted, ranked}
+use Rattle.grammar.specs.Reading.{Read, got, readField, readStep, readFirst, readCell, letters, marks, readW, readT, readP, readN, both, many, readLine, counted, twice, countedTwice, ranked}
 use Rattle.grammar.proofs.Theory.Items.{items-open, Cell, First, stepped, cells-length, cells-letters, cells-marks, ribbon-good}
 use Rattle.grammar.proofs.Theory.Numbers.{Ends, number-read}
 
@@ -38,6 +38,22 @@ counted-complete : {A : Type 0} {P Q : A → Type 0} {p q : A → List ℕ} {r s
     → (l : List A) (t : List ℕ) → Short (length l) → Items P Q l → Ends t → counted r s (field (length l) ++ items p q l ++ t) ≡ got l t
 counted-complete {p} {q} {r} {s} f g l t k h e =
     onward-complete (λ n a. a) (many r s) (length l) (items p q l) t l k (items-open p q (f .opens) l t e) (many-complete f g l t h e)
+
+-- So many items of one sort and as many of another are read back.
+twice-complete : {A B : Type 0} {P Q : A → Type 0} {R : B → Type 0} {p q : A → List ℕ} {o : B → List ℕ} {r s : List ℕ → Read A} {u : List ℕ → Read B}
+    → Complete P p r → Complete Q q s → Complete R o u → (l : List A) (k : List B) (t : List ℕ) → length k ≡ length l → Items P Q l → Items R R k → Ends t
+    → twice r s u (length l) ((items p q l ++ items o o k) ++ t) ≡ got (l, k) t
+twice-complete {p} {q} {o} f g h l k t d x y e =
+    rw (append-assoc, many-complete f g l (items o o k ++ t) x (items-open o o (h .opens) k t e), ← d, many-complete h h k t y e)
+
+-- One count and its items of both sorts are read back.
+counted-twice-complete : {A B : Type 0} {P Q : A → Type 0} {R : B → Type 0} {p q : A → List ℕ} {o : B → List ℕ} {r s : List ℕ → Read A} {u : List ℕ → Read B}
+    → Complete P p r → Complete Q q s → Complete R o u → (l : List A) (k : List B) (t : List ℕ) → length k ≡ length l → Short (length l) → Items P Q l → Items R R k → Ends t
+    → countedTwice r s u (field (length l) ++ (items p q l ++ items o o k) ++ t) ≡ got (l, k) t
+counted-twice-complete {p} {q} {o} {r} {s} {u} f g h l k t d n x y e =
+    let opened : Ends ((items p q l ++ items o o k) ++ t) =
+    rw (append-assoc) (items-open p q (f .opens) l (items o o k ++ t) (items-open o o (h .opens) k t e)) in
+    onward-complete (λ n a. a) (twice r s u) (length l) (items p q l ++ items o o k) t (l, k) n opened (twice-complete f g h l k t d x y e)
 
 -- What a reader takes up to the line feed is read from the whole line.
 line-complete : {A : Type 0} (kind : ℕ) (r : List ℕ → Read A) (body : List ℕ) (a : A) → r (body ++ (10 ∷ [])) ≡ got a (10 ∷ []) → readLine kind r (line kind body) ≡ got a []
@@ -85,6 +101,22 @@ t-complete n xs ms k h m =
     rw (← e)
     (line-complete 84 (ranked (λ m c. (m, letters c, marks c)) readFirst readCell) (field n ++ (field (length (cells xs ms)) ++ items firstCell cell (cells xs ms))) (n, xs, ms)
     (ranked-complete first-complete cell-complete (λ m c. (m, letters c, marks c)) n (cells xs ms) (10 ∷ []) k (rw e (h .0)) (ribbon-good Short xs ms (h .1) m) refl
+    ∙ rw (cells-letters xs ms s, cells-marks xs ms s)))
+
+-- P: rank, letters, marks and entries are read back from their line.
+pub p-complete : (n : ℕ) (xs ms rs : List ℕ) → Short n → Small xs → Marked xs ms → length rs ≡ length xs → Items Short Short rs
+    → readP (pLine n xs ms rs) ≡ got (n, xs, ms, rs) []
+unfolding pLine readP
+p-complete n xs ms rs k h m d x =
+    let s : Stepped xs ms = stepped xs ms m in
+    let e : length (cells xs ms) ≡ length xs = cells-length xs ms s in
+    let body : List ℕ = items firstCell cell (cells xs ms) ++ items field field rs in
+    rw (← e)
+    (line-complete 80 (both (λ n parts. (n, letters (parts .0), marks (parts .0), parts .1)) readField (λ n. countedTwice readFirst readCell readField))
+    (field n ++ (field (length (cells xs ms)) ++ body)) (n, xs, ms, rs)
+    (onward-complete (λ n parts. (n, letters (parts .0), marks (parts .0), parts .1)) (λ n. countedTwice readFirst readCell readField) n
+    (field (length (cells xs ms)) ++ body) (10 ∷ []) (cells xs ms, rs) k refl
+    (counted-twice-complete first-complete cell-complete field-complete (cells xs ms) rs (10 ∷ []) (d ∙ sym e) (rw e (h .0)) (ribbon-good Short xs ms (h .1) m) x refl)
     ∙ rw (cells-letters xs ms s, cells-marks xs ms s)))
 
 -- N: entries are read back from their line.

@@ -1,4 +1,4 @@
--- A line determines its values: w-determined, t-determined, n-determined, j-determined, e-determined. They hold of all numbers.
+-- A line determines its values: w-determined, t-determined, p-determined, n-determined, j-determined, e-determined. They hold of all numbers.
 -- Assumes nothing.
 use Prim.Native.Nat.{ℕ, zero, suc, _≤_}
 use mathlib.Core.Path.{_≡_, refl, sym, ap, _∙_}
@@ -6,7 +6,7 @@ use mathlib.Core.List.{List, [], _∷_, _++_, append-assoc}
 use native.Mathlib.Omega.{arith}
 use lib.ListN.{length, drop, getD}
 use Rattle.grammar.specs.Numbers.{decimal}
-use Rattle.grammar.specs.Lines.{field, items, step, firstCell, cell, cells, wLine, tLine, nLine, jLine, eLine}
+use Rattle.grammar.specs.Lines.{field, items, step, firstCell, cell, cells, wLine, tLine, pLine, nLine, jLine, eLine}
 use Rattle.grammar.specs.Values.{Items, Stepped, Marked}
 use Rattle.grammar.specs.Reading.{letters, marks}
 use Rattle.grammar.proofs.Theory.Items.{items-open, Cell, First, stepped, cells-length, cells-letters, cells-marks, ribbon-good}
@@ -42,6 +42,22 @@ counted-cut {p} {q} f g l k s t x y d e h =
     let head : (length l ≡ length k) × (items p q l ++ s ≡ items p q k ++ t) =
     field-cut (length l) (length k) (items p q l) (items p q k) s t (items-open p q (f .opens) l s d) (items-open p q (f .opens) k t e) h in
     items-cut f g l k s t (head .0) x y d e (head .1)
+
+-- One count and its items of both sorts.
+counted-twice-cut : {A B : Type 0} {P Q : A → Type 0} {R : B → Type 0} {p q : A → List ℕ} {o : B → List ℕ} → Cut P p → Cut Q q → Cut R o
+    → (l k : List A) (u v : List B) (s t : List ℕ) → length u ≡ length l → length v ≡ length k → Items P Q l → Items P Q k → Items R R u → Items R R v → Ends s → Ends t
+    → field (length l) ++ (items p q l ++ items o o u) ++ s ≡ field (length k) ++ (items p q k ++ items o o v) ++ t → (l ≡ k) × (u ≡ v)
+counted-twice-cut {p} {q} {o} f g h l k u v s t n m x y z w d e eq =
+    let after-l : Ends (items o o u ++ s) = items-open o o (h .opens) u s d in
+    let after-k : Ends (items o o v ++ t) = items-open o o (h .opens) v t e in
+    let opens-l : Ends ((items p q l ++ items o o u) ++ s) = rw append-assoc (items-open p q (f .opens) l (items o o u ++ s) after-l) in
+    let opens-k : Ends ((items p q k ++ items o o v) ++ t) = rw append-assoc (items-open p q (f .opens) k (items o o v ++ t) after-k) in
+    let head : (length l ≡ length k) × ((items p q l ++ items o o u) ++ s ≡ (items p q k ++ items o o v) ++ t) =
+    field-cut (length l) (length k) (items p q l ++ items o o u) (items p q k ++ items o o v) s t opens-l opens-k eq in
+    let one : (l ≡ k) × (items o o u ++ s ≡ items o o v ++ t) =
+    items-cut f g l k (items o o u ++ s) (items o o v ++ t) (head .0) x y after-l after-k
+    (sym (append-assoc (items p q l) (items o o u) s) ∙ head .1 ∙ append-assoc (items p q k) (items o o v) t) in
+    (one .0, items-cut h h u v s t (n ∙ head .0 ∙ sym m) z w d e (one .1) .0)
 
 -- Any number, any list of numbers.
 abbrev Any : ℕ → Type 0
@@ -108,6 +124,28 @@ t-determined n m xs ys ms ns x y h =
       r .0,
       sym (cells-letters xs ms s) ∙ ap letters (r .1) ∙ cells-letters ys ns z,
       sym (cells-marks xs ms s) ∙ ap marks (r .1) ∙ cells-marks ys ns z,
+    )
+
+-- A P line determines rank, letters, marks and entries.
+pub p-determined : (n m : ℕ) (xs ys ms ns rs ss : List ℕ) → Marked xs ms → Marked ys ns → length rs ≡ length xs → length ss ≡ length ys
+    → pLine n xs ms rs ≡ pLine m ys ns ss → (n ≡ m) × (xs ≡ ys) × (ms ≡ ns) × (rs ≡ ss)
+unfolding pLine
+p-determined n m xs ys ms ns rs ss x y k l h =
+    let s : Stepped xs ms = stepped xs ms x in
+    let z : Stepped ys ns = stepped ys ns y in
+    let d : length (cells xs ms) ≡ length xs = cells-length xs ms s in
+    let e : length (cells ys ns) ≡ length ys = cells-length ys ns z in
+    let a : List ℕ = items firstCell cell (cells xs ms) ++ items field field rs in
+    let b : List ℕ = items firstCell cell (cells ys ns) ++ items field field ss in
+    let r : (n ≡ m) × (field (length (cells xs ms)) ++ a ++ (10 ∷ []) ≡ field (length (cells ys ns)) ++ b ++ (10 ∷ [])) =
+    field-cut n m (field (length (cells xs ms)) ++ a) (field (length (cells ys ns)) ++ b) (10 ∷ []) (10 ∷ []) refl refl (rw (d, e) (ap (drop 1) h)) in
+    let parts : (cells xs ms ≡ cells ys ns) × (rs ≡ ss) =
+    counted-twice-cut first-cuts cell-cuts field-cuts (cells xs ms) (cells ys ns) rs ss (10 ∷ []) (10 ∷ []) (k ∙ sym d) (l ∙ sym e)
+    (ribbon-good Any xs ms (any xs) x) (ribbon-good Any ys ns (any ys) y) (any rs) (any ss) refl refl (r .1) in (
+      r .0,
+      sym (cells-letters xs ms s) ∙ ap letters (parts .0) ∙ cells-letters ys ns z,
+      sym (cells-marks xs ms s) ∙ ap marks (parts .0) ∙ cells-marks ys ns z,
+      parts .1,
     )
 
 -- An N line determines its entries.

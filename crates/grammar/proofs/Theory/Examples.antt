@@ -1,9 +1,9 @@
--- Lines written out, byte for byte, and read back: those of the word 4323 at rank 4, of the empty word, and two more. Assumes nothing.
+-- Lines written out, byte for byte, and read back: those of the word 4323 at rank 4, of the empty word, and a few more. Assumes nothing.
 use mathlib.Core.Path.{_≡_, refl}
 use mathlib.Core.List.{[], _∷_}
 use Rattle.grammar.specs.Numbers.{decimal}
-use Rattle.grammar.specs.Lines.{wLine, tLine, nLine, jLine, eLine}
-use Rattle.grammar.specs.Reading.{readW, readT, readN, got, broken}
+use Rattle.grammar.specs.Lines.{wLine, tLine, pLine, nLine, jLine, eLine}
+use Rattle.grammar.specs.Reading.{readW, readT, readP, readN, got, broken}
 
 -- W,4,4,4,3,2,3 and T,4,4,2,d,3,r,3,d,4 and N,4,3,2,4,1 and J,6,3 and E,14,4096 and T,4,0 and N,0, and the largest number of 64 bits.
 pub lines-written :
@@ -32,3 +32,23 @@ pub lines-read :
     × (readW (87 ∷ 44 ∷ 52 ∷ 44 ∷ 48 ∷ []) ≡ broken [])
 unfolding readW readT readN
 lines-read = (refl, refl, refl, refl, refl, refl, refl)
+
+-- P,4,4,2,d,3,r,3,d,4,3,2,4,1 and P,4,0 and P,4,1,3,1, the pairs of 4323, of the empty word and of 3.
+pub pairs-written :
+    (pLine 4 (2 ∷ 3 ∷ 3 ∷ 4 ∷ []) (0 ∷ 1 ∷ 0 ∷ 1 ∷ []) (3 ∷ 2 ∷ 4 ∷ 1 ∷ [])
+    ≡ 80 ∷ 44 ∷ 52 ∷ 44 ∷ 52 ∷ 44 ∷ 50 ∷ 44 ∷ 100 ∷ 44 ∷ 51 ∷ 44 ∷ 114 ∷ 44 ∷ 51 ∷ 44 ∷ 100 ∷ 44 ∷ 52 ∷ 44 ∷ 51 ∷ 44 ∷ 50 ∷ 44 ∷ 52 ∷ 44 ∷ 49 ∷ 10 ∷ [])
+    × (pLine 4 [] [] [] ≡ 80 ∷ 44 ∷ 52 ∷ 44 ∷ 48 ∷ 10 ∷ [])
+    × (pLine 4 (3 ∷ []) (0 ∷ []) (1 ∷ []) ≡ 80 ∷ 44 ∷ 52 ∷ 44 ∷ 49 ∷ 44 ∷ 51 ∷ 44 ∷ 49 ∷ 10 ∷ [])
+unfolding pLine decimal
+pairs-written = (refl, refl, refl)
+
+-- The same lines read; then `P,4,1,3`, which has no entry, broken at its line feed, place 7; `P,4,0,1`, at the comma of an entry too many, place 5.
+pub pairs-read :
+    (readP (80 ∷ 44 ∷ 52 ∷ 44 ∷ 52 ∷ 44 ∷ 50 ∷ 44 ∷ 100 ∷ 44 ∷ 51 ∷ 44 ∷ 114 ∷ 44 ∷ 51 ∷ 44 ∷ 100 ∷ 44 ∷ 52 ∷ 44 ∷ 51 ∷ 44 ∷ 50 ∷ 44 ∷ 52 ∷ 44 ∷ 49 ∷ 10 ∷ [])
+    ≡ got (4, 2 ∷ 3 ∷ 3 ∷ 4 ∷ [], 0 ∷ 1 ∷ 0 ∷ 1 ∷ [], 3 ∷ 2 ∷ 4 ∷ 1 ∷ []) [])
+    × (readP (80 ∷ 44 ∷ 52 ∷ 44 ∷ 48 ∷ 10 ∷ []) ≡ got (4, [], [], []) [])
+    × (readP (80 ∷ 44 ∷ 52 ∷ 44 ∷ 49 ∷ 44 ∷ 51 ∷ 44 ∷ 49 ∷ 10 ∷ []) ≡ got (4, 3 ∷ [], 0 ∷ [], 1 ∷ []) [])
+    × (readP (80 ∷ 44 ∷ 52 ∷ 44 ∷ 49 ∷ 44 ∷ 51 ∷ 10 ∷ []) ≡ broken (10 ∷ []))
+    × (readP (80 ∷ 44 ∷ 52 ∷ 44 ∷ 48 ∷ 44 ∷ 49 ∷ 10 ∷ []) ≡ broken (44 ∷ 49 ∷ 10 ∷ []))
+unfolding readP
+pairs-read = (refl, refl, refl, refl, refl)

@@ -1,6 +1,7 @@
 -- Items of a line.
 --     items-open              what is written of items begins with no digit
 --     Cell, First             what a line asks of a cell (letter and mark), and of the first
+--     marked-length           as many marks as letters
 --     cells-length, cells-letters, cells-marks, ribbon-good
 --                             the cells of letters and marks have those letters and marks, and are good where those are
 -- Assumes nothing.
@@ -29,6 +30,14 @@ First P c = P (c .0) × (c .1 ≡ 0)
 pub stepped : (xs ms : List ℕ) → Marked xs ms → Stepped xs ms
 stepped [] [] h = tt
 stepped (x ∷ xs) (m ∷ ms) h = (omega arith, h .1)
+
+stepped-length : (xs ms : List ℕ) → Stepped xs ms → length ms ≡ length xs
+stepped-length [] [] h = refl
+stepped-length (x ∷ xs) (m ∷ ms) h = ap suc (stepped-length xs ms (h .1))
+
+-- As many marks as letters.
+pub marked-length : (xs ms : List ℕ) → Marked xs ms → length ms ≡ length xs
+marked-length xs ms h = stepped-length xs ms (stepped xs ms h)
 
 pub cells-length : (xs ms : List ℕ) → Stepped xs ms → length (cells xs ms) ≡ length xs
 cells-length [] [] h = refl

@@ -1,12 +1,12 @@
--- Lines are read exactly: w-exact, t-exact, n-exact, from the exactness of numbers and steps.
+-- Lines are read exactly: w-exact, t-exact, p-exact, n-exact, from the exactness of numbers and steps.
 -- Assumes nothing.
 use Prim.Native.Nat.{ℕ, zero, suc}
-use mathlib.Core.Path.{_≡_, refl, sym, ap}
+use mathlib.Core.Path.{_≡_, refl, sym, ap, _∙_}
 use mathlib.Core.List.{List, [], _∷_, _++_, append-nil}
 use lib.ListN.{length, length-map}
-use Rattle.grammar.specs.Lines.{line, field, items, firstCell, cell, cells, wLine, tLine, nLine}
-use Rattle.grammar.specs.Values.{Items, Short, Small, Marked, WGood, TGood}
-use Rattle.grammar.specs.Reading.{Read, many, counted, readLine, readFirst, readCell, letters, marks, readW, readT, readN}
+use Rattle.grammar.specs.Lines.{line, field, items, firstCell, cell, cells, wLine, tLine, pLine, nLine}
+use Rattle.grammar.specs.Values.{Items, Short, Small, Marked, WGood, TGood, PGood}
+use Rattle.grammar.specs.Reading.{Read, many, counted, twice, countedTwice, readLine, readFirst, readCell, letters, marks, readW, readT, readP, readN}
 use Rattle.grammar.proofs.Theory.Items.{Cell, First, cells-of, ribbon-of}
 use Rattle.grammar.proofs.Theory.Exact.{Exact, nothing-exact, ended-exact, after-exact, both-exact}
 use Rattle.grammar.proofs.Theory.NumbersExact.{field-exact, step-exact}
@@ -25,6 +25,26 @@ counted-exact : {A : Type 0} {P Q : A → Type 0} {p q : A → List ℕ} {r s : 
 counted-exact {P} {Q} {p} {q} f g =
     both-exact (λ l. Short (length l) × Items P Q l) (λ l. field (length l) ++ items p q l) (λ n l. l) field-exact (many-exact f g)
     (λ n l x y. ((rw (y .0) x, y .1), rw (y .0)))
+
+-- So many items of one sort, then as many of another.
+twice-exact : {A B : Type 0} {P Q : A → Type 0} {R : B → Type 0} {p q : A → List ℕ} {o : B → List ℕ} {r s : List ℕ → Read A} {u : List ℕ → Read B}
+    → Exact P p r → Exact Q q s → Exact R o u → (n : ℕ)
+    → Exact (λ (v : List A × List B). (length (v .0) ≡ n) × Items P Q (v .0) × (length (v .1) ≡ n) × Items R R (v .1))
+    (λ v. items p q (v .0) ++ items o o (v .1)) (twice r s u n)
+twice-exact {A} {B} {P} {Q} {R} {p} {q} {o} f g h n =
+    both-exact (λ (v : List A × List B). (length (v .0) ≡ n) × Items P Q (v .0) × (length (v .1) ≡ n) × Items R R (v .1))
+    (λ v. items p q (v .0) ++ items o o (v .1)) (λ l k. (l, k)) (many-exact f g n) (λ l. many-exact h h n)
+    (λ l k x y. ((x .0, x .1, y .0, y .1), refl))
+
+-- One count, then so many items of each sort.
+counted-twice-exact : {A B : Type 0} {P Q : A → Type 0} {R : B → Type 0} {p q : A → List ℕ} {o : B → List ℕ} {r s : List ℕ → Read A} {u : List ℕ → Read B}
+    → Exact P p r → Exact Q q s → Exact R o u
+    → Exact (λ (v : List A × List B). Short (length (v .0)) × Items P Q (v .0) × (length (v .1) ≡ length (v .0)) × Items R R (v .1))
+    (λ v. field (length (v .0)) ++ (items p q (v .0) ++ items o o (v .1))) (countedTwice r s u)
+counted-twice-exact {A} {B} {P} {Q} {R} {p} {q} {o} f g h =
+    both-exact (λ (v : List A × List B). Short (length (v .0)) × Items P Q (v .0) × (length (v .1) ≡ length (v .0)) × Items R R (v .1))
+    (λ v. field (length (v .0)) ++ (items p q (v .0) ++ items o o (v .1))) (λ n v. v) field-exact (twice-exact f g h)
+    (λ n v x y. ((rw (y .0) x, y .1, y .2 ∙ sym (y .0), y .3), rw (y .0)))
 
 -- The first cell and the others.
 first-exact : Exact (First Short) firstCell readFirst
@@ -60,6 +80,19 @@ t-exact =
     let r : Items Short Short (letters cs) × Marked (letters cs) (marks cs) = ribbon-of Short cs (g .1) in
     let e : length (letters cs) ≡ length cs = length-map cs (λ c. c .0) in
     ((h, (rw e (g .0), r .0), r .1), rw (e, cells-of cs))))
+
+-- P lines and their exact reading.
+pub p-exact : Exact PGood (λ v. pLine (v .0) (v .1) (v .2) (v .3)) readP
+unfolding pLine readP
+p-exact =
+    line-exact 80
+    (both-exact PGood (λ v. field (v .0) ++ (field (length (v .1)) ++ (items firstCell cell (cells (v .1) (v .2)) ++ items field field (v .3))))
+    (λ n parts. (n, letters (parts .0), marks (parts .0), parts .1)) field-exact (λ n. counted-twice-exact first-exact cell-exact field-exact)
+    (λ n parts h g.
+    let cs : List (ℕ × ℕ) = parts .0 in
+    let r : Items Short Short (letters cs) × Marked (letters cs) (marks cs) = ribbon-of Short cs (g .1) in
+    let e : length (letters cs) ≡ length cs = length-map cs (λ c. c .0) in
+    ((h, (rw e (g .0), r .0), r .1, g .2 ∙ sym e, g .3), rw (e, cells-of cs))))
 
 -- N lines and their exact reading.
 pub n-exact : Exact Small nLine readN

@@ -1,15 +1,16 @@
--- What the grammar takes is the line of its values, which a line can hold, and nothing is left: w-sound, t-sound, n-sound.
+-- What the grammar takes is the line of its values, which a line can hold, and nothing is left: w-sound, t-sound, p-sound, n-sound.
 -- Assumes nothing.
 use Prim.Native.Nat.{ℕ}
 use mathlib.Core.Path.{_≡_, refl, sym, ap, _∙_}
 use mathlib.Core.Bool.{Bool, true, false, cond}
 use mathlib.Core.List.{List, [], _∷_, _++_, append-nil}
+use lib.ListN.{length}
 use lib.Dec.{eqb}
-use Rattle.grammar.specs.Lines.{wLine, tLine, nLine}
-use Rattle.grammar.specs.Values.{Short, Small, Marked}
-use Rattle.grammar.specs.Reading.{Read, got, broken, turned, onward, both, after, ended, readLine, counted, ranked, readField, readFirst, readCell, letters, marks, readW, readT, readN}
+use Rattle.grammar.specs.Lines.{wLine, tLine, pLine, nLine}
+use Rattle.grammar.specs.Values.{Items, Short, Small, Marked}
+use Rattle.grammar.specs.Reading.{Read, got, broken, turned, onward, both, after, ended, readLine, counted, countedTwice, ranked, readField, readFirst, readCell, letters, marks, readW, readT, readP, readN}
 use Rattle.grammar.proofs.Theory.Exact.{Exact, not-both}
-use Rattle.grammar.proofs.Theory.LinesExact.{w-exact, t-exact, n-exact}
+use Rattle.grammar.proofs.Theory.LinesExact.{w-exact, t-exact, p-exact, n-exact}
 
 -- A reader that leaves nothing.
 record Last {A : Type 0} (get : List ℕ → Read A) : Type 0 where
@@ -72,6 +73,16 @@ t-sound text n xs ms rest h =
     let r : (text ≡ tLine n xs ms) × (rest ≡ []) × (Short n × Small xs × Marked xs ms) =
     whole-sound t-exact (line-last 84 (ranked (λ n cs. (n, letters cs, marks cs)) readFirst readCell)) text (n, xs, ms) rest h in
     (r .0, r .1, r .2 .0, r .2 .1, r .2 .2)
+
+-- A text taken as a P line is the P line of its values, with as many entries as letters.
+pub p-sound : (text : List ℕ) (n : ℕ) (xs ms rs rest : List ℕ) → readP text ≡ got (n, xs, ms, rs) rest
+    → (text ≡ pLine n xs ms rs) × (rest ≡ []) × Short n × Small xs × Marked xs ms × (length rs ≡ length xs) × Items Short Short rs
+unfolding readP
+p-sound text n xs ms rs rest h =
+    let r : (text ≡ pLine n xs ms rs) × (rest ≡ []) × (Short n × Small xs × Marked xs ms × (length rs ≡ length xs) × Items Short Short rs) =
+    whole-sound p-exact (line-last 80 (both (λ n parts. (n, letters (parts .0), marks (parts .0), parts .1)) readField (λ n. countedTwice readFirst readCell readField)))
+    text (n, xs, ms, rs) rest h in
+    (r .0, r .1, r .2 .0, r .2 .1, r .2 .2, r .2 .3, r .2 .4)
 
 -- A text taken as an N line is the N line of its entries.
 pub n-sound : (text xs rest : List ℕ) → readN text ≡ got xs rest → (text ≡ nLine xs) × (rest ≡ []) × Small xs
