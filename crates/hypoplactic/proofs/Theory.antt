@@ -55,6 +55,7 @@ pub mod Looks
 pub mod MoveResults
 pub mod LineResults
 pub mod WrittenClasses
+pub mod OtherNumbers
 pub mod LineReadings
 pub mod Outputs
 pub mod JoinedReplies

@@ -4,22 +4,23 @@
 --     FaithfulLines             the demand: Faithful of tableau lines and of moves on words. Theorem `classes`, proofs/Theory/Classes.antt
 --     FaithfullyWritten n u v   the same of what the operations reply and leave in lent memory
 --     MovedTogether a u v r s   there, of a move's replies r and s: made in both, each at its own place, or refused in both with one number
+--     OneRecording r s          there, of two replies of the pair's operation: one reply, one shape, one recording ribbon
 --     FaithfulWriting           the demand over what is written. Theorem `written-classes`, proofs/Theory/WrittenClasses.antt
 -- FaithfulLines is the one to read first: it has neither buffers nor replies. FaithfulWriting speaks of the very definitions that the contracts of the
--- tableau line, of the moves on words and of the recording ribbon cite, and so of the programs. Words of two ranks: crate ranks. Assumes nothing.
+-- tableau line, of the moves on words and of the pair of a word cite, and so of the programs. Words of two ranks: crate ranks. Assumes nothing.
 use mathlib.Core.Path.{_≡_}
 use mathlib.Core.List.{List, [], _∷_}
 use mathlib.Core.Logic.{_↔_}
 use mathlib.Core.Option.{Option, some}
 use Prim.Native.Nat.{ℕ, _≤_, _<_}
 use lib.ListN.{length, take, set}
-use Rattle.hypoplactic.specs.Insertion.{recordingOf}
+use Rattle.hypoplactic.specs.Insertion.{Pair, recordingOf}
 use Rattle.hypoplactic.specs.Words.{Accepted}
 use Rattle.hypoplactic.specs.Moves.{Move, Defined, given, moveWord}
 use Rattle.hypoplactic.specs.Rewriting.{Joined}
 use Rattle.hypoplactic.specs.Replies.{Said, gives, refused}
 use Rattle.hypoplactic.specs.WordOperations.{moveWordRun}
-use Rattle.hypoplactic.specs.TableauOperations.{recordingRun}
+use Rattle.hypoplactic.specs.TableauOperations.{pairRun}
 use Rattle.hypoplactic.specs.LineOperations.{tableauLine, tableauLineRun}
 
 pub record Faithful {A : Type 0} (line : List ℕ → A) (move : Move → List ℕ → Option (List ℕ)) (u v : List ℕ) : Type 0 where
@@ -56,6 +57,12 @@ pub data MovedTogether (a : ℕ) (u v : List ℕ) : Said × List ℕ → Said ×
   in-both : (p q : ℕ) → p < length u → q < length v → MovedTogether a u v (gives (p ∷ []), set u p a) (gives (q ∷ []), set v q a)
   in-neither : (k : ℕ) → MovedTogether a u v (refused k 0, u) (refused k 0, v)
 
+-- What the pair's operation replies and leaves for two words, and lent the same memory: one reply, one shape and one recording ribbon. Letters and counts may differ.
+pub record OneRecording (r s : Said × (Pair × List ℕ)) : Type 0 where
+  pub reply : r .0 ≡ s .0
+  pub marks : r .1 .0 .marks ≡ s .1 .0 .marks
+  pub entries : r .1 .0 .recording ≡ s .1 .0 .recording
+
 pub record FaithfullyWritten (n : ℕ) (u v : List ℕ) : Type 0 where
   -- 1. With buffers long enough, the bytes written are equal exactly when a chain joins the words.
   pub shared : (out out′ : List ℕ) → length (tableauLine n u) ≤ length out → length (tableauLine n v) ≤ length out′
@@ -65,8 +72,8 @@ pub record FaithfullyWritten (n : ℕ) (u v : List ℕ) : Type 0 where
   -- and the bytes written for the words that it leaves are equal.
   pub results : Joined u v → (m : Move) (out out′ : List ℕ) → length (tableauLine n (moveLeft n m u)) ≤ length out
       → length (tableauLine n (moveLeft n m v)) ≤ length out′ → lineBytes n (moveLeft n m u) out ≡ lineBytes n (moveLeft n m v) out′
-  -- 3. A move keeps what the recording ribbon's operation replies and writes, whatever memory it is lent.
-  pub recordings : (m : Move) (entries : List ℕ) → recordingRun n (moveLeft n m u) entries ≡ recordingRun n u entries
+  -- 3. A move keeps what the pair's operation replies and writes of marks and entries, whatever memory it is lent.
+  pub recordings : (m : Move) (p : Pair) (cs : List ℕ) → OneRecording (pairRun n (moveLeft n m u) p cs) (pairRun n u p cs)
 
 -- Demand 3 over what is written: at every rank, of any two words accepted at it.
 abbrev pub FaithfulWriting : Type 0

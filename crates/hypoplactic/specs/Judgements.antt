@@ -5,6 +5,7 @@
 --     indexJudged n i, inversionJudged b, letterJudged a w                   9, 10, 11
 --     fullJudged k, roomJudged need have                                     12, 13
 --     tableauRooms need letters marks                                        13 of a tableau's letters and marks
+--     pairRooms need letters marks recording                                 13 of a pair's letters, marks and recording entries
 --     wordJudgements, tableauJudgements, pairJudgements                      the lists that operations share
 --     countedJudgements, countedPairJudgements                               the same of a tableau or a pair that brings letter counts: 17 directly after 6
 -- 17 itself is in Counts. Assumes nothing.
@@ -116,6 +117,10 @@ roomJudged need have = refuseIf (ltb have need) 13 need passed
 -- 13 of the lent letters and marks of a tableau.
 abbrev pub tableauRooms : ℕ → ℕ → ℕ → List Said
 tableauRooms need letters marks = roomJudged need letters ∷ roomJudged need marks ∷ []
+
+-- 13 of the three lent lists of a pair, in the order letters, marks, recording.
+abbrev pub pairRooms : ℕ → ℕ → ℕ → ℕ → List Said
+pairRooms need letters marks recording = tableauRooms need letters marks ++ (roomJudged need recording ∷ [])
 
 -- 1, 2 and 4 of a word.
 abbrev pub wordJudgements : ℕ → List ℕ → List Said

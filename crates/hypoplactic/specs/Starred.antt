@@ -7,15 +7,15 @@ use Prim.Native.Char.{code}
 use Prim.Native.String.{String, [] as ending, _∷_ as _∷ᶜ_}
 use mathlib.Core.List.{List, [], _∷_, _++_}
 use lib.ListN.{length, replicate}
-use Rattle.hypoplactic.specs.Insertion.{Pair, insert, pairOf, lettersOf, marksOf, recordingOf}
+use Rattle.hypoplactic.specs.Insertion.{Pair, insert, lettersOf, marksOf, pairOf, pairWith, recordingOf}
 use Rattle.hypoplactic.specs.Reading.{columnReading}
 use Rattle.hypoplactic.specs.Moves.{Move, raising, lowering}
 use Rattle.hypoplactic.specs.Replies.{Said, gives, refused, passed, first}
 use Rattle.hypoplactic.specs.Judgements.{fullJudged, wordJudgements}
 use Rattle.hypoplactic.specs.WordOperations.{junctionSays, moveWordRun, repeatWordSays, sameClassSays, weightsSays}
-use Rattle.hypoplactic.specs.TableauOperations.{tableauSays, tableauRun, recordingRun, insertSays, wordSays, wordRun, readingRun, moveTableauRun, repeatTableauSays, viewerSays, lookSays}
+use Rattle.hypoplactic.specs.TableauOperations.{pairRun, insertSays, wordSays, wordRun, readingRun, moveTableauRun, repeatTableauSays, viewerSays, lookSays}
 use Rattle.hypoplactic.specs.LineOperations.{tableauLineRun}
-use Rattle.hypoplactic.specs.LineReadings.{output, readNRun, readTRun}
+use Rattle.hypoplactic.specs.LineReadings.{output, readPRun, readTRun}
 
 -- The bytes of a text.
 abbrev pub text : String → List ℕ
@@ -39,6 +39,10 @@ outcomes r = numbers (r .0) ++ (r .1 .0 ++ r .1 .1)
 abbrev pub tableauOutcome : Said × (List ℕ × (List ℕ × List ℕ)) → List ℕ
 tableauOutcome r = numbers (r .0) ++ (r .1 .0 ++ (r .1 .1 .0 ++ r .1 .1 .1))
 
+-- A reply and a pair after it: letters, marks, recording entries, and all 64 letter counts.
+abbrev pub pairOutcome : Said × (Pair × List ℕ) → List ℕ
+pairOutcome r = numbers (r .0) ++ (r .1 .0 .letters ++ (r .1 .0 .marks ++ (r .1 .0 .recording ++ r .1 .1)))
+
 -- The 64 counts of which the first are given, and the others 0.
 abbrev pub counts : List ℕ → List ℕ
 counts cs = cs ++ replicate (64 - length cs) 0
@@ -53,9 +57,9 @@ raise i = record { side = raising; index = i }
 abbrev pub lower : ℕ → Move
 lower i = record { side = lowering; index = i }
 
--- Three lent lists.
-abbrev pub pair : List ℕ → List ℕ → List ℕ → Pair
-pair xs ms rs = record { letters = xs; marks = ms; recording = rs }
+-- Three lent lists of so many elements.
+abbrev pub lentPair : ℕ → Pair
+lentPair k = pairWith (lent k) (lent k) (lent k)
 
 -- A case: what the definitions give, and what the document says.
 pub record Case : Type 0 where
@@ -93,27 +97,27 @@ c12446553275 = counts (1 ∷ 2 ∷ 1 ∷ 2 ∷ 3 ∷ 1 ∷ 1 ∷ [])
 
 unfoldable pub starredCases : List Case
 starredCases =
-    -- 4323 at rank 4: the four lines
-    case (output (text "W,4,4,4,3,2,3\n")) (text "T,4,4,2,d,3,r,3,d,4\nN,4,3,2,4,1\nW,4,4,3,2,4,3\nJ,6,3\n")
+    -- 4323 at rank 4: the three lines, the first the T items and then the N items of document 01
+    case (output (text "W,4,4,4,3,2,3\n")) (text "P,4,4,2,d,3,r,3,d,4,3,2,4,1\nW,4,4,3,2,4,3\nJ,6,3\n")
     -- and so its ribbons, the way back, the column reading, the junction set and the rows; here and below one element lies beyond those needed
-    ∷ case (tableauOutcome (tableauRun 4 w4323 (lent 5) (lent 5) (lent 64))) (0 ∷ 4 ∷ 2 ∷ 3 ∷ 3 ∷ 4 ∷ 99 ∷ 0 ∷ 1 ∷ 0 ∷ 1 ∷ 99 ∷ c4323)
-    ∷ case (outcome (recordingRun 4 w4323 (lent 5))) (0 ∷ 4 ∷ 3 ∷ 2 ∷ 4 ∷ 1 ∷ 99 ∷ [])
+    ∷ case (pairOutcome (pairRun 4 w4323 (lentPair 5) (lent 64)))
+    (0 ∷ 4 ∷ 2 ∷ 3 ∷ 3 ∷ 4 ∷ 99 ∷ 0 ∷ 1 ∷ 0 ∷ 1 ∷ 99 ∷ 3 ∷ 2 ∷ 4 ∷ 1 ∷ 99 ∷ c4323)
     ∷ case (outcome (wordRun 4 (2 ∷ 3 ∷ 3 ∷ 4 ∷ []) (0 ∷ 1 ∷ 0 ∷ 1 ∷ []) (3 ∷ 2 ∷ 4 ∷ 1 ∷ []) c4323 (lent 5))) (0 ∷ 4 ∷ 4 ∷ 3 ∷ 2 ∷ 3 ∷ 99 ∷ [])
     ∷ case (outcome (readingRun 4 (2 ∷ 3 ∷ 3 ∷ 4 ∷ []) (0 ∷ 1 ∷ 0 ∷ 1 ∷ []) c4323 (lent 5))) (0 ∷ 4 ∷ 3 ∷ 2 ∷ 4 ∷ 3 ∷ 99 ∷ [])
     ∷ case (numbers (junctionSays 4 w4323)) (0 ∷ 6 ∷ 3 ∷ [])
     -- 12446553275 at rank 7: letters and marks, recording, and back
-    ∷ case (tableauOutcome (tableauRun 7 w12446553275 (lent 12) (lent 12) (lent 64))) (0 ∷ 11 ∷ (x12446553275 ++ 99 ∷ (m12446553275 ++ 99 ∷ c12446553275)))
-    ∷ case (outcome (recordingRun 7 w12446553275 (lent 12))) (0 ∷ 11 ∷ (r12446553275 ++ 99 ∷ []))
+    ∷ case (pairOutcome (pairRun 7 w12446553275 (lentPair 12) (lent 64)))
+    (0 ∷ 11 ∷ (x12446553275 ++ 99 ∷ (m12446553275 ++ 99 ∷ (r12446553275 ++ 99 ∷ c12446553275))))
     ∷ case (outcome (wordRun 7 x12446553275 m12446553275 r12446553275 c12446553275 (lent 12))) (0 ∷ 11 ∷ (w12446553275 ++ 99 ∷ []))
     -- the empty word at rank 4
-    ∷ case (output (text "W,4,0\n")) (text "T,4,0\nN,0\nW,4,0\nJ,0,0\n")
-    -- 433 at rank 4: its tableau and the tableau's line, recording, column reading
-    ∷ case (tableauOutcome (tableauRun 4 w433 (lent 4) (lent 4) (lent 64))) (0 ∷ 3 ∷ 3 ∷ 3 ∷ 4 ∷ 99 ∷ 0 ∷ 0 ∷ 1 ∷ 99 ∷ counts (0 ∷ 0 ∷ 2 ∷ 1 ∷ []))
+    ∷ case (output (text "W,4,0\n")) (text "P,4,0\nW,4,0\nJ,0,0\n")
+    -- 433 at rank 4: its tableau, with its recording, and the tableau's line, column reading
+    ∷ case (pairOutcome (pairRun 4 w433 (lentPair 4) (lent 64)))
+    (0 ∷ 3 ∷ 3 ∷ 3 ∷ 4 ∷ 99 ∷ 0 ∷ 0 ∷ 1 ∷ 99 ∷ 2 ∷ 3 ∷ 1 ∷ 99 ∷ counts (0 ∷ 0 ∷ 2 ∷ 1 ∷ []))
     ∷ case (outcome (tableauLineRun 4 w433 (lent 17))) (0 ∷ 16 ∷ (text "T,4,3,3,r,3,d,4\n" ++ 99 ∷ []))
-    ∷ case (outcome (recordingRun 4 w433 (lent 4))) (0 ∷ 3 ∷ 2 ∷ 3 ∷ 1 ∷ 99 ∷ [])
     ∷ case (outcome (readingRun 4 (3 ∷ 3 ∷ 4 ∷ []) (0 ∷ 0 ∷ 1 ∷ []) (counts (0 ∷ 0 ∷ 2 ∷ 1 ∷ [])) (lent 4))) (0 ∷ 3 ∷ 3 ∷ 4 ∷ 3 ∷ 99 ∷ [])
-    -- 243245565 at rank 6
-    ∷ case (outcome (recordingRun 6 (2 ∷ 4 ∷ 3 ∷ 2 ∷ 4 ∷ 5 ∷ 5 ∷ 6 ∷ 5 ∷ []) (lent 10))) (0 ∷ 9 ∷ 1 ∷ 4 ∷ 3 ∷ 2 ∷ 5 ∷ 6 ∷ 7 ∷ 9 ∷ 8 ∷ 99 ∷ [])
+    -- 243245565 at rank 6: its recording
+    ∷ case ((pairRun 6 (2 ∷ 4 ∷ 3 ∷ 2 ∷ 4 ∷ 5 ∷ 5 ∷ 6 ∷ 5 ∷ []) (lentPair 10) (lent 64)) .1 .0 .recording) (1 ∷ 4 ∷ 3 ∷ 2 ∷ 5 ∷ 6 ∷ 7 ∷ 9 ∷ 8 ∷ 99 ∷ [])
     -- moves at rank 3: a move that is made replies 0 and the changed place
     ∷ case (outcome (moveWordRun 3 (lower 1) (3 ∷ 1 ∷ 1 ∷ 3 ∷ []))) (0 ∷ 2 ∷ 3 ∷ 1 ∷ 2 ∷ 3 ∷ [])
     ∷ case (outcome (moveWordRun 3 (raise 2) (3 ∷ 1 ∷ 2 ∷ 3 ∷ []))) (10 ∷ 0 ∷ 3 ∷ 1 ∷ 2 ∷ 3 ∷ [])
@@ -161,11 +165,11 @@ refusalCases =
     ∷ case (numbers (first (wordJudgements 1 (replicate 1025 2)) passed)) (2 ∷ 0 ∷ [])
     -- 3: parts that differ in length; a used count above a buffer
     ∷ case (numbers (viewerSays 4 (1 ∷ 2 ∷ []) (0 ∷ []))) (3 ∷ 0 ∷ [])
-    ∷ case (numbers (insertSays 4 2 1 (pair (1 ∷ 2 ∷ 3 ∷ []) (0 ∷ 0 ∷ 0 ∷ []) (1 ∷ [])) (counts (1 ∷ 1 ∷ [])))) (3 ∷ 0 ∷ [])
+    ∷ case (numbers (insertSays 4 2 1 (pairWith (1 ∷ 2 ∷ 3 ∷ []) (0 ∷ 0 ∷ 0 ∷ []) (1 ∷ [])) (counts (1 ∷ 1 ∷ [])))) (3 ∷ 0 ∷ [])
     -- 4: in a word, in a second word, in the letter to be inserted; what the program prints
     ∷ case (numbers (junctionSays 4 (3 ∷ 5 ∷ 0 ∷ []))) (4 ∷ 1 ∷ [])
     ∷ case (numbers (sameClassSays 4 (1 ∷ 2 ∷ []) 3 (3 ∷ 4 ∷ []))) (4 ∷ 3 ∷ [])
-    ∷ case (numbers (insertSays 4 2 5 (pair (2 ∷ 1 ∷ 0 ∷ []) (0 ∷ 0 ∷ 0 ∷ []) (1 ∷ 2 ∷ 0 ∷ [])) (counts []))) (4 ∷ 2 ∷ [])
+    ∷ case (numbers (insertSays 4 2 5 (pairWith (2 ∷ 1 ∷ 0 ∷ []) (0 ∷ 0 ∷ 0 ∷ []) (1 ∷ 2 ∷ 0 ∷ [])) (counts []))) (4 ∷ 2 ∷ [])
     ∷ case (output (text "W,4,1,5\n")) (text "E,4,0\n")
     -- 5, 6: the later cell; a first mark that is not 0, a mark that is none, down between equals
     ∷ case (numbers (viewerSays 4 (1 ∷ 3 ∷ 2 ∷ []) (1 ∷ 0 ∷ 0 ∷ []))) (5 ∷ 2 ∷ [])
@@ -191,19 +195,20 @@ refusalCases =
     ∷ case (outcomes (moveTableauRun 4 (lower 1) (2 ∷ 3 ∷ []) (0 ∷ 1 ∷ []) (counts (0 ∷ 1 ∷ 1 ∷ [])))) (11 ∷ 0 ∷ 2 ∷ 3 ∷ counts (0 ∷ 1 ∷ 1 ∷ []))
     -- 12, 13: full; the first output that is too short
     ∷ case (numbers (fullJudged 1024)) (12 ∷ 1024 ∷ [])
-    ∷ case (numbers (insertSays 4 1 3 (pair (1 ∷ []) (0 ∷ 0 ∷ []) (1 ∷ 0 ∷ [])) (counts (1 ∷ [])))) (13 ∷ 2 ∷ [])
-    ∷ case (numbers (tableauSays 4 w433 3 2)) (13 ∷ 3 ∷ [])
-    ∷ case (outcome (recordingRun 4 w433 (9 ∷ 9 ∷ []))) (13 ∷ 3 ∷ 9 ∷ 9 ∷ [])
+    ∷ case (numbers (insertSays 4 1 3 (pairWith (1 ∷ []) (0 ∷ 0 ∷ []) (1 ∷ 0 ∷ [])) (counts (1 ∷ [])))) (13 ∷ 2 ∷ [])
+    ∷ case (pairOutcome (pairRun 4 w4323 (pairWith (lent 4) (lent 4) (lent 3)) [])) (13 ∷ 4 ∷ (lent 4 ++ lent 4 ++ lent 3))
     -- 14: too few letters, and each reader's own first wrong byte
     ∷ case (output (text "W,4,2,3\n")) (text "E,14,7\n")
     ∷ case (output (text "W,99,2,3\n")) (text "E,14,8\n")
     ∷ case (numbers ((readTRun (text "T,4,1,3,r") (9 ∷ []) (9 ∷ []) (lent 64)) .0)) (14 ∷ 7 ∷ [])
     ∷ case (numbers ((readTRun (text "T,4,2,3,d,3\n") (9 ∷ 9 ∷ []) (9 ∷ 9 ∷ []) (lent 64)) .0)) (6 ∷ 1 ∷ [])
-    ∷ case (outcome (readNRun (text "N,2,2,2\n") (9 ∷ 9 ∷ []))) (7 ∷ 1 ∷ 9 ∷ 9 ∷ [])
-    ∷ case (outcome (readNRun (text "N,2,2,1\n") (9 ∷ 9 ∷ 9 ∷ []))) (0 ∷ 2 ∷ 2 ∷ 1 ∷ 9 ∷ [])
+    ∷ case (numbers ((readPRun (text "P,4,1,3\n") (lentPair 1) []) .0)) (14 ∷ 7 ∷ [])
+    ∷ case (numbers ((readPRun (text "P,4,3,1,d,2,d,3,1,2,2\n") (lentPair 3) []) .0)) (7 ∷ 2 ∷ [])
+    ∷ case (pairOutcome (readPRun (text "P,4,2,1,d,2,2,1\n") (lentPair 3) (lent 64)))
+    (0 ∷ 4 ∷ 2 ∷ 1 ∷ 2 ∷ 99 ∷ 0 ∷ 1 ∷ 99 ∷ 2 ∷ 1 ∷ 99 ∷ counts (1 ∷ 1 ∷ []))
     -- 17: the first wrong count, of the letter 1 and of 3; in insertion over the used letters
     ∷ case (numbers (repeatTableauSays 4 (raise 2) (2 ∷ 3 ∷ 3 ∷ 4 ∷ []) (0 ∷ 1 ∷ 0 ∷ 1 ∷ []) (counts (1 ∷ 0 ∷ 2 ∷ 1 ∷ [])))) (17 ∷ 0 ∷ [])
     ∷ case (outcomes (moveTableauRun 4 (lower 3) (2 ∷ 3 ∷ 3 ∷ []) (0 ∷ 1 ∷ 0 ∷ []) (counts (0 ∷ 1 ∷ 1 ∷ 1 ∷ []))))
     (17 ∷ 2 ∷ 2 ∷ 3 ∷ 3 ∷ counts (0 ∷ 1 ∷ 1 ∷ 1 ∷ []))
-    ∷ case (numbers (insertSays 4 2 1 (pair (1 ∷ 2 ∷ 3 ∷ []) (0 ∷ 0 ∷ 0 ∷ []) (1 ∷ 2 ∷ 3 ∷ [])) (counts (1 ∷ 1 ∷ 1 ∷ [])))) (17 ∷ 2 ∷ [])
+    ∷ case (numbers (insertSays 4 2 1 (pairWith (1 ∷ 2 ∷ 3 ∷ []) (0 ∷ 0 ∷ 0 ∷ []) (1 ∷ 2 ∷ 3 ∷ [])) (counts (1 ∷ 1 ∷ 1 ∷ [])))) (17 ∷ 2 ∷ [])
     ∷ []

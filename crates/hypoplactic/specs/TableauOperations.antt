@@ -1,6 +1,5 @@
 -- What the operations on tableaux and pairs reply to every input, and what lent memory then holds (documents 01 and 02; the checks in order).
---     tableauRun                    1 2 4 13                    gives the cells written; the letter counts are given too
---     recordingRun                  1 2 4 13                    gives the entries written
+--     pairRun                       1 2 4 13                    gives the cells written, letters, marks and entries; the letter counts are given too
 --     insertRun                     1 2 3 4 5 6 17 7 8 12 13    gives the new used count; one letter is counted more
 --     wordRun                       1 to 6, 17, 7 8 13          gives the letters written
 --     readingRun                    1 to 6, 17, 13              gives the letters written
@@ -15,29 +14,30 @@ use mathlib.Core.Bool.{Bool, cond}
 use lib.Dec.{ltb}
 use lib.ListN.{length, take, getD}
 use Rattle.hypoplactic.specs.Ribbons.{rowAt, columnAt}
-use Rattle.hypoplactic.specs.Insertion.{Pair, insert, lettersOf, marksOf, recordingOf, wordOf}
+use Rattle.hypoplactic.specs.Insertion.{Pair, insert, pairOf, wordOf}
 use Rattle.hypoplactic.specs.Reading.{columnReading}
 use Rattle.hypoplactic.specs.Moves.{Move, below, changedPlace, given, movedTableau, repeatTableau, taken}
 use Rattle.hypoplactic.specs.Replies.{Said, gives, passed, orElse, first, ranTo, written}
 use Rattle.hypoplactic.specs.Counts.{countsJudged, countsOf, oneMore, oneOver}
-use Rattle.hypoplactic.specs.Judgements.{rankJudged, lengthJudged, usedJudged, lettersJudged, risingJudged, marksJudged, entriesJudged, recordingJudged, indexJudged, fullJudged, roomJudged, tableauRooms, wordJudgements, tableauJudgements, countedJudgements, countedPairJudgements}
+use Rattle.hypoplactic.specs.Judgements.{rankJudged, lengthJudged, usedJudged, lettersJudged, risingJudged, marksJudged, entriesJudged, recordingJudged, indexJudged, fullJudged, roomJudged, pairRooms, wordJudgements, tableauJudgements, countedJudgements, countedPairJudgements}
 use Rattle.hypoplactic.specs.WordOperations.{moveJudgements, orSame, placeTold}
 
--- Tableau of a word, into lent letters, marks and counts.
-unfoldable pub tableauSays : ℕ → List ℕ → ℕ → ℕ → Said
-tableauSays n w letters marks = first (wordJudgements n w ++ tableauRooms (length w) letters marks) (gives (length w ∷ []))
+-- A pair at the beginning of three lent lists.
+abbrev pub writtenPair : Pair → Pair → Pair
+writtenPair q old =
+    record {
+      letters = written (q .letters) (old .letters);
+      marks = written (q .marks) (old .marks);
+      recording = written (q .recording) (old .recording);
+    }
 
-unfoldable pub tableauRun : ℕ → List ℕ → List ℕ → List ℕ → List ℕ → Said × (List ℕ × (List ℕ × List ℕ))
-tableauRun n w letters marks counts =
-    ranTo (tableauSays n w (length letters) (length marks)) (written (lettersOf w) letters, (written (marksOf w) marks, countsOf w))
-    (letters, (marks, counts))
+-- Pair of a word: its tableau and its recording ribbon, into three lent lists, and the letter counts.
+unfoldable pub pairSays : ℕ → List ℕ → ℕ → ℕ → ℕ → Said
+pairSays n w letters marks recording = first (wordJudgements n w ++ pairRooms (length w) letters marks recording) (gives (length w ∷ []))
 
--- Recording ribbon of a word, into lent entries.
-unfoldable pub recordingSays : ℕ → List ℕ → ℕ → Said
-recordingSays n w entries = first (wordJudgements n w ++ (roomJudged (length w) entries ∷ [])) (gives (length w ∷ []))
-
-unfoldable pub recordingRun : ℕ → List ℕ → List ℕ → Said × List ℕ
-recordingRun n w entries = ranTo (recordingSays n w (length entries)) (written (recordingOf w) entries) entries
+unfoldable pub pairRun : ℕ → List ℕ → Pair → List ℕ → Said × (Pair × List ℕ)
+pairRun n w p cs =
+    ranTo (pairSays n w (length (p .letters)) (length (p .marks)) (length (p .recording))) (writtenPair (pairOf w) p, countsOf w) (p, cs)
 
 -- The used cells of three lent lists.
 abbrev pub usedCells : ℕ → Pair → Pair
@@ -58,18 +58,8 @@ unfoldable pub insertSays : ℕ → ℕ → ℕ → Pair → List ℕ → Said
 insertSays n used a p cs =
     first
     (insertJudgements n used a p cs
-    ++ (fullJudged used ∷ roomJudged (suc used) (length (p .letters)) ∷ roomJudged (suc used) (length (p .marks))
-    ∷ roomJudged (suc used) (length (p .recording)) ∷ []))
+    ++ (fullJudged used ∷ pairRooms (suc used) (length (p .letters)) (length (p .marks)) (length (p .recording))))
     (gives (suc used ∷ []))
-
--- A pair at the beginning of three lent lists.
-abbrev pub writtenPair : Pair → Pair → Pair
-writtenPair q old =
-    record {
-      letters = written (q .letters) (old .letters);
-      marks = written (q .marks) (old .marks);
-      recording = written (q .recording) (old .recording);
-    }
 
 unfoldable pub insertRun : ℕ → ℕ → ℕ → Pair → List ℕ → Said × (Pair × List ℕ)
 insertRun n used a p cs = ranTo (insertSays n used a p cs) (writtenPair (insert a (usedCells used p)) p, oneMore cs a) (p, cs)

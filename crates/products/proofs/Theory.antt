@@ -5,6 +5,7 @@ pub mod ProductSteps
 -- ---- its laws
 pub mod ProductLaws
 -- ---- replies
+pub mod PairTableaux
 pub mod ProductReplies
 -- ---- cases
 pub mod ProductCases

@@ -5,13 +5,14 @@
 --     factorsJudgements                 1 to 6 and 17 of two factors of one rank: 2 on the cells together, places in the second counting on from the first's
 --                                       length, those of 17 from 64
 --     productSays, productRun           1 to 6, 17, 13           gives the cells written; the letter counts are given too
+--     tableauLeft                       the tableau that the pair's operation leaves, to hold a product against
 --     leftLetters, leftMarks            the first elements of both outputs, as a call has left them; leftCounts: the letter counts
 -- Nothing is judged across the factors: the first may end in a larger letter than the second begins with. Assumes nothing.
 use Prim.Native.Nat.{ℕ, _+_}
 use mathlib.Core.List.{List, [], _∷_, _++_}
 use lib.ListN.{length, take}
 use Rattle.hypoplactic.specs.Counts.{countsJudged, countsOf}
-use Rattle.hypoplactic.specs.Insertion.{lettersOf, marksOf}
+use Rattle.hypoplactic.specs.Insertion.{Pair, lettersOf, marksOf}
 use Rattle.hypoplactic.specs.Reading.{columnReading}
 use Rattle.hypoplactic.specs.Replies.{Said, gives, countOn, first, ranTo, written}
 use Rattle.hypoplactic.specs.Judgements.{rankJudged, lengthJudged, alikeJudged, lettersJudged, risingJudged, marksJudged, tableauRooms}
@@ -50,6 +51,10 @@ productRun n xs ms cs ys ns ds letters marks counts =
     ranTo (productSays n xs ms cs ys ns ds (length letters) (length marks))
     (written (productLetters xs ms ys ns) letters, (written (productMarks xs ms ys ns) marks, countsOf (productWord xs ms ys ns)))
     (letters, (marks, counts))
+
+-- What a call that fills a pair has replied and left of the tableau: letters, marks and letter counts.
+abbrev pub tableauLeft : Said × (Pair × List ℕ) → Said × (List ℕ × (List ℕ × List ℕ))
+tableauLeft run = (run .0, (run .1 .0 .letters, (run .1 .0 .marks, run .1 .1)))
 
 -- The first k letters of lent memory after a call,
 abbrev pub leftLetters : ℕ → Said × (List ℕ × (List ℕ × List ℕ)) → List ℕ

@@ -15,14 +15,14 @@ use mathlib.Core.Logic.{_↔_}
 use mathlib.Core.Option.{Option, some}
 use Prim.Native.Nat.{ℕ, _≤_}
 use lib.ListN.{length}
-use Rattle.hypoplactic.specs.Insertion.{recordingOf}
+use Rattle.hypoplactic.specs.Insertion.{Pair, recordingOf}
 use Rattle.hypoplactic.specs.Words.{Accepted}
 use Rattle.hypoplactic.specs.Moves.{Move, Defined, given, indexOf, moveWord}
 use Rattle.hypoplactic.specs.Rewriting.{Joined}
 use Rattle.hypoplactic.specs.WordOperations.{moveWordRun}
-use Rattle.hypoplactic.specs.TableauOperations.{recordingRun}
+use Rattle.hypoplactic.specs.TableauOperations.{pairRun}
 use Rattle.hypoplactic.specs.LineOperations.{tableauLine}
-use Rattle.hypoplactic.specs.Classes.{MovedTogether, lineBytes, moveLeft}
+use Rattle.hypoplactic.specs.Classes.{MovedTogether, OneRecording, lineBytes, moveLeft}
 use Rattle.ranks.specs.Unranked.{withoutRank}
 
 -- The index of a move is allowed at a rank.
@@ -59,8 +59,8 @@ pub record WrittenAcross (n m : ℕ) (u v : List ℕ) : Type 0 where
   pub results : Joined u v → (k : Move) → Has n k → Has m k → (out out′ : List ℕ) → length (tableauLine n (moveLeft n k u)) ≤ length out
       → length (tableauLine m (moveLeft m k v)) ≤ length out′
       → withoutRank (lineBytes n (moveLeft n k u) out) ≡ withoutRank (lineBytes m (moveLeft m k v) out′)
-  -- 3. A move keeps what the recording ribbon's operation replies and writes, whatever memory it is lent.
-  pub recordings : (k : Move) (entries : List ℕ) → recordingRun n (moveLeft n k u) entries ≡ recordingRun n u entries
+  -- 3. A move keeps what the pair's operation replies and writes of marks and entries, whatever memory it is lent.
+  pub recordings : (k : Move) (p : Pair) (cs : List ℕ) → OneRecording (pairRun n (moveLeft n k u) p cs) (pairRun n u p cs)
 
 -- The same over what is written.
 abbrev pub WrittenRanks : Type 0

@@ -1,32 +1,38 @@
 -- Readers of lines: the line of values within the limits is read back (theorem i), and 14 is replied exactly where the kind of line breaks.
---     read-w-result, read-t-result, read-n-result      what a writer's line gives back
---     accepted-small                                   the numbers of an accepted word can stand in a line
---     w-broken, t-broken, n-broken                     14 at p, exactly when the first p bytes of the text begin some line of the kind and no more do
+--     read-w-result, read-t-result, read-p-result      what a writer's line gives back
+--     accepted-small, pair-good                        the numbers of an accepted word, and of a pair within the limits, can stand in a line
+--     t-alike, p-alike                                 what a T line or a P line holds passes 3
+--     w-broken, t-broken, p-broken                     14 at p, exactly when the first p bytes of the text begin some line of the kind and no more do
 -- Assumes nothing.
-use Prim.Native.Nat.{ℕ, suc, _≤_, _<_}
-use mathlib.Core.Path.{_≡_, refl, ap, subst}
-use mathlib.Core.Bool.{Bool, true, false, not, _&&_, _||_}
+use Prim.Native.Nat.{ℕ, _≤_, _<_}
+use mathlib.Core.Path.{_≡_, refl, sym, ap, subst, _∙_}
 use mathlib.Core.List.{List, [], _∷_, _++_}
 use mathlib.Core.Logic.{_↔_}
 use native.Mathlib.Omega.{arith}
-use lib.Dec.{eqb, ltb}
 use lib.ListN.{length, drop, length-drop}
-use Rattle.grammar.specs.Lines.{wLine, tLine, nLine}
-use Rattle.grammar.specs.Reading.{Read, got, broken, readW, readT, readN}
-use Rattle.grammar.specs.Values.{Items, Short, Small}
-use Rattle.grammar.specs.Breaks.{Breaks, IsW, IsT, IsN}
-use Rattle.grammar.proofs.Theory.Complete.{w-complete, t-complete, n-complete}
-use Rattle.grammar.proofs.Theory.Longest.{w-breaks, t-breaks, n-breaks, w-place, t-place, n-place}
-use Rattle.hypoplactic.specs.Words.{Accepted, Within, occurs}
-use Rattle.hypoplactic.specs.Ribbons.{Simple, TableauAt}
-use Rattle.hypoplactic.specs.Replies.{Said, gives, refused, first, passed, refuseIf, written}
+use Rattle.grammar.specs.Lines.{wLine, tLine, pLine}
+use Rattle.grammar.specs.Reading.{Read, got, broken, readW, readT, readP}
+use Rattle.grammar.specs.Values.{Items, PGood, Short, Small}
+use Rattle.grammar.specs.Breaks.{Breaks, IsW, IsT, IsP}
+use Rattle.grammar.proofs.Theory.Complete.{w-complete, t-complete, p-complete}
+use Rattle.grammar.proofs.Theory.Items.{marked-length}
+use Rattle.grammar.proofs.Theory.Longest.{w-breaks, t-breaks, p-breaks, w-place, t-place, p-place}
+use Rattle.grammar.proofs.Theory.Sound.{p-sound, t-sound}
+use Rattle.hypoplactic.specs.Words.{Accepted, Within}
+use Rattle.hypoplactic.specs.Ribbons.{EntryStep, LetterStep, PairAt, TableauAt}
+use Rattle.hypoplactic.specs.Insertion.{Pair, pairWith}
+use Rattle.hypoplactic.specs.Replies.{Passes, Said, gives, refused, written}
 use Rattle.hypoplactic.specs.Counts.{countsOf}
-use Rattle.hypoplactic.specs.Judgements.{outside, rankJudged, lengthJudged, alikeJudged, lettersFrom, lettersJudged, risingFrom, risingJudged, marksFrom, marksJudged, entriesFrom, entriesJudged, roomJudged, wordJudgements, tableauJudgements}
-use Rattle.hypoplactic.specs.LineReadings.{breakPlace, readRun, readWRun, readTRun, readNRun, recordingRead, tableauRead, wordRead}
+use Rattle.hypoplactic.specs.Judgements.{alikeJudged, entriesJudged, lettersJudged, marksJudged, pairJudgements, pairRooms, recordingJudged, risingJudged, roomJudged, tableauJudgements, tableauRooms, wordJudgements}
+use Rattle.hypoplactic.specs.TableauOperations.{writtenPair}
+use Rattle.hypoplactic.specs.LineReadings.{breakPlace, pairRead, readRun, readWRun, readTRun, readPRun, tableauRead, wordRead}
 use Rattle.hypoplactic.proofs.Theory.Classes.{marked}
 use Rattle.hypoplactic.proofs.Theory.Passing.{ran-answer}
-use Rattle.hypoplactic.proofs.Theory.Judgements.{length-judged, entries-judged, room-judged}
-use Rattle.hypoplactic.proofs.Theory.Judged.{word-passing, tableau-passing}
+use Rattle.hypoplactic.proofs.Theory.Judgements.{alike-judged, room-judged}
+use Rattle.hypoplactic.proofs.Theory.Judged.{word-passing, tableau-passing, pair-passing}
+use Rattle.hypoplactic.proofs.Theory.Once.{once-entries}
+use Rattle.hypoplactic.proofs.Theory.OtherNumbers.{Other, Others, alike-other, entries-other, first-other, length-other, letters-other, marks-other, rank-other, recording-other, rising-other, room-other}
+use Rattle.hypoplactic.proofs.Theory.StepJudgements.{ribbon-length}
 
 -- ---- lines of values within the limits
 
@@ -54,91 +60,44 @@ pub read-t-result : (n : ℕ) (xs ms letters marks counts : List ℕ) → Tablea
 unfolding readTRun
 read-t-result n xs ms letters marks counts h r s =
     rw (t-complete n xs ms (accepted-small (h .word) .0) (accepted-small (h .word) .1) (marked xs ms (h .tableau)))
-    (ran-answer (tableauJudgements n xs ms) (roomJudged (length xs) (length letters) ∷ roomJudged (length xs) (length marks) ∷ [])
+    (ran-answer (tableauJudgements n xs ms) (tableauRooms (length xs) (length letters) (length marks))
     (n ∷ length xs ∷ []) (written xs letters, (written ms marks, countsOf xs)) (letters, (marks, counts))
     (tableau-passing n xs ms .1 h) (room-judged _ _ .1 r, (room-judged _ _ .1 s, tt)))
 
--- A recording ribbon alone: at most 1,024 entries, each 1 to L, none twice.
-pub read-n-result : (rs out : List ℕ) → length rs ≤ 1024 → Within (length rs) rs → Simple rs → length rs ≤ length out
-    → readNRun (nLine rs) out ≡ (gives (length rs ∷ []), written rs out)
-unfolding readNRun
-read-n-result rs out l i s r =
-    rw (n-complete rs (small (length rs) rs (omega arith) l i))
-    (ran-answer (lengthJudged (length rs) ∷ entriesJudged (length rs) rs ∷ []) (roomJudged (length rs) (length out) ∷ []) (length rs ∷ [])
-    (written rs out) out (length-judged (length rs) .1 l, (entries-judged (length rs) rs .1 (i, s), tt)) (room-judged _ _ .1 r, tt))
+pub pair-good : {n : ℕ} {xs ms rs : List ℕ} → PairAt n xs ms rs → PGood (n, xs, ms, rs)
+pair-good {n} {xs} {ms} {rs} h =
+    let short : length xs ≤ 1024 = h .word .short in
+    let as-entries : length ms ≡ length rs = ribbon-length EntryStep rs ms (h .pair .recording .steps) in
+    let size : length rs ≡ length xs = sym as-entries ∙ ribbon-length LetterStep xs ms (h .pair .tableau) in
+    let within : Within (length rs) rs = once-entries rs .0 (h .pair .recording .once) .0 in
+    (accepted-small (h .word) .0, accepted-small (h .word) .1, marked xs ms (h .pair .tableau), size, short-items (length rs) rs (omega arith) within)
 
--- ---- 14 comes from the grammar alone
+pub read-p-result : (n : ℕ) (xs ms rs : List ℕ) (p : Pair) (counts : List ℕ) → PairAt n xs ms rs
+    → length xs ≤ length (p .letters) → length xs ≤ length (p .marks) → length xs ≤ length (p .recording)
+    → readPRun (pLine n xs ms rs) p counts
+    ≡ (gives (n ∷ length xs ∷ []), (writtenPair (pairWith xs ms rs) p, countsOf xs))
+unfolding readPRun
+read-p-result n xs ms rs p counts h x y z =
+    let (rank, letters, marks, size, entries) = pair-good h in
+    rw (p-complete n xs ms rs rank letters marks size entries)
+    (ran-answer (pairJudgements n xs ms rs) (pairRooms (length xs) (length (p .letters)) (length (p .marks)) (length (p .recording)))
+    (n ∷ length xs ∷ []) (writtenPair (pairWith xs ms rs) p, countsOf xs) (p, counts)
+    (pair-passing n xs ms rs .1 h) (room-judged _ _ .1 x, (room-judged _ _ .1 y, (room-judged _ _ .1 z, tt))))
 
--- No refusal, or one with another number than 14.
-abbrev Other : Said → Type 0
-Other (gives vs) = Unit {0}
-Other (refused k p) = k < 14
+-- ---- 3 cannot come
 
-test-other : (b : Bool) (k p : ℕ) (s : Said) → k < 14 → Other s → Other (refuseIf b k p s)
-test-other true k p s l h = l
-test-other false k p s l h = h
+-- Letters and marks of a T line are equally many,
+pub t-alike : (text : List ℕ) (n : ℕ) (xs ms rest : List ℕ) → readT text ≡ got (n, xs, ms) rest → Passes (alikeJudged (length xs) (length ms ∷ []))
+t-alike text n xs ms rest e =
+    let (line, none, rank, small, marks) = t-sound text n xs ms rest e in
+    alike-judged (length xs) (length ms ∷ []) .1 (marked-length xs ms marks, tt)
 
-abbrev Others : List Said → Type 0
-Others [] = Unit {0}
-Others (j ∷ js) = Other j × Others js
-
-first-other : (js : List Said) (vs : List ℕ) → Others js → Other (first js (gives vs))
-first-other [] vs h = tt
-first-other (gives us ∷ js) vs h = first-other js vs (h .1)
-first-other (refused k p ∷ js) vs h = h .0
-
-rank-other : (n : ℕ) → Other (rankJudged n)
-unfolding rankJudged
-rank-other n = test-other (outside 64 n) 1 0 passed (omega arith) tt
-
-length-other : (k : ℕ) → Other (lengthJudged k)
-unfolding lengthJudged
-length-other k = test-other (ltb 1024 k) 2 0 passed (omega arith) tt
-
-alike-other : (k : ℕ) (ls : List ℕ) → Other (alikeJudged k ls)
-unfolding alikeJudged
-alike-other k [] = tt
-alike-other k (l ∷ ls) = test-other (not (eqb l k)) 3 0 (alikeJudged k ls) (omega arith) (alike-other k ls)
-
-letters-from : (n i : ℕ) (xs : List ℕ) → Other (lettersFrom n i xs)
-letters-from n i [] = tt
-letters-from n i (x ∷ xs) = test-other (outside n x) 4 i (lettersFrom n (suc i) xs) (omega arith) (letters-from n (suc i) xs)
-
-letters-other : (n : ℕ) (xs : List ℕ) → Other (lettersJudged n xs)
-unfolding lettersJudged
-letters-other n xs = letters-from n 0 xs
-
-rising-from : (i x : ℕ) (xs : List ℕ) → Other (risingFrom i x xs)
-rising-from i x [] = tt
-rising-from i x (y ∷ ys) = test-other (ltb y x) 5 i (risingFrom (suc i) y ys) (omega arith) (rising-from (suc i) y ys)
-
-rising-other : (xs : List ℕ) → Other (risingJudged xs)
-unfolding risingJudged
-rising-other [] = tt
-rising-other (x ∷ xs) = rising-from 1 x xs
-
-marks-from : (i x : ℕ) (xs ms : List ℕ) → Other (marksFrom i x xs ms)
-marks-from i x [] ms = tt
-marks-from i x (y ∷ ys) [] = tt
-marks-from i x (y ∷ ys) (m ∷ ms) = test-other (ltb 1 m || eqb m 1 && eqb x y) 6 i (marksFrom (suc i) y ys ms) (omega arith) (marks-from (suc i) y ys ms)
-
-marks-other : (xs ms : List ℕ) → Other (marksJudged xs ms)
-unfolding marksJudged
-marks-other [] ms = tt
-marks-other (x ∷ xs) [] = tt
-marks-other (x ∷ xs) (m ∷ ms) = test-other (ltb 0 m) 6 0 (marksFrom 1 x xs ms) (omega arith) (marks-from 1 x xs ms)
-
-entries-from : (L i : ℕ) (met rs : List ℕ) → Other (entriesFrom L met i rs)
-entries-from L i met [] = tt
-entries-from L i met (r ∷ rs) = test-other (outside L r || occurs r met) 7 i (entriesFrom L (r ∷ met) (suc i) rs) (omega arith) (entries-from L (suc i) (r ∷ met) rs)
-
-entries-other : (L : ℕ) (rs : List ℕ) → Other (entriesJudged L rs)
-unfolding entriesJudged
-entries-other L rs = entries-from L 0 [] rs
-
-room-other : (need have : ℕ) → Other (roomJudged need have)
-unfolding roomJudged
-room-other need have = test-other (ltb have need) 13 need passed (omega arith) tt
+-- and so are the entries of a P line.
+pub p-alike : (text : List ℕ) (n : ℕ) (xs ms rs rest : List ℕ) → readP text ≡ got (n, xs, ms, rs) rest
+    → Passes (alikeJudged (length xs) (length ms ∷ length rs ∷ []))
+p-alike text n xs ms rs rest e =
+    let (line, none, rank, small, marks, size, entries) = p-sound text n xs ms rs rest e in
+    alike-judged (length xs) (length ms ∷ length rs ∷ []) .1 (marked-length xs ms marks, (size, tt))
 
 -- ---- 14, exactly
 
@@ -183,7 +142,7 @@ t-broken text letters marks counts p =
   where
     others : (n : ℕ) (xs ms : List ℕ) → Other ((tableauRead letters marks counts n xs ms) .0)
     others n xs ms =
-        first-other (tableauJudgements n xs ms ++ (roomJudged (length xs) (length letters) ∷ roomJudged (length xs) (length marks) ∷ []))
+        first-other (tableauJudgements n xs ms ++ tableauRooms (length xs) (length letters) (length marks))
         (n ∷ length xs ∷ []) (
           rank-other n,
           (
@@ -198,11 +157,19 @@ t-broken text letters marks counts p =
           ),
         )
 
-pub n-broken : (text out : List ℕ) (p : ℕ) → ((readNRun text out) .0 ≡ refused 14 p) ↔ Breaks IsN text p
-unfolding readNRun
-n-broken text out p = broken-exactly IsN readN (recordingRead out) out text (n-place text) (λ q. n-breaks text q .0) others p
+pub p-broken : (text : List ℕ) (p : Pair) (counts : List ℕ) (k : ℕ) → ((readPRun text p counts) .0 ≡ refused 14 k) ↔ Breaks IsP text k
+unfolding readPRun
+p-broken text p counts k =
+    broken-exactly IsP readP (λ v. pairRead p counts (v .0) (v .1) (v .2) (v .3)) (p, counts) text (p-place text) (λ q. p-breaks text q .0)
+    (λ v. others (v .0) (v .1) (v .2) (v .3)) k
   where
-    others : (rs : List ℕ) → Other ((recordingRead out rs) .0)
-    others rs =
-        first-other (lengthJudged (length rs) ∷ entriesJudged (length rs) rs ∷ roomJudged (length rs) (length out) ∷ []) (length rs ∷ [])
-        (length-other (length rs), (entries-other (length rs) rs, (room-other (length rs) (length out), tt)))
+    others : (n : ℕ) (xs ms rs : List ℕ) → Other ((pairRead p counts n xs ms rs) .0)
+    others n xs ms rs =
+        let L : ℕ = length xs in
+        let rooms : List Said = pairRooms L (length (p .letters)) (length (p .marks)) (length (p .recording)) in
+        let room : Others rooms =
+        (room-other L (length (p .letters)), (room-other L (length (p .marks)), (room-other L (length (p .recording)), tt))) in
+        let parts : Others (entriesJudged L rs ∷ recordingJudged rs ms ∷ rooms) = (entries-other L rs, (recording-other rs ms, room)) in
+        let cells : Others (lettersJudged n xs ∷ risingJudged xs ∷ marksJudged xs ms ∷ entriesJudged L rs ∷ recordingJudged rs ms ∷ rooms) =
+        (letters-other n xs, (rising-other xs, (marks-other xs ms, parts))) in
+        first-other (pairJudgements n xs ms rs ++ rooms) (n ∷ L ∷ []) (rank-other n, (length-other L, (alike-other L (length ms ∷ length rs ∷ []), cells)))

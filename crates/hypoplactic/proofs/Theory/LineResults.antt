@@ -1,18 +1,18 @@
--- Writers of lines: an input that keeps the limits, with room for the bytes, gets its line (theorem i), and the program prints the four lines. Assumes nothing.
+-- Writers of lines: an input that keeps the limits, with room for the bytes, gets its line (theorem i), and the program prints the three lines. Assumes nothing.
 use Prim.Native.Nat.{ℕ, _≤_}
 use mathlib.Core.Path.{_≡_}
 use mathlib.Core.List.{List, [], _∷_}
 use lib.ListN.{length}
-use Rattle.grammar.specs.Lines.{wLine, tLine, nLine, jLine, eLine}
-use Rattle.hypoplactic.specs.Words.{Accepted, Within}
-use Rattle.hypoplactic.specs.Ribbons.{Simple, TableauAt}
+use Rattle.grammar.specs.Lines.{wLine, tLine, pLine, jLine, eLine}
+use Rattle.hypoplactic.specs.Words.{Accepted}
+use Rattle.hypoplactic.specs.Ribbons.{PairAt, TableauAt}
 use Rattle.hypoplactic.specs.Junctions.{junctionSet, rowsOf}
 use Rattle.hypoplactic.specs.Replies.{Said, gives, passed, written}
-use Rattle.hypoplactic.specs.Judgements.{lengthJudged, entriesJudged, roomJudged, wordJudgements, tableauJudgements}
-use Rattle.hypoplactic.specs.LineOperations.{tableauLine, lineRun, roomRun, wLineRun, tLineRun, nLineRun, tableauLineRun, jLineRun, eLineRun, fourLines, program}
+use Rattle.hypoplactic.specs.Judgements.{roomJudged, wordJudgements, tableauJudgements, pairJudgements}
+use Rattle.hypoplactic.specs.LineOperations.{tableauLine, lineRun, roomRun, wLineRun, tLineRun, pLineRun, tableauLineRun, jLineRun, eLineRun, threeLines, program}
 use Rattle.hypoplactic.proofs.Theory.Passing.{Passing, ran-answer, first-answer, first-past}
-use Rattle.hypoplactic.proofs.Theory.Judgements.{length-judged, entries-judged, room-judged}
-use Rattle.hypoplactic.proofs.Theory.Judged.{word-passing, tableau-passing}
+use Rattle.hypoplactic.proofs.Theory.Judgements.{room-judged}
+use Rattle.hypoplactic.proofs.Theory.Judged.{word-passing, tableau-passing, pair-passing}
 
 -- A writer whose checks refuse nothing judges only room.
 pub past-checks : (js : List Said) (bytes out : List ℕ) → Passing js → roomRun bytes out ≡ lineRun js bytes out
@@ -39,8 +39,8 @@ module _ (n : ℕ) (w : List ℕ) (a : Accepted n w) where
   unfolding jLineRun
   j-line-result out r = line-result (wordJudgements n w) (jLine (junctionSet w) (rowsOf w)) out (word-passing n w .1 a) r
 
-  -- The program prints four lines for an accepted word.
-  pub program-result : program n w ≡ fourLines n w
+  -- The program prints three lines for an accepted word.
+  pub program-result : program n w ≡ threeLines n w
   unfolding program
   program-result = rw (first-answer (wordJudgements n w) passed (word-passing n w .1 a))
 
@@ -49,13 +49,10 @@ pub t-line-result : (n : ℕ) (xs ms out : List ℕ) → TableauAt n xs ms → l
 unfolding tLineRun
 t-line-result n xs ms out h r = line-result (tableauJudgements n xs ms) (tLine n xs ms) out (tableau-passing n xs ms .1 h) r
 
--- A recording ribbon alone: at most 1,024 entries, each 1 to L, none twice.
-pub n-line-result : (rs out : List ℕ) → length rs ≤ 1024 → Within (length rs) rs → Simple rs → length (nLine rs) ≤ length out
-    → nLineRun rs out ≡ (gives (length (nLine rs) ∷ []), written (nLine rs) out)
-unfolding nLineRun
-n-line-result rs out l i s r =
-    line-result (lengthJudged (length rs) ∷ entriesJudged (length rs) rs ∷ []) (nLine rs) out
-    (length-judged (length rs) .1 l, (entries-judged (length rs) rs .1 (i, s), tt)) r
+pub p-line-result : (n : ℕ) (xs ms rs out : List ℕ) → PairAt n xs ms rs → length (pLine n xs ms rs) ≤ length out
+    → pLineRun n xs ms rs out ≡ (gives (length (pLine n xs ms rs) ∷ []), written (pLine n xs ms rs) out)
+unfolding pLineRun
+p-line-result n xs ms rs out h r = line-result (pairJudgements n xs ms rs) (pLine n xs ms rs) out (pair-passing n xs ms rs .1 h) r
 
 pub e-line-result : (k p : ℕ) (out : List ℕ) → length (eLine k p) ≤ length out → eLineRun k p out ≡ (gives (length (eLine k p) ∷ []), written (eLine k p) out)
 unfolding eLineRun

@@ -1,4 +1,4 @@
--- What the program prints, of every text: the four lines of the accepted word that it holds, or one E line whose place is at most 4,096.
+-- What the program prints, of every text: the three lines of the accepted word that it holds, or one E line whose place is at most 4,096.
 --     outputs             every text has one of the two kinds
 --     output-accepted     the W line of an accepted word has the first, if it is no longer than 4,096 bytes (that it never is: outputs, specs/Longest)
 -- Assumes nothing.
@@ -17,7 +17,7 @@ use Rattle.grammar.proofs.Theory.Sound.{w-sound}
 use Rattle.hypoplactic.specs.Words.{Accepted}
 use Rattle.hypoplactic.specs.Replies.{Said, gives, refused, passed, first, refuseIf}
 use Rattle.hypoplactic.specs.Judgements.{lengthJudged, lettersFrom, lettersJudged, outside, rankJudged, wordJudgements}
-use Rattle.hypoplactic.specs.LineOperations.{fourLines, program}
+use Rattle.hypoplactic.specs.LineOperations.{threeLines, program}
 use Rattle.hypoplactic.specs.LineReadings.{Outputs, breakPlace, lines, output, printedFor, refusal}
 use Rattle.hypoplactic.proofs.Theory.Judged.{word-passing}
 use Rattle.hypoplactic.proofs.Theory.LineReadings.{accepted-small}
@@ -87,6 +87,6 @@ module _ (text : List ℕ) where
 
 -- ---- accepted words
 
-pub output-accepted : {n : ℕ} {w : List ℕ} → Accepted n w → length (wLine n w) ≤ 4096 → output (wLine n w) ≡ fourLines n w
+pub output-accepted : {n : ℕ} {w : List ℕ} → Accepted n w → length (wLine n w) ≤ 4096 → output (wLine n w) ≡ threeLines n w
 unfolding output
 output-accepted {n} {w} a l = rw (le-ltb 4096 (length (wLine n w)) l, w-complete n w (accepted-small a .0) (accepted-small a .1)) (program-result n w a)

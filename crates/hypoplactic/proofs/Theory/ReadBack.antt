@@ -3,17 +3,19 @@
 --     insertCells cs w      the cells with each letter of w inserted in its turn
 --     cells-of-word         the cells of a word's tableau
 --     insert-read-cells     inserting the column reading of a tableau of cells gives these cells
---     read-back             the same on letters and marks
+--     read-back             the same on letters and marks; reading-length: so a column reading is as long as its tableau
 -- Assumes nothing.
 use Prim.Native.Nat.{ℕ, _≤_, _<_}
 use native.Mathlib.Omega.{arith}
 use mathlib.Core.Path.{_≡_, refl, ap, sym, _∙_}
 use mathlib.Core.List.{List, [], _∷_, _++_, append-assoc, append-nil}
+use lib.ListN.{length}
 use borrow.Author.Tests.{le-leb, lt-leb}
 use Rattle.hypoplactic.specs.Ribbons.{Tableau}
 use Rattle.hypoplactic.specs.Insertion.{Pair, emptyPair, insert, insertAll, lettersOf, marksOf, pairOf}
 use Rattle.hypoplactic.specs.Reading.{columnReading}
 use Rattle.hypoplactic.proofs.Theory.Cells.{Cell, right, down, letter, cellsOf, Follows, Cells, insertCell, readCells}
+use Rattle.hypoplactic.proofs.Theory.Pairs.{length-letters}
 use Rattle.hypoplactic.proofs.Theory.Boundary.{cells-decide, cells-of-insert, cells-of-tableau, read-of-cells, tableau-of-insert, tableau-of-word}
 
 -- The cells with each letter of a word inserted in its turn.
@@ -118,3 +120,7 @@ read-back xs ms h =
     let w : List ℕ = columnReading xs ms in
     cells-decide (lettersOf w) (marksOf w) xs ms (tableau-of-word w) h
     (cells-of-word w ∙ ap (insertCells []) (read-of-cells xs ms) ∙ insert-read-cells (cellsOf xs ms) (cells-of-tableau xs ms h))
+
+-- So a column reading is as long as its tableau.
+pub reading-length : (xs ms : List ℕ) → Tableau xs ms → length (columnReading xs ms) ≡ length xs
+reading-length xs ms h = sym (length-letters (columnReading xs ms)) ∙ ap length (read-back xs ms h .0)

@@ -1,5 +1,5 @@
 -- An input that keeps the limits, with outputs long enough, gets its result: what each operation but the moves then replies, and lent memory.
---     tableau-result, recording-result            tableau and recording ribbon of a word
+--     pair-result                                 tableau, recording ribbon and letter counts of a word
 --     insert-result                               one letter inserted
 --     word-result, reading-result                 pair back to word, column reading
 --     viewer-result, look-result                  the viewer and a look through it
@@ -14,16 +14,16 @@ use lib.ListN.{length, take}
 use lib.Seq.{length-take-le}
 use Rattle.hypoplactic.specs.Words.{Accepted, Inside, tick}
 use Rattle.hypoplactic.specs.Ribbons.{PairAt, TableauAt}
-use Rattle.hypoplactic.specs.Insertion.{Pair, insert, lettersOf, marksOf, recordingOf, wordOf}
+use Rattle.hypoplactic.specs.Insertion.{Pair, insert, pairOf, wordOf}
 use Rattle.hypoplactic.specs.Reading.{columnReading}
 use Rattle.hypoplactic.specs.Moves.{Move, repeatTableau, repeatWord}
 use Rattle.hypoplactic.specs.Junctions.{junctionSet, rowsOf, sameClass}
 use Rattle.hypoplactic.specs.Weights.{compareWeights}
 use Rattle.hypoplactic.specs.Replies.{gives, passed, written}
 use Rattle.hypoplactic.specs.Counts.{TrueCounts, countsOf, oneMore}
-use Rattle.hypoplactic.specs.Judgements.{countedJudgements, countedPairJudgements, fullJudged, indexJudged, lettersJudged, roomJudged, tableauJudgements, wordJudgements}
+use Rattle.hypoplactic.specs.Judgements.{countedJudgements, countedPairJudgements, fullJudged, indexJudged, lettersJudged, pairRooms, roomJudged, tableauJudgements, wordJudgements}
 use Rattle.hypoplactic.specs.WordOperations.{comparisonNumber, junctionSays, repeatWordSays, sameClassSays, weightsSays, wordsJudgements}
-use Rattle.hypoplactic.specs.TableauOperations.{cellAt, insertJudgements, insertRun, insertSays, lookSays, readingRun, readingSays, recordingRun, recordingSays, repeatTableauSays, tableauRun, tableauSays, usedCells, viewerSays, wordRun, wordSays, writtenPair}
+use Rattle.hypoplactic.specs.TableauOperations.{cellAt, insertJudgements, insertRun, insertSays, lookSays, pairRun, pairSays, readingRun, readingSays, repeatTableauSays, usedCells, viewerSays, wordRun, wordSays, writtenPair}
 use Rattle.hypoplactic.proofs.Theory.Passing.{Passing, first-answer, first-both, passes-further, ran-answer}
 use Rattle.hypoplactic.proofs.Theory.Contents.{accepted-snoc}
 use Rattle.hypoplactic.proofs.Theory.Judgements.{full-judged, index-judged, letters-judged, room-judged, used-judged}
@@ -32,18 +32,13 @@ use Rattle.hypoplactic.proofs.Theory.Judged.{counted-pair-passing, coun
 -- ---- of a word
 
 module _ (n : ℕ) (w : List ℕ) (a : Accepted n w) where
-  -- The tableau, into letters and marks long enough, and its counts.
-  pub tableau-result : (letters marks counts : List ℕ) → length w ≤ length letters → length w ≤ length marks
-      → tableauRun n w letters marks counts ≡ (gives (length w ∷ []), (written (lettersOf w) letters, (written (marksOf w) marks, countsOf w)))
-  unfolding tableauRun tableauSays
-  tableau-result letters marks counts p q =
-      ran-answer (wordJudgements n w) (roomJudged (length w) (length letters) ∷ roomJudged (length w) (length marks) ∷ []) _ _ _
-      (word-passing n w .1 a) (room-judged _ _ .1 p, (room-judged _ _ .1 q, tt))
-
-  -- The recording ribbon, into entries long enough.
-  pub recording-result : (entries : List ℕ) → length w ≤ length entries → recordingRun n w entries ≡ (gives (length w ∷ []), written (recordingOf w) entries)
-  unfolding recordingRun recordingSays
-  recording-result entries p = ran-answer (wordJudgements n w) (roomJudged (length w) (length entries) ∷ []) _ _ _ (word-passing n w .1 a) (room-judged _ _ .1 p, tt)
+  -- The pair, into three lists long enough, and its counts.
+  pub pair-result : (p : Pair) (counts : List ℕ) → length w ≤ length (p .letters) → length w ≤ length (p .marks) → length w ≤ length (p .recording)
+      → pairRun n w p counts ≡ (gives (length w ∷ []), (writtenPair (pairOf w) p, countsOf w))
+  unfolding pairRun pairSays
+  pair-result p counts x y z =
+      ran-answer (wordJudgements n w) (pairRooms (length w) (length (p .letters)) (length (p .marks)) (length (p .recording))) _ _ _
+      (word-passing n w .1 a) (room-judged _ _ .1 x, (room-judged _ _ .1 y, (room-judged _ _ .1 z, tt)))
 
   -- The junction set and the rows.
   pub junction-result : junctionSays n w ≡ gives (junctionSet w ∷ rowsOf w ∷ [])
@@ -128,7 +123,6 @@ insert-result n used a p cs h c few i as-letters as-marks as-recording =
     let held = used-judged used lengths .1 (omega arith) in
     let all = letters-judged n (xs ++ a ∷ []) .1 (accepted-snoc (h .word) (omega arith) i .letters) in
     ran-answer (insertJudgements n used a p cs)
-    (fullJudged used ∷ roomJudged (suc used) (length (p .letters)) ∷ roomJudged (suc used) (length (p .marks))
-    ∷ roomJudged (suc used) (length (p .recording)) ∷ []) _ _ _
+    (fullJudged used ∷ pairRooms (suc used) (length (p .letters)) (length (p .marks)) (length (p .recording))) _ _ _
     (rank, (rw size at short, (held, (all, (rising, (marks, (counts, (rw size at entries, (recording, tt)))))))))
     (full-judged used .1 few, (room-judged _ _ .1 as-letters, (room-judged _ _ .1 as-marks, (room-judged _ _ .1 as-recording, tt))))

@@ -5,8 +5,8 @@ use mathlib.Core.Path.{_≡_, refl}
 use mathlib.Core.List.{map}
 use lib.Count.{ones, onesIn}
 use Rattle.grammar.specs.Numbers.{decimal}
-use Rattle.grammar.specs.Lines.{wLine, tLine, nLine, jLine, eLine}
-use Rattle.grammar.specs.Reading.{readW, readT, readN}
+use Rattle.grammar.specs.Lines.{wLine, tLine, pLine, jLine, eLine}
+use Rattle.grammar.specs.Reading.{readW, readT, readP}
 use Rattle.hypoplactic.specs.Insertion.{insert, pairOf, wordOf}
 use Rattle.hypoplactic.specs.Reading.{columnReading}
 use Rattle.hypoplactic.specs.Moves.{repeatWord, repeatTableau}
@@ -15,14 +15,14 @@ use Rattle.hypoplactic.specs.Weights.{compareWeights}
 use Rattle.hypoplactic.specs.Counts.{countsOf, countsJudged}
 use Rattle.hypoplactic.specs.Judgements.{rankJudged, lengthJudged, lettersJudged, indexJudged, inversionJudged, letterJudged, alikeJudged, usedJudged, risingJudged, marksJudged, entriesJudged, recordingJudged, fullJudged, roomJudged}
 use Rattle.hypoplactic.specs.WordOperations.{junctionSays, moveWordSays, moveWordRun, repeatWordSays, sameClassSays, weightsSays}
-use Rattle.hypoplactic.specs.TableauOperations.{tableauSays, tableauRun, recordingSays, recordingRun, insertSays, wordSays, wordRun, readingSays, readingRun, moveTableauSays, moveTableauRun, repeatTableauSays, viewerSays, lookSays}
-use Rattle.hypoplactic.specs.LineOperations.{tableauLine, tableauLineRun, program}
-use Rattle.hypoplactic.specs.LineReadings.{output, readNRun, readTRun}
+use Rattle.hypoplactic.specs.TableauOperations.{pairSays, pairRun, insertSays, wordSays, wordRun, readingSays, readingRun, moveTableauSays, moveTableauRun, repeatTableauSays, viewerSays, lookSays}
+use Rattle.hypoplactic.specs.LineOperations.{pairLine, tableauLine, tableauLineRun, program}
+use Rattle.hypoplactic.specs.LineReadings.{output, readPRun, readTRun}
 use Rattle.hypoplactic.specs.Starred.{Case, starredCases, workedCases, refusalCases}
 
 -- Every starred case: the meaning is what the document says.
 pub starred : map (λ (c : Case). c .meaning) starredCases ≡ map (λ (c : Case). c .document) starredCases
-unfolding starredCases output countsOf countsJudged readW program tableauLine tLine nLine wLine jLine eLine decimal pairOf insert wordOf columnReading junctionSet number rowsOf ones onesIn sameClass compareWeights rankJudged lengthJudged alikeJudged lettersJudged risingJudged marksJudged entriesJudged recordingJudged indexJudged inversionJudged letterJudged roomJudged junctionSays moveWordSays moveWordRun sameClassSays weightsSays tableauSays tableauRun recordingSays recordingRun wordSays wordRun readingSays readingRun tableauLineRun
+unfolding starredCases output countsOf countsJudged readW program pairLine tableauLine tLine pLine wLine jLine eLine decimal pairOf insert wordOf columnReading junctionSet number rowsOf ones onesIn sameClass compareWeights rankJudged lengthJudged alikeJudged lettersJudged risingJudged marksJudged entriesJudged recordingJudged indexJudged inversionJudged letterJudged roomJudged junctionSays moveWordSays moveWordRun sameClassSays weightsSays pairSays pairRun wordSays wordRun readingSays readingRun tableauLineRun
 starred = refl
 
 -- Every worked example of the paper.
@@ -32,5 +32,5 @@ worked = refl
 
 -- The other checked words, and every refusal number.
 pub refusals : map (λ (c : Case). c .meaning) refusalCases ≡ map (λ (c : Case). c .document) refusalCases
-unfolding refusalCases output countsJudged readTRun readNRun readW readT readN program tableauLine tLine nLine wLine jLine eLine decimal pairOf insert columnReading junctionSet number rowsOf ones onesIn sameClass repeatTableau rankJudged lengthJudged alikeJudged usedJudged lettersJudged risingJudged marksJudged entriesJudged recordingJudged indexJudged inversionJudged letterJudged fullJudged roomJudged junctionSays moveWordSays moveWordRun sameClassSays tableauSays recordingSays recordingRun insertSays wordSays moveTableauSays moveTableauRun repeatTableauSays viewerSays
+unfolding refusalCases output countsJudged countsOf readTRun readPRun readW readT readP program pairLine tableauLine tLine pLine wLine jLine eLine decimal pairOf insert columnReading junctionSet number rowsOf ones onesIn sameClass repeatTableau rankJudged lengthJudged alikeJudged usedJudged lettersJudged risingJudged marksJudged entriesJudged recordingJudged indexJudged inversionJudged letterJudged fullJudged roomJudged junctionSays moveWordSays moveWordRun sameClassSays pairSays pairRun insertSays wordSays moveTableauSays moveTableauRun repeatTableauSays viewerSays
 refusals = refl

@@ -1,8 +1,9 @@
 -- The operations fit together, said of the very definitions that their contracts cite: what one writes another takes, with buffers long enough.
---     word-and-back         the way back gives the word whose tableau and recording ribbon were taken
---     pair-and-back         the ribbons of the word of a pair within the limits are that pair
---     reading-and-back      the tableau of the column reading of a tableau within the limits is that tableau
+--     word-and-back         the way back gives the word whose pair was taken
+--     pair-and-back         the pair of the word of a pair within the limits is that pair
+--     reading-and-back      the pair of the column reading of a tableau within the limits has that tableau
 --     letter-by-letter      insertion into the pair of a word makes the pair of the word with the letter at its end
+--     letter-after-letter   the same of what the operations leave: insertion after the pair of a word is the pair of the longer word
 -- The letter counts are those that an operation leaves: of the word, and of the letters read.
 -- Assumes nothing.
 use Prim.Native.Nat.{ℕ, suc, _+_, _-_, _≤_, _<_}
@@ -13,19 +14,19 @@ use lib.ListN.{length, take, drop}
 use lib.Seq.{drop-append-add, drop-drop}
 use Rattle.hypoplactic.specs.Words.{Accepted}
 use Rattle.hypoplactic.specs.Ribbons.{PairAt, TableauAt}
-use Rattle.hypoplactic.specs.Insertion.{Pair, lettersOf, marksOf, pairOf, recordingOf, wordOf}
+use Rattle.hypoplactic.specs.Insertion.{Pair, lettersOf, marksOf, pairOf, pairWith, recordingOf, wordOf}
 use Rattle.hypoplactic.specs.Reading.{columnReading}
 use Rattle.hypoplactic.specs.Replies.{gives, written}
 use Rattle.hypoplactic.specs.Counts.{countsOf}
-use Rattle.hypoplactic.specs.TableauOperations.{insertRun, recordingRun, tableauRun, usedCells, wordRun, writtenPair}
+use Rattle.hypoplactic.specs.TableauOperations.{insertRun, pairRun, usedCells, wordRun, writtenPair}
 use Rattle.hypoplactic.proofs.Theory.Closure.{pair-word-accepted, reading-accepted, word-pair-at}
 use Rattle.hypoplactic.proofs.Theory.Correspondence.{pair-of-word, word-of-pair}
 use Rattle.hypoplactic.proofs.Theory.Counts.{letters-counts, letters-true, snoc-counts}
 use Rattle.hypoplactic.proofs.Theory.Layers.{within-snoc}
 use Rattle.hypoplactic.proofs.Theory.Memory.{written-length, written-needed}
 use Rattle.hypoplactic.proofs.Theory.Pairs.{length-letters, length-marks, length-recording, length-snoc, pair-snoc}
-use Rattle.hypoplactic.proofs.Theory.ReadBack.{read-back}
-use Rattle.hypoplactic.proofs.Theory.Results.{insert-result, recording-result, tableau-result, word-result}
+use Rattle.hypoplactic.proofs.Theory.ReadBack.{read-back, reading-length}
+use Rattle.hypoplactic.proofs.Theory.Results.{insert-result, pair-result, word-result}
 
 -- ---- there and back
 
@@ -36,26 +37,27 @@ word-and-back n w out a l =
     word-result n (lettersOf w) (marksOf w) (recordingOf w) (countsOf w) out (word-pair-at a) (letters-true w) (rw (length-letters w) l)
     ∙ rw (word-of-pair w, length-letters w)
 
--- The ribbons of the word of a pair.
-pub pair-and-back : (n : ℕ) (xs ms rs letters marks counts entries : List ℕ) → PairAt n xs ms rs
-    → length xs ≤ length letters → length xs ≤ length marks → length xs ≤ length entries
-    → (tableauRun n (wordOf xs rs) letters marks counts ≡ (gives (length xs ∷ []), (written xs letters, (written ms marks, countsOf xs))))
-    × (recordingRun n (wordOf xs rs) entries ≡ (gives (length xs ∷ []), written rs entries))
-pair-and-back n xs ms rs letters marks counts entries h p q r =
+-- The pair of the word of a pair.
+pub pair-and-back : (n : ℕ) (xs ms rs : List ℕ) (p : Pair) (counts : List ℕ) → PairAt n xs ms rs
+    → length xs ≤ length (p .letters) → length xs ≤ length (p .marks) → length xs ≤ length (p .recording)
+    → pairRun n (wordOf xs rs) p counts
+    ≡ (gives (length xs ∷ []), (writtenPair (pairWith xs ms rs) p, countsOf xs))
+pair-and-back n xs ms rs p counts h x y z =
     let (is-letters, is-marks, is-recording) = pair-of-word (h .pair) in
     let a : Accepted n (wordOf xs rs) = pair-word-accepted h in
-    let size : length (wordOf xs rs) ≡ length xs = sym (length-letters (wordOf xs rs)) ∙ ap length is-letters in (
-      tableau-result n (wordOf xs rs) a letters marks counts (omega arith) (omega arith) ∙ rw (size, ← letters-counts (wordOf xs rs), is-letters, is-marks),
-      recording-result n (wordOf xs rs) a entries (omega arith) ∙ rw (size, is-recording),
-    )
+    let size : length (wordOf xs rs) ≡ length xs = sym (length-letters (wordOf xs rs)) ∙ ap length is-letters in
+    pair-result n (wordOf xs rs) a p counts (omega arith) (omega arith) (omega arith)
+    ∙ rw (size, ← letters-counts (wordOf xs rs), is-letters, is-marks, is-recording)
 
--- The tableau of a column reading.
-pub reading-and-back : (n : ℕ) (xs ms letters marks counts : List ℕ) → TableauAt n xs ms → length xs ≤ length letters → length xs ≤ length marks
-    → tableauRun n (columnReading xs ms) letters marks counts ≡ (gives (length xs ∷ []), (written xs letters, (written ms marks, countsOf xs)))
-reading-and-back n xs ms letters marks counts h p q =
+-- The pair of a column reading: beside the tableau stands the recording ribbon of the reading itself.
+pub reading-and-back : (n : ℕ) (xs ms : List ℕ) (p : Pair) (counts : List ℕ) → TableauAt n xs ms
+    → length xs ≤ length (p .letters) → length xs ≤ length (p .marks) → length xs ≤ length (p .recording)
+    → pairRun n (columnReading xs ms) p counts
+    ≡ (gives (length xs ∷ []), (writtenPair (pairWith xs ms (recordingOf (columnReading xs ms))) p, countsOf xs))
+reading-and-back n xs ms p counts h x y z =
     let (is-letters, is-marks) = read-back xs ms (h .tableau) in
-    let size : length (columnReading xs ms) ≡ length xs = sym (length-letters (columnReading xs ms)) ∙ ap length is-letters in
-    tableau-result n (columnReading xs ms) (reading-accepted h) letters marks counts (omega arith) (omega arith)
+    let size : length (columnReading xs ms) ≡ length xs = reading-length xs ms (h .tableau) in
+    pair-result n (columnReading xs ms) (reading-accepted h) p counts (omega arith) (omega arith) (omega arith)
     ∙ rw (size, ← letters-counts (columnReading xs ms), is-letters, is-marks)
 
 -- ---- letter by letter
@@ -106,3 +108,13 @@ module _ (n a : ℕ) (w : List ℕ) (old : Pair) (h : Accepted n (w ++ (a ∷ []
         over (marksOf w) (marksOf v) (old .marks) (length-marks w) (length-marks v ∙ size),
         over (recordingOf w) (recordingOf v) (old .recording) (length-recording w) (length-recording v ∙ size),
       )
+
+  -- The same of the memory that the pair's operation left.
+  pub letter-after-letter : (counts : List ℕ)
+      → insertRun n (length w) a ((pairRun n w old counts) .1 .0) ((pairRun n w old counts) .1 .1) ≡ pairRun n (w ++ (a ∷ [])) old counts
+  letter-after-letter counts =
+      let v : List ℕ = w ++ (a ∷ []) in
+      let size : length v ≡ suc (length w) = length-snoc w a in
+      let front : Accepted n w = record { rank-low = h .rank-low; rank-high = h .rank-high; short = omega (arith, h .short); letters = within-snoc n a w (h .letters) .0 } in
+      rw (pair-result n w front old counts (omega arith) (omega arith) (omega arith), pair-result n v h old counts (omega arith) (omega arith) (omega arith), size)
+      letter-by-letter

@@ -2,23 +2,24 @@
 --     line-bytes          the bytes in a buffer that is long enough are the tableau line
 --     move-left           a move leaves an accepted word accepted
 --     written-classes     the theorem
+--     recording-written   from it, as three equations: a move keeps reply, marks and entries of the pair
 -- The demand itself is `classes` of Classes. Assumes nothing.
 use Prim.Native.Nat.{ℕ, _≤_}
 use mathlib.Core.Path.{_≡_, refl, sym, ap, _∙_}
-use mathlib.Core.List.{List, [], _∷_}
+use mathlib.Core.List.{List, [], _∷_, _++_}
 use mathlib.Core.Logic.{_↔_}
 use mathlib.Core.Option.{Option, none, some}
 use lib.ListN.{length}
 use Rattle.hypoplactic.specs.Words.{Accepted}
 use Rattle.hypoplactic.specs.Rewriting.{Joined}
-use Rattle.hypoplactic.specs.Insertion.{recordingOf}
+use Rattle.hypoplactic.specs.Insertion.{Pair, marksOf, recordingOf}
 use Rattle.hypoplactic.specs.Moves.{Defined, Move, given, inverted, moveWord, placeInWord, replaced}
-use Rattle.hypoplactic.specs.Replies.{Said, gives, ranTo, written}
-use Rattle.hypoplactic.specs.Judgements.{roomJudged, wordJudgements}
+use Rattle.hypoplactic.specs.Replies.{Said, after, first, gives, refused, written}
+use Rattle.hypoplactic.specs.Judgements.{pairRooms, wordJudgements}
 use Rattle.hypoplactic.specs.WordOperations.{moveWordRun, orSame, undefinedBy}
-use Rattle.hypoplactic.specs.TableauOperations.{recordingRun, recordingSays}
+use Rattle.hypoplactic.specs.TableauOperations.{pairRun, pairSays}
 use Rattle.hypoplactic.specs.LineOperations.{tableauLine}
-use Rattle.hypoplactic.specs.Classes.{Faithful, FaithfullyWritten, FaithfulWriting, MovedTogether, in-both, in-neither, lineBytes, moveLeft}
+use Rattle.hypoplactic.specs.Classes.{Faithful, FaithfullyWritten, FaithfulWriting, MovedTogether, OneRecording, in-both, in-neither, lineBytes, moveLeft}
 use Rattle.hypoplactic.proofs.Theory.Classes.{classes}
 use Rattle.hypoplactic.proofs.Theory.Closure.{move-accepted}
 use Rattle.hypoplactic.proofs.Theory.Invariants.{joined-inversion}
@@ -28,6 +29,7 @@ use Rattle.hypoplactic.proofs.Theory.Memory.{written-needed}
 use Rattle.hypoplactic.proofs.Theory.MoveResults.{move-replaced, move-word-made, move-word-refused, move-word-result}
 use Rattle.hypoplactic.proofs.Theory.Pairs.{length-recording}
 use Rattle.hypoplactic.proofs.Theory.Passing.{first-past}
+use Rattle.hypoplactic.proofs.Theory.Recordings.{descents, marks-of-recording}
 use Rattle.hypoplactic.proofs.Theory.Targets.{place-below}
 
 -- The bytes written are the tableau line.
@@ -46,16 +48,30 @@ move-left n m w a = rw (left-word n m w a) (go (moveWord n m w) refl)
     go none e = a
     go (some v) e = move-accepted m a e
 
--- and words with one recording ribbon get one reply.
-recording-same : (n : ℕ) (u v entries : List ℕ) → Accepted n u → Accepted n v → recordingOf u ≡ recordingOf v → recordingRun n u entries ≡ recordingRun n v entries
-unfolding recordingRun recordingSays
-recording-same n u v entries a b e =
+-- and words with one recording ribbon, and so with one shape, get one reply, and one part of lent memory where what is written to it is one.
+same-left : {A : Type 0} (part : A → List ℕ) (s t : Said) (new new′ old : A) → s ≡ t → part new ≡ part new′ → part (after s new old) ≡ part (after t new′ old)
+same-left part s t new new′ old e h = rw e (go t)
+  where
+    go : (r : Said) → part (after r new old) ≡ part (after r new′ old)
+    go (gives vs) = h
+    go (refused k p) = refl
+
+recording-same : (n : ℕ) (u v : List ℕ) (p : Pair) (cs : List ℕ) → Accepted n u → Accepted n v → recordingOf u ≡ recordingOf v
+    → OneRecording (pairRun n u p cs) (pairRun n v p cs)
+unfolding pairRun pairSays
+recording-same n u v p cs a b e =
+    let rooms : List ℕ → List Said = λ w. pairRooms (length w) (length (p .letters)) (length (p .marks)) (length (p .recording)) in
+    let past : (w : List ℕ) → Accepted n w → first (wordJudgements n w ++ rooms w) (gives (length w ∷ [])) ≡ first (rooms w) (gives (length w ∷ [])) =
+    λ w c. first-past (wordJudgements n w) (rooms w) (gives (length w ∷ [])) (word-passing n w .1 c) in
     let size : length u ≡ length v = sym (length-recording u) ∙ ap length e ∙ length-recording v in
-    ap (λ (s : Said). ranTo s (written (recordingOf u) entries) entries)
-    (first-past (wordJudgements n u) (roomJudged (length u) (length entries) ∷ []) (gives (length u ∷ [])) (word-passing n u .1 a)
-    ∙ rw size refl
-    ∙ sym (first-past (wordJudgements n v) (roomJudged (length v) (length entries) ∷ []) (gives (length v ∷ [])) (word-passing n v .1 b)))
-    ∙ rw e refl
+    let shape : marksOf u ≡ marksOf v = marks-of-recording u ∙ ap descents e ∙ sym (marks-of-recording v) in
+    let reply : first (wordJudgements n u ++ rooms u) (gives (length u ∷ [])) ≡ first (wordJudgements n v ++ rooms v) (gives (length v ∷ [])) =
+    past u a ∙ rw size refl ∙ sym (past v b) in
+    record {
+      reply = reply;
+      marks = same-left (λ (m : Pair × List ℕ). m .0 .marks) _ _ _ _ (p, cs) reply (ap (λ (l : List ℕ). written l (p .marks)) shape);
+      entries = same-left (λ (m : Pair × List ℕ). m .0 .recording) _ _ _ _ (p, cs) reply (ap (λ (l : List ℕ). written l (p .recording)) e);
+    }
 
 module _ (n : ℕ) (u v : List ℕ) (a : Accepted n u) (b : Accepted n v) where
   faith : Faithful (tableauLine n) (moveWord n) u v
@@ -108,8 +124,15 @@ module _ (n : ℕ) (u v : List ℕ) (a : Accepted n u) (b : Accepted n v) where
         together = moved-together;
         results = λ j m out out′ l k.
             line-bytes n (moveLeft n m u) out (move-left n m u a) l ∙ left-lines j m ∙ sym (line-bytes n (moveLeft n m v) out′ (move-left n m v b) k);
-        recordings = λ m entries. recording-same n (moveLeft n m u) u entries (move-left n m u a) a (left-recording m);
+        recordings = λ m p cs. recording-same n (moveLeft n m u) u p cs (move-left n m u a) a (left-recording m);
       }
 
 pub written-classes : FaithfulWriting
 written-classes n u v a b = faithfully-written n u v a b
+
+-- What the third sentence is for: of a word and of what a move leaves of it, the recording ribbons as they are written are one, and so are shape and reply.
+pub recording-written : FaithfulWriting → (n : ℕ) (w : List ℕ) (m : Move) (p : Pair) (cs : List ℕ) → Accepted n w
+    → ((pairRun n (moveLeft n m w) p cs) .0 ≡ (pairRun n w p cs) .0)
+    × ((pairRun n (moveLeft n m w) p cs) .1 .0 .marks ≡ (pairRun n w p cs) .1 .0 .marks)
+    × ((pairRun n (moveLeft n m w) p cs) .1 .0 .recording ≡ (pairRun n w p cs) .1 .0 .recording)
+recording-written claim n w m p cs a = let r = claim n w w a a .recordings m p cs in (r .reply, r .marks, r .entries)

@@ -1,8 +1,8 @@
 -- After each accepted call the letter counts in lent memory are those of the letters in memory (document 02, N6), said of the very definitions that the
 -- contracts cite, for every input that is not refused.
 --     counts-held                                                       the claim: the counts left are those of the letters left
---     tableau-word-held                                                 after the tableau of a word they are those of the word
---     tableau-kept, read-kept, insert-kept, move-kept                   a refusal leaves the counts, and all lent memory, as they were
+--     pair-word-held                                                    after the pair of a word they are those of the word
+--     pair-kept, read-kept, read-pair-kept, insert-kept, move-kept      a refusal leaves the counts, and all lent memory, as they were
 --     seventeen-exactly                                                 17 passes exactly the counts of the letters, and else names the first wrong one
 -- Counts that a call takes are 64 numbers, as lent memory has; those that it only gives may be any. Which of them a move changes is in
 -- MovedEntries. That a refused product leaves all outputs as they were is product-refused of products, Theory.ProductReplies. Assumes nothing.
@@ -16,16 +16,16 @@ use lib.Dec.{eqb}
 use lib.ListN.{length, getD, take}
 use lib.Seq.{length-take-le}
 use borrow.Author.Tests.{eq-eqb}
-use Rattle.grammar.specs.Reading.{Read, broken, got, readT}
+use Rattle.grammar.specs.Reading.{Read, broken, got, readP, readT}
 use Rattle.hypoplactic.specs.Words.{Inside, count, tick}
-use Rattle.hypoplactic.specs.Insertion.{Pair, insert, lettersOf, marksOf, putAt, seat}
+use Rattle.hypoplactic.specs.Insertion.{Pair, insert, pairOf, pairWith, putAt, seat}
 use Rattle.hypoplactic.specs.Moves.{Move}
 use Rattle.hypoplactic.specs.Replies.{Passes, Said, first, gives, ranTo, refused, written}
 use Rattle.hypoplactic.specs.FirstPlaces.{First}
 use Rattle.hypoplactic.specs.Counts.{countFault, countsJudged, countsOf, oneMore}
-use Rattle.hypoplactic.specs.Judgements.{fullJudged, roomJudged, tableauJudgements, tableauRooms, wordJudgements}
-use Rattle.hypoplactic.specs.TableauOperations.{insertJudgements, insertRun, insertSays, moveTableauRun, tableauRun, tableauSays, usedCells, writtenPair}
-use Rattle.hypoplactic.specs.LineReadings.{readRun, readTRun, tableauRead}
+use Rattle.hypoplactic.specs.Judgements.{fullJudged, pairJudgements, pairRooms, tableauJudgements, tableauRooms, wordJudgements}
+use Rattle.hypoplactic.specs.TableauOperations.{insertJudgements, insertRun, insertSays, moveTableauRun, pairRun, pairSays, usedCells, writtenPair}
+use Rattle.hypoplactic.specs.LineReadings.{pairRead, readPRun, readRun, readTRun, tableauRead}
 use Rattle.hypoplactic.proofs.Theory.Counts.{counts-first, counts-judged, counts-same, counts-true, counts-whole, letters-counts, snoc-counts}
 use Rattle.hypoplactic.proofs.Theory.Judgements.{letters-judged, rank-judged, used-judged}
 use Rattle.hypoplactic.proofs.Theory.Layers.{within-snoc}
@@ -34,10 +34,10 @@ use Rattle.hypoplactic.proofs.Theory.Occurrences.{count-append}
 use Rattle.hypoplactic.proofs.Theory.Pairs.{le-or-lt, length-letters}
 use Rattle.hypoplactic.proofs.Theory.Passing.{first-answer, passing-append, passing-first, refused-keeps}
 use Rattle.hypoplactic.proofs.Theory.Placing.{count-placed, length-placed, placed-at}
-use Rattle.products.specs.Products.{factorsJudgements, leftCounts, productLetters, productMarks, productRun, productSays, productWord}
+use Rattle.products.specs.Products.{factorsJudgements, productLetters, productMarks, productRun, productSays, productWord}
 use Rattle.products.proofs.Theory.ProductContents.{product-cells, product-counts}
 use Rattle.products.proofs.Theory.ProductReplies.{factors-passing, needed}
-use Rattle.letter_counts.specs.CountsHeld.{CountsHeld, Held, HeldIn, lastOf}
+use Rattle.letter_counts.specs.CountsHeld.{CountsHeld, HeldBeside, HeldIn, lastOf}
 use Rattle.letter_counts.proofs.Theory.MovedEntries.{move-passing}
 
 -- ---- 17
@@ -75,6 +75,10 @@ abbrev tableauReading : List ℕ → List ℕ → List ℕ → List ℕ → Read
 tableauReading text letters marks counts r =
     readRun text (λ v. tableauRead letters marks counts (v .0) (v .1) (v .2)) (letters, (marks, counts)) r
 
+-- And that of a P line.
+abbrev pairReading : List ℕ → Pair → List ℕ → Read (ℕ × List ℕ × List ℕ × List ℕ) → Said × (Pair × List ℕ)
+pairReading text p counts r = readRun text (λ v. pairRead p counts (v .0) (v .1) (v .2) (v .3)) (p, counts) r
+
 -- Where a call is not refused, its values and the new memory tell what is so after it.
 after-values : {A : Type 0} (P : Said × A → Type 0) (js : List Said) (vs : List ℕ) (new old : A) → Passes (first js (gives vs)) → P (gives vs, new)
     → P (ranTo (first js (gives vs)) new old)
@@ -86,22 +90,27 @@ written-held : (js : List Said) (vs us letters ms cs : List ℕ) (old : List ℕ
 written-held js vs us letters ms cs old size e p =
     after-values HeldIn js vs (written us letters, (ms, cs)) old p (e ∙ sym (ap countsOf (needed (lastOf vs) us letters size)))
 
--- The tableau of a word: the counts left are those of its letters left,
-tableau-held : (n : ℕ) (w letters marks counts : List ℕ) → Passes ((tableauRun n w letters marks counts) .0)
-    → HeldIn (tableauRun n w letters marks counts)
-unfolding tableauRun tableauSays
-tableau-held n w letters marks counts =
-    written-held (wordJudgements n w ++ tableauRooms (length w) (length letters) (length marks)) (length w ∷ []) (lettersOf w) letters
-    (written (marksOf w) marks) (countsOf w) (letters, (marks, counts)) (length-letters w) (sym (letters-counts w))
+-- The same beside a pair.
+pair-held : (js : List Said) (vs : List ℕ) (q p : Pair) (cs counts : List ℕ) → length (q .letters) ≡ lastOf vs → cs ≡ countsOf (q .letters)
+    → Passes (first js (gives vs)) → HeldBeside (ranTo (first js (gives vs)) (writtenPair q p, cs) (p, counts))
+pair-held js vs q p cs counts size e h =
+    after-values HeldBeside js vs (writtenPair q p, cs) (p, counts) h (e ∙ sym (ap countsOf (needed (lastOf vs) (q .letters) (p .letters) size)))
+
+-- The checks of the pair of a word, in order.
+abbrev wordChecks : ℕ → List ℕ → Pair → List Said
+wordChecks n w p = wordJudgements n w ++ pairRooms (length w) (length (p .letters)) (length (p .marks)) (length (p .recording))
+
+-- The pair of a word: the counts left are those of its letters left,
+word-held : (n : ℕ) (w : List ℕ) (p : Pair) (counts : List ℕ) → Passes ((pairRun n w p counts) .0) → HeldBeside (pairRun n w p counts)
+unfolding pairRun pairSays
+word-held n w p counts =
+    pair-held (wordChecks n w p) (length w ∷ []) (pairOf w) p (countsOf w) counts (length-letters w) (sym (letters-counts w))
 
 -- and of the word.
-pub tableau-word-held : (n : ℕ) (w letters marks counts : List ℕ) → Passes ((tableauRun n w letters marks counts) .0)
-    → leftCounts (tableauRun n w letters marks counts) ≡ countsOf w
-unfolding tableauRun tableauSays
-tableau-word-held n w letters marks counts p =
-    after-values (λ (r : Said × (List ℕ × (List ℕ × List ℕ))). leftCounts r ≡ countsOf w)
-    (wordJudgements n w ++ tableauRooms (length w) (length letters) (length marks)) (length w ∷ [])
-    (written (lettersOf w) letters, (written (marksOf w) marks, countsOf w)) (letters, (marks, counts)) p refl
+pub pair-word-held : (n : ℕ) (w : List ℕ) (p : Pair) (counts : List ℕ) → Passes ((pairRun n w p counts) .0) → (pairRun n w p counts) .1 .1 ≡ countsOf w
+unfolding pairRun pairSays
+pair-word-held n w p counts h =
+    after-values (λ (r : Said × (Pair × List ℕ)). r .1 .1 ≡ countsOf w) (wordChecks n w p) (length w ∷ []) (writtenPair (pairOf w) p, countsOf w) (p, counts) h refl
 
 -- The reading of a T line: the counts left are those of the letters read.
 read-held : (text letters marks counts : List ℕ) → Passes ((readTRun text letters marks counts) .0) → HeldIn (readTRun text letters marks counts)
@@ -113,6 +122,17 @@ read-held text letters marks counts p = go (readT text) p
     go (got (n, xs, ms) rest) p =
         written-held (tableauJudgements n xs ms ++ tableauRooms (length xs) (length letters) (length marks)) (n ∷ length xs ∷ []) xs letters (written ms marks)
         (countsOf xs) (letters, (marks, counts)) refl refl p
+
+-- So with a P line.
+read-pair-held : (text : List ℕ) (p : Pair) (counts : List ℕ) → Passes ((readPRun text p counts) .0) → HeldBeside (readPRun text p counts)
+unfolding readPRun
+read-pair-held text p counts h = go (readP text) h
+  where
+    go : (r : Read (ℕ × List ℕ × List ℕ × List ℕ)) → Passes ((pairReading text p counts r) .0) → HeldBeside (pairReading text p counts r)
+    go (broken rest) h = absurd h
+    go (got (n, xs, ms, rs) rest) h =
+        pair-held (pairJudgements n xs ms rs ++ pairRooms (length xs) (length (p .letters)) (length (p .marks)) (length (p .recording)))
+        (n ∷ length xs ∷ []) (pairWith xs ms rs) p (countsOf xs) counts refl refl h
 
 -- The product: the counts left are those of its letters left.
 product-held : (n : ℕ) (xs ms cs ys ns ds letters marks counts : List ℕ) → Passes ((productRun n xs ms cs ys ns ds letters marks counts) .0)
@@ -141,13 +161,12 @@ put-counts k a xs i =
 
 -- Insertion: the counts left are those of the used letters left.
 insert-held : (n used a : ℕ) (p : Pair) (cs : List ℕ) → length cs ≡ 64 → Passes ((insertRun n used a p cs) .0)
-    → Held ((insertRun n used a p cs) .0) ((insertRun n used a p cs) .1 .0 .letters) ((insertRun n used a p cs) .1 .1)
+    → HeldBeside (insertRun n used a p cs)
 unfolding insertRun insertSays insert
 insert-held n used a p cs e q =
     let xs : List ℕ = take used (p .letters) in
     let lengths : List ℕ = length (p .letters) ∷ length (p .marks) ∷ length (p .recording) ∷ [] in
-    let rooms : List Said = fullJudged used ∷ roomJudged (suc used) (length (p .letters)) ∷ roomJudged (suc used) (length (p .marks))
-    ∷ roomJudged (suc used) (length (p .recording)) ∷ [] in
+    let rooms : List Said = fullJudged used ∷ pairRooms (suc used) (length (p .letters)) (length (p .marks)) (length (p .recording)) in
     let checks : List Said = insertJudgements n used a p cs ++ rooms in
     let (rank, (short, (held, (letters, (rising, (marks, (counts, rest))))))) = passing-first checks (suc used ∷ []) q in
     let (within, low, high) = within-snoc n a xs (letters-judged n (xs ++ a ∷ []) .0 letters) in
@@ -155,7 +174,7 @@ insert-held n used a p cs e q =
     let size : length xs ≡ used = length-take-le used (p .letters) (used-judged used lengths .0 held .0) in
     let is : cs ≡ countsOf xs = counts-whole xs cs e (counts-judged cs xs .0 counts) in
     let cells : length (putAt (seat a xs) a xs) ≡ suc used = length-placed (placed-at a a (seat a xs) xs xs refl) .0 ∙ ap suc size in
-    after-values (λ (r : Said × (Pair × List ℕ)). Held (r .0) (r .1 .0 .letters) (r .1 .1)) checks (suc used ∷ [])
+    after-values HeldBeside checks (suc used ∷ [])
     (writtenPair (insert a (usedCells used p)) p, oneMore cs a) (p, cs) q
     (ap (λ (ds : List ℕ). oneMore ds a) is ∙ put-counts (seat a xs) a xs (low, omega arith)
     ∙ sym (ap countsOf (needed (suc used) (putAt (seat a xs) a xs) (p .letters) cells)))
@@ -172,15 +191,16 @@ move-held n m xs ms cs e p =
 -- ---- the claim
 
 pub counts-held : CountsHeld
-counts-held = record { tableau = tableau-held; inserted = insert-held; moved = move-held; multiplied = product-held; read = read-held }
+counts-held =
+    record { pair = word-held; inserted = insert-held; moved = move-held; multiplied = product-held; read = read-held; read-pair = read-pair-held }
 
 -- ---- refusals
 
--- The tableau of a word, refused.
-pub tableau-kept : (n : ℕ) (w letters marks counts : List ℕ) (k i : ℕ) → (tableauRun n w letters marks counts) .0 ≡ refused k i
-    → tableauRun n w letters marks counts ≡ (refused k i, (letters, (marks, counts)))
-unfolding tableauRun
-tableau-kept n w letters marks counts k i e = refused-keeps _ k i _ (letters, (marks, counts)) e
+-- The pair of a word, refused.
+pub pair-kept : (n : ℕ) (w : List ℕ) (p : Pair) (counts : List ℕ) (k i : ℕ) → (pairRun n w p counts) .0 ≡ refused k i
+    → pairRun n w p counts ≡ (refused k i, (p, counts))
+unfolding pairRun
+pair-kept n w p counts k i e = refused-keeps _ k i _ (p, counts) e
 
 -- The reading of a T line, refused.
 pub read-kept : (text letters marks counts : List ℕ) (k i : ℕ) → (readTRun text letters marks counts) .0 ≡ refused k i
@@ -192,6 +212,16 @@ read-kept text letters marks counts k i e = go (readT text) e
         → tableauReading text letters marks counts r ≡ (refused k i, (letters, (marks, counts)))
     go (broken rest) e = rw e
     go (got (n, xs, ms) rest) e = refused-keeps _ k i _ (letters, (marks, counts)) e
+
+-- The reading of a P line, refused.
+pub read-pair-kept : (text : List ℕ) (p : Pair) (counts : List ℕ) (k i : ℕ) → (readPRun text p counts) .0 ≡ refused k i
+    → readPRun text p counts ≡ (refused k i, (p, counts))
+unfolding readPRun
+read-pair-kept text p counts k i e = go (readP text) e
+  where
+    go : (r : Read (ℕ × List ℕ × List ℕ × List ℕ)) → (pairReading text p counts r) .0 ≡ refused k i → pairReading text p counts r ≡ (refused k i, (p, counts))
+    go (broken rest) e = rw e
+    go (got (n, xs, ms, rs) rest) e = refused-keeps _ k i _ (p, counts) e
 
 -- Insertion, refused.
 pub insert-kept : (n used a : ℕ) (p : Pair) (cs : List ℕ) (k i : ℕ) → (insertRun n used a p cs) .0 ≡ refused k i → insertRun n used a p cs ≡ (refused k i, (p, cs))

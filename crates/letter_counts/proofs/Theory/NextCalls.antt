@@ -1,6 +1,6 @@
 -- What the laws of letter counts are for: a tableau that one call has left another takes, and a stored tableau answers for its words. Each law has the claim
 -- that it rests on as a premise or cites it, so that none of them can say less unseen.
---     next-tableau, next-inserted, next-moved, next-product, next-read     from the claim CountsHeld: what each call leaves passes 17
+--     next-pair, next-inserted, next-moved, next-product, next-read, next-read-pair     from the claim CountsHeld: what each call leaves passes 17
 --     words-by-tableaux             from the law of column readings: the class of two words is that of their tableaux, as it is told from these
 --     weights-by-tableaux           the same of weights
 -- Assumes nothing.
@@ -13,14 +13,12 @@ use lib.ListN.{length, take}
 use Rattle.hypoplactic.specs.Words.{Accepted, tick}
 use Rattle.hypoplactic.specs.Insertion.{Pair, lettersOf, marksOf}
 use Rattle.hypoplactic.specs.Junctions.{sameClass}
-use Rattle.hypoplactic.specs.LineReadings.{readTRun}
+use Rattle.hypoplactic.specs.LineReadings.{readPRun, readTRun}
 use Rattle.hypoplactic.specs.Moves.{Move}
 use Rattle.hypoplactic.specs.Reading.{columnReading}
-use Rattle.hypoplactic.specs.Rewriting.{Joined}
 use Rattle.hypoplactic.specs.Replies.{Passes, gives}
-use Rattle.hypoplactic.specs.Ribbons.{TableauAt}
-use Rattle.hypoplactic.specs.TableauOperations.{insertRun, moveTableauRun, tableauRun}
-use Rattle.hypoplactic.specs.Weights.{Comparison, compareWeights}
+use Rattle.hypoplactic.specs.TableauOperations.{insertRun, moveTableauRun, pairRun}
+use Rattle.hypoplactic.specs.Weights.{Comparison}
 use Rattle.hypoplactic.specs.WordOperations.{comparisonNumber, sameClassSays, weightsSays}
 use Rattle.hypoplactic.specs.Counts.{countsJudged, countsOf}
 use Rattle.hypoplactic.proofs.Theory.Closure.{reading-accepted, word-tableau-at}
@@ -43,11 +41,10 @@ counts-pass : (cs xs : List ℕ) → cs ≡ countsOf xs → Passes (countsJudged
 counts-pass cs xs e = counts-judged cs xs .1 (rw e (counts-true xs))
 
 module _ (held : CountsHeld) where
-  -- The cells that the tableau of a word has filled,
-  pub next-tableau : (n : ℕ) (w letters marks counts : List ℕ) → Passes ((tableauRun n w letters marks counts) .0)
-      → Passes (countsJudged ((tableauRun n w letters marks counts) .1 .1 .1)
-      (take (cellsGiven ((tableauRun n w letters marks counts) .0)) ((tableauRun n w letters marks counts) .1 .0)))
-  next-tableau n w letters marks counts p = counts-pass _ _ (held .tableau n w letters marks counts p)
+  -- The cells that the pair of a word has filled,
+  pub next-pair : (n : ℕ) (w : List ℕ) (p : Pair) (counts : List ℕ) → Passes ((pairRun n w p counts) .0)
+      → Passes (countsJudged ((pairRun n w p counts) .1 .1) (take (cellsGiven ((pairRun n w p counts) .0)) ((pairRun n w p counts) .1 .0 .letters)))
+  next-pair n w p counts h = counts-pass _ _ (held .pair n w p counts h)
 
   -- the used cells after an insertion,
   pub next-inserted : (n used a : ℕ) (p : Pair) (cs : List ℕ) → length cs ≡ 64 → Passes ((insertRun n used a p cs) .0)
@@ -66,11 +63,15 @@ module _ (held : CountsHeld) where
       (take (cellsGiven ((productRun n xs ms cs ys ns ds letters marks counts) .0)) ((productRun n xs ms cs ys ns ds letters marks counts) .1 .0)))
   next-product n xs ms cs ys ns ds letters marks counts p = counts-pass _ _ (held .multiplied n xs ms cs ys ns ds letters marks counts p)
 
-  -- and those of a line.
+  -- and those of a T line and of a P line.
   pub next-read : (text letters marks counts : List ℕ) → Passes ((readTRun text letters marks counts) .0)
       → Passes (countsJudged ((readTRun text letters marks counts) .1 .1 .1)
       (take (cellsGiven ((readTRun text letters marks counts) .0)) ((readTRun text letters marks counts) .1 .0)))
   next-read text letters marks counts p = counts-pass _ _ (held .read text letters marks counts p)
+
+  pub next-read-pair : (text : List ℕ) (p : Pair) (counts : List ℕ) → Passes ((readPRun text p counts) .0)
+      → Passes (countsJudged ((readPRun text p counts) .1 .1) (take (cellsGiven ((readPRun text p counts) .0)) ((readPRun text p counts) .1 .0 .letters)))
+  next-read-pair text p counts h = counts-pass _ _ (held .read-pair text p counts h)
 
 -- ---- words by their stored tableaux
 

@@ -25,18 +25,14 @@ use Rattle.hypoplactic.proofs.Theory.Letters.{count-letters}
 use Rattle.hypoplactic.proofs.Theory.NextLarger.{next-same}
 use Rattle.hypoplactic.proofs.Theory.Occurrences.{count-append}
 use Rattle.hypoplactic.proofs.Theory.Pairs.{le-or-lt, length-letters, length-marks}
-use Rattle.hypoplactic.proofs.Theory.ReadBack.{read-back}
+use Rattle.hypoplactic.proofs.Theory.ReadBack.{read-back, reading-length}
 use Rattle.products.specs.Products.{productLetters, productMarks, productWord}
 
 -- ---- the column reading of one factor
 
--- It has each letter as often as the tableau,
+-- It has each letter as often as the tableau.
 pub reading-count : (xs ms : List ℕ) → Tableau xs ms → (a : ℕ) → count a (columnReading xs ms) ≡ count a xs
 reading-count xs ms h a = sym (count-letters a (columnReading xs ms)) ∙ ap (count a) (read-back xs ms h .0)
-
--- and is as long.
-reading-length : (xs ms : List ℕ) → Tableau xs ms → length (columnReading xs ms) ≡ length xs
-reading-length xs ms h = sym (length-letters (columnReading xs ms)) ∙ ap length (read-back xs ms h .0)
 
 -- ---- the product word
 

@@ -1,10 +1,10 @@
--- What the product operation replies and leaves in lent memory, beside what the tableau operation does.
+-- What the product operation replies and leaves in lent memory, beside what the operation for the pair of a word does.
 --     factors-passing               1 to 6 and 17 refuse nothing exactly for two tableaux within the limits that fit together and bring true letter counts
 --     product-result                such factors, with outputs long enough, get their product
 --     product-refused               a refusal leaves all outputs as they were
 --     product-too-long              at a rank from 1 to 64 more than 1,024 cells together are refused with 2, whatever else is wrong
---     product-of-classes            the product of the tableaux of u and v has the very reply and memory of the tableau of u ++ v;
---     product-of-any-words          and of the tableau of any word of the first's class followed by any of the second's
+--     product-of-classes            the product of the tableaux of u and v has the very reply and memory, but for the entries, of the pair of u ++ v;
+--     product-of-any-words          and of the pair of any word of the first's class followed by any of the second's
 --     products-associate            three factors have one reply and one memory, whichever two are taken first, also where it is a refusal
 --     needed                        of a list that values were written into, so many elements are those values
 --     product-left                  the cells and the letter counts that a call has written are those of the product
@@ -14,6 +14,7 @@
 use Prim.Native.Nat.{ℕ, _+_, _≤_, _<_}
 use native.Mathlib.Omega.{arith}
 use native.Mathlib.Decide.{decLe}
+use native.Mathlib.Nat.{le-refl}
 use mathlib.Core.Path.{_≡_, refl, ap, sym, _∙_}
 use mathlib.Core.List.{List, [], _∷_, _++_, append-nil}
 use mathlib.Core.Logic.{_↔_, dite}
@@ -23,11 +24,11 @@ use Rattle.hypoplactic.specs.Words.{Accepted, Inside}
 use Rattle.hypoplactic.specs.Counts.{TrueCounts, countsJudged, countsOf}
 use Rattle.hypoplactic.specs.Ribbons.{TableauAt}
 use Rattle.hypoplactic.specs.Rewriting.{Joined, same}
-use Rattle.hypoplactic.specs.Insertion.{lettersOf, marksOf}
+use Rattle.hypoplactic.specs.Insertion.{lettersOf, marksOf, pairWith}
 use Rattle.hypoplactic.specs.Reading.{columnReading}
 use Rattle.hypoplactic.specs.Replies.{gives, refused, first, written}
-use Rattle.hypoplactic.specs.Judgements.{lengthJudged, lettersJudged, marksJudged, rankJudged, risingJudged, tableauRooms, wordJudgements}
-use Rattle.hypoplactic.specs.TableauOperations.{tableauRun, tableauSays}
+use Rattle.hypoplactic.specs.Judgements.{lengthJudged, lettersJudged, marksJudged, rankJudged, risingJudged, pairRooms, tableauRooms, wordJudgements}
+use Rattle.hypoplactic.specs.TableauOperations.{pairRun, pairSays}
 use Rattle.hypoplactic.proofs.Theory.Closure.{chain-accepted, word-tableau-at}
 use Rattle.hypoplactic.proofs.Theory.Counts.{counts-judged, counts-same, counts-true, letters-true}
 use Rattle.hypoplactic.proofs.Theory.Invariants.{joined-count, joined-tableau}
@@ -37,8 +38,10 @@ use Rattle.hypoplactic.proofs.Theory.Judgements.{length-judged, room-judged}
 use Rattle.hypoplactic.proofs.Theory.Pairs.{length-letters}
 use Rattle.hypoplactic.proofs.Theory.Memory.{written-needed}
 use Rattle.hypoplactic.proofs.Theory.Passing.{Passing, first-past, passes-further, passes-nearer, ran-answer, refused-keeps}
+use Rattle.hypoplactic.proofs.Theory.ReadBack.{reading-length}
 use Rattle.hypoplactic.proofs.Theory.Together.{reading-and-back}
-use Rattle.products.specs.Products.{factorsJudgements, leftCounts, leftLetters, leftMarks, productLetters, productMarks, productRun, productSays, productWord}
+use Rattle.products.specs.Products.{factorsJudgements, leftCounts, leftLetters, leftMarks, productLetters, productMarks, productRun, productSays, productWord, tableauLeft}
+use Rattle.products.proofs.Theory.PairTableaux.{rooms-past, tableau-left}
 use Rattle.products.proofs.Theory.ProductContents.{product-accepted, product-at, product-cells}
 use Rattle.products.proofs.Theory.ProductLaws.{product-of-joined, three-joined}
 
@@ -105,50 +108,53 @@ pub product-too-long : (n : ℕ) (xs ms cs ys ns ds letters marks counts : List 
 unfolding productRun productSays rankJudged lengthJudged
 product-too-long n xs ms cs ys ns ds letters marks counts i l = rw (le-ltb n 1 (i .0), le-ltb 64 n (i .1), lt-ltb 1024 (length xs + length ys) l)
 
--- ---- the product and the tableau of a word
+-- ---- the product and the pair of a word
 
 module _ (n : ℕ) (xs ms cs ys ns ds : List ℕ) (h : TableauAt n xs ms) (k : TableauAt n ys ns) (c : TrueCounts xs cs) (d : TrueCounts ys ds) where
-  -- The product of two tableaux replies what the tableau of a word does that is as long as both and is accepted where they fit together.
-  word-says : (w : List ℕ) (letters marks : ℕ) → length w ≡ length xs + length ys → (length xs + length ys ≤ 1024 → Accepted n w)
-      → productSays n xs ms cs ys ns ds letters marks ≡ tableauSays n w letters marks
-  unfolding productSays tableauSays rankJudged lengthJudged
-  word-says w letters marks size accepted = dite (decLe (length xs + length ys) 1024)
+  -- The product of two tableaux replies what the pair of a word does that is as long as both, fits the lent entries and is accepted where they fit together.
+  word-says : (w : List ℕ) (letters marks entries : ℕ) → length w ≡ length xs + length ys → (length xs + length ys ≤ 1024 → Accepted n w)
+      → length w ≤ entries → productSays n xs ms cs ys ns ds letters marks ≡ pairSays n w letters marks entries
+  unfolding productSays pairSays rankJudged lengthJudged
+  word-says w letters marks entries size accepted room = dite (decLe (length xs + length ys) 1024)
       (λ (fit : length xs + length ys ≤ 1024).
       first-past (factorsJudgements n xs ms cs ys ns ds) (tableauRooms (length xs + length ys) letters marks) _
       (factors-passing n xs ms cs ys ns ds .1 (h, k, fit, c, d))
       ∙ ap (λ (k : ℕ). first (tableauRooms k letters marks) (gives (k ∷ []))) (sym size)
-      ∙ sym (first-past (wordJudgements n w) (tableauRooms (length w) letters marks) _ (word-passing n w .1 (accepted fit))))
+      ∙ sym (rooms-past (length w) letters marks entries _ room)
+      ∙ sym (first-past (wordJudgements n w) (pairRooms (length w) letters marks entries) _ (word-passing n w .1 (accepted fit))))
       (λ (long : ¬ (length xs + length ys ≤ 1024)).
       rw (size, le-ltb n 1 (h .word .rank-low), le-ltb 64 n (h .word .rank-high), lt-ltb 1024 (length xs + length ys) (omega arith)))
 
-  -- It replies and leaves what the tableau of every word does that is joined to the product word.
-  word-run : (w letters marks counts : List ℕ) → Joined w (productWord xs ms ys ns)
-      → productRun n xs ms cs ys ns ds letters marks counts ≡ tableauRun n w letters marks counts
-  unfolding productRun tableauRun
-  word-run w letters marks counts j =
+  -- It replies and leaves what the pair of every word does that is joined to the product word.
+  word-run : (w letters marks entries counts : List ℕ) → Joined w (productWord xs ms ys ns) → length w ≤ length entries
+      → productRun n xs ms cs ys ns ds letters marks counts ≡ tableauLeft (pairRun n w (pairWith letters marks entries) counts)
+  unfolding productRun pairRun
+  word-run w letters marks entries counts j room =
       let (is-letters, is-marks) = joined-tableau j in
       let size : length w ≡ length xs + length ys
       = sym (length-letters w) ∙ ap length is-letters ∙ product-cells xs ms ys ns (h .tableau) (k .tableau) .0 in
       rw (
-        word-says w (length letters) (length marks) size (λ fit. chain-accepted (product-accepted n xs ms ys ns h k fit) (joined-sym j)),
-        is-letters,
-        is-marks,
-        counts-same w (productWord xs ms ys ns) (joined-count j),
+        word-says w (length letters) (length marks) (length entries) size (λ fit. chain-accepted (product-accepted n xs ms ys ns h k fit) (joined-sym j)) room,
+        ← is-letters,
+        ← is-marks,
+        ← counts-same w (productWord xs ms ys ns) (joined-count j),
       )
+      (sym (tableau-left (pairSays n w (length letters) (length marks) (length entries)) _ (pairWith letters marks entries) _ counts))
 
--- Of two accepted words u and v: any word of the first's class followed by any word of the second's,
-pub product-of-any-words : (n : ℕ) {u u′ v v′ : List ℕ} (letters marks counts : List ℕ) → Accepted n u → Accepted n v → Joined u′ u → Joined v′ v
+-- Of two accepted words u and v: any word of the first's class followed by any word of the second's, with any entries that have room for it,
+pub product-of-any-words : (n : ℕ) {u u′ v v′ : List ℕ} (letters marks entries counts : List ℕ) → Accepted n u → Accepted n v → Joined u′ u → Joined v′ v
+    → length (u′ ++ v′) ≤ length entries
     → productRun n (lettersOf u) (marksOf u) (countsOf u) (lettersOf v) (marksOf v) (countsOf v) letters marks counts
-    ≡ tableauRun n (u′ ++ v′) letters marks counts
-product-of-any-words n {u} {u′} {v} {v′} letters marks counts a b p q =
+    ≡ tableauLeft (pairRun n (u′ ++ v′) (pairWith letters marks entries) counts)
+product-of-any-words n {u} {u′} {v} {v′} letters marks entries counts a b p q =
     word-run n (lettersOf u) (marksOf u) (countsOf u) (lettersOf v) (marksOf v) (countsOf v) (word-tableau-at a) (word-tableau-at b)
-    (letters-true u) (letters-true v) (u′ ++ v′) letters marks counts (product-of-joined p q)
+    (letters-true u) (letters-true v) (u′ ++ v′) letters marks entries counts (product-of-joined p q)
 
--- and so the words themselves: the product of their tableaux has the very reply and leaves the very memory that the tableau of u ++ v does.
-pub product-of-classes : (n : ℕ) (u v letters marks counts : List ℕ) → Accepted n u → Accepted n v
+-- and so the words themselves: the product of their tableaux has the very reply and leaves the very tableau that the pair of u ++ v does.
+pub product-of-classes : (n : ℕ) (u v letters marks entries counts : List ℕ) → Accepted n u → Accepted n v → length (u ++ v) ≤ length entries
     → productRun n (lettersOf u) (marksOf u) (countsOf u) (lettersOf v) (marksOf v) (countsOf v) letters marks counts
-    ≡ tableauRun n (u ++ v) letters marks counts
-product-of-classes n u v letters marks counts a b = product-of-any-words n letters marks counts a b same same
+    ≡ tableauLeft (pairRun n (u ++ v) (pairWith letters marks entries) counts)
+product-of-classes n u v letters marks entries counts a b = product-of-any-words n letters marks entries counts a b same same
 
 -- ---- three factors, and the unit
 
@@ -167,9 +173,9 @@ products-associate n xs ms cs ys ns zs os es letters marks counts h k l c e =
     dite (decLe (length xs + length ys + length zs) 1024)
     (λ (fit : length xs + length ys + length zs ≤ 1024).
     word-run n (productLetters xs ms ys ns) (productMarks xs ms ys ns) left zs os es (product-at n xs ms ys ns h k (omega arith)) l
-    (letters-true (productWord xs ms ys ns)) e w letters marks counts (joined-sym (three-joined xs ms ys ns zs os))
+    (letters-true (productWord xs ms ys ns)) e w letters marks w counts (joined-sym (three-joined xs ms ys ns zs os)) (le-refl (length w))
     ∙ sym (word-run n xs ms cs (productLetters ys ns zs os) (productMarks ys ns zs os) right h (product-at n ys ns zs os k l (omega arith))
-    c (letters-true (productWord ys ns zs os)) w letters marks counts same))
+    c (letters-true (productWord ys ns zs os)) w letters marks w counts same (le-refl (length w))))
     (λ (long : ¬ (length xs + length ys + length zs ≤ 1024)).
     let rank : Inside 64 n = (h .word .rank-low, h .word .rank-high) in
     product-too-long n (productLetters xs ms ys ns) (productMarks xs ms ys ns) left zs os es letters marks counts rank (omega arith)
@@ -181,22 +187,26 @@ empty-at h = record { word = record { rank-low = h .word .rank-low; rank-high = 
 
 module _ (n : ℕ) (xs ms cs letters marks counts : List ℕ) (h : TableauAt n xs ms) (c : TrueCounts xs cs)
     (p : length xs ≤ length letters) (q : length xs ≤ length marks) where
+  -- A list as long as the letters has room for the entries of their column reading.
+  read-short : length (columnReading xs ms) ≤ length xs
+  read-short = omega (arith, reading-length xs ms (h .tableau))
+
   -- The empty tableau first: the other factor is written,
   pub empty-before : productRun n [] [] (countsOf []) xs ms cs letters marks counts
       ≡ (gives (length xs ∷ []), (written xs letters, (written ms marks, countsOf xs)))
   unfolding productWord columnReading
   empty-before =
-      word-run n [] [] (countsOf []) xs ms cs (empty-at h) h (counts-true []) c (columnReading xs ms) letters marks counts same
-      ∙ reading-and-back n xs ms letters marks counts h p q
+      word-run n [] [] (countsOf []) xs ms cs (empty-at h) h (counts-true []) c (columnReading xs ms) letters marks xs counts same read-short
+      ∙ ap tableauLeft (reading-and-back n xs ms (pairWith letters marks xs) counts h p q (le-refl (length xs)))
 
   -- and so with the empty tableau second.
   pub empty-after : productRun n xs ms cs [] [] (countsOf []) letters marks counts
       ≡ (gives (length xs ∷ []), (written xs letters, (written ms marks, countsOf xs)))
   unfolding productWord columnReading
   empty-after =
-      word-run n xs ms cs [] [] (countsOf []) h (empty-at h) c (counts-true []) (columnReading xs ms) letters marks counts
-      (joined-eq (sym (append-nil (columnReading xs ms))))
-      ∙ reading-and-back n xs ms letters marks counts h p q
+      word-run n xs ms cs [] [] (countsOf []) h (empty-at h) c (counts-true []) (columnReading xs ms) letters marks xs counts
+      (joined-eq (sym (append-nil (columnReading xs ms)))) read-short
+      ∙ ap tableauLeft (reading-and-back n xs ms (pairWith letters marks xs) counts h p q (le-refl (length xs)))
 
 -- ---- calls one after the other
 
