@@ -3,3 +3,4 @@ pub mod Numbers
 pub mod Scanning
 pub mod Chains
 pub mod Running
+pub mod Outcomes

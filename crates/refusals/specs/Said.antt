@@ -4,7 +4,7 @@
 --     saidRefusal        a refusal
 --     saidFault k        the first fault that a scan for refusal k finds
 --     saidVerdict, saidMove, saidRepeat, saidJunctions, saidNumbered, saidClass, saidWeights, saidWritten, saidInserted, saidCell, saidWordLine, saidTableauLine,
---     saidRecordingLine
+--     saidPairLine
 --                        the answers
 -- That each of them tells all cases apart is proofs/Theory/Apart. Assumes nothing.
 use Prim.Native.Nat.{ℕ}
@@ -38,8 +38,8 @@ use Rattle.refusals.specs.declared.answers.WordLine.{WordLine}
 use Rattle.refusals.specs.declared.answers.WordLine.the-variants as wordLine
 use Rattle.refusals.specs.declared.answers.TableauLine.{TableauLine}
 use Rattle.refusals.specs.declared.answers.TableauLine.the-variants as tableauLine
-use Rattle.refusals.specs.declared.answers.RecordingLine.{RecordingLine}
-use Rattle.refusals.specs.declared.answers.RecordingLine.the-variants as recordingLine
+use Rattle.refusals.specs.declared.answers.PairLine.{PairLine}
+use Rattle.refusals.specs.declared.answers.PairLine.the-variants as pairLine
 
 abbrev pub number : Refusal → ℕ
 number Rank = 1
@@ -149,7 +149,7 @@ abbrev pub saidTableauLine : TableauLine → Said
 saidTableauLine (tableauLine.Tableau n l) = gives (n ∷ l ∷ [])
 saidTableauLine (tableauLine.Refused r) = saidRefusal r
 
--- The number of entries.
-abbrev pub saidRecordingLine : RecordingLine → Said
-saidRecordingLine (recordingLine.Recording l) = gives (l ∷ [])
-saidRecordingLine (recordingLine.Refused r) = saidRefusal r
+-- Rank and number of cells.
+abbrev pub saidPairLine : PairLine → Said
+saidPairLine (pairLine.Pair n l) = gives (n ∷ l ∷ [])
+saidPairLine (pairLine.Refused r) = saidRefusal r

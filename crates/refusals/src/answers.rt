@@ -85,8 +85,8 @@ pub enum TableauLine {
     Refused(Refusal),
 }
 
-// What the reader of an N line answers: the number of entries.
-pub enum RecordingLine {
-    Recording(usize),
+// What the reader of a P line answers: rank and number of cells.
+pub enum PairLine {
+    Pair(usize, usize),
     Refused(Refusal),
 }

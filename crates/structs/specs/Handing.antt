@@ -10,7 +10,7 @@ use Prim.Native.Nat.{ℕ}
 use mathlib.Core.Path.{_≡_, _∙_}
 use borrow.Author.Needs.{needs}
 use Rattle.hypoplactic.specs.Replies.{Said, refused}
-use Rattle.refusals.specs.Said.{number, place, saidRefusal, saidVerdict, saidMove, saidWritten, saidInserted, saidRepeat, saidRecordingLine, saidClass, saidWeights, saidJunctions, saidNumbered, saidWordLine, saidTableauLine, saidCell}
+use Rattle.refusals.specs.Said.{number, place, saidRefusal, saidVerdict, saidMove, saidWritten, saidInserted, saidRepeat, saidClass, saidWeights, saidJunctions, saidNumbered, saidWordLine, saidTableauLine, saidPairLine, saidCell}
 use Rattle.refusals.specs.declared.refusal.Refusal.{Refusal}
 use Rattle.refusals.specs.declared.refusal.Refusal.the-variants.{Line}
 use Rattle.refusals.specs.declared.answers.Verdict.{Verdict}
@@ -18,8 +18,6 @@ use Rattle.refusals.specs.declared.answers.Move.{Move}
 use Rattle.refusals.specs.declared.answers.Written.{Written}
 use Rattle.refusals.specs.declared.answers.Inserted.{Inserted}
 use Rattle.refusals.specs.declared.answers.Repeat.{Repeat}
-use Rattle.refusals.specs.declared.answers.RecordingLine.{RecordingLine}
-use Rattle.refusals.specs.declared.answers.RecordingLine.the-variants as recordingLine
 use Rattle.refusals.specs.declared.answers.Class.{Class}
 use Rattle.refusals.specs.declared.answers.Weights.{Weights}
 use Rattle.refusals.specs.declared.answers.Junctions.{Junctions}
@@ -28,6 +26,8 @@ use Rattle.refusals.specs.declared.answers.WordLine.{WordLine}
 use Rattle.refusals.specs.declared.answers.WordLine.the-variants as wordLine
 use Rattle.refusals.specs.declared.answers.TableauLine.{TableauLine}
 use Rattle.refusals.specs.declared.answers.TableauLine.the-variants as tableauLine
+use Rattle.refusals.specs.declared.answers.PairLine.{PairLine}
+use Rattle.refusals.specs.declared.answers.PairLine.the-variants as pairLine
 use Rattle.refusals.specs.declared.answers.Cell.{Cell}
 use Rattle.structs.specs.declared.replies.DoneReply.{DoneReply}
 use Rattle.structs.specs.declared.replies.MoveReply.{MoveReply}
@@ -112,9 +112,6 @@ inserted-case e h = rw e h
 pub repeat-case : {a b : Repeat} {r : CountReply} → a ≡ b → r ≡ countOf (saidRepeat b) → r ≡ countOf (saidRepeat a)
 repeat-case e h = rw e h
 
-pub recording-line-case : {a b : RecordingLine} {r : CountReply} → a ≡ b → r ≡ countOf (saidRecordingLine b) → r ≡ countOf (saidRecordingLine a)
-recording-line-case e h = rw e h
-
 pub class-case : {a b : Class} {r : ClassReply} → a ≡ b → r ≡ classOf (saidClass b) → r ≡ classOf (saidClass a)
 class-case e h = rw e h
 
@@ -133,6 +130,9 @@ word-line-case e h = rw e h
 pub tableau-line-case : {a b : TableauLine} {r : LineReply} → a ≡ b → r ≡ lineOf (saidTableauLine b) → r ≡ lineOf (saidTableauLine a)
 tableau-line-case e h = rw e h
 
+pub pair-line-case : {a b : PairLine} {r : LineReply} → a ≡ b → r ≡ lineOf (saidPairLine b) → r ≡ lineOf (saidPairLine a)
+pair-line-case e h = rw e h
+
 pub cell-case : {a b : Cell} {r : CellReply} → a ≡ b → r ≡ cellOf (saidCell b) → r ≡ cellOf (saidCell a)
 cell-case e h = rw e h
 
@@ -147,9 +147,9 @@ abbrev pub refusedTableau : TableauLine → Refusal
 refusedTableau (tableauLine.Tableau n l) = Line 0
 refusedTableau (tableauLine.Refused q) = q
 
-abbrev pub refusedRecording : RecordingLine → Refusal
-refusedRecording (recordingLine.Recording l) = Line 0
-refusedRecording (recordingLine.Refused q) = q
+abbrev pub refusedPair : PairLine → Refusal
+refusedPair (pairLine.Pair n l) = Line 0
+refusedPair (pairLine.Refused q) = q
 
 pub word-refused-told : {a : WordLine} {q p : Refusal} {r : LineReply} → a ≡ wordLine.Refused q → p ≡ refusedWord a
     → r ≡ lineOf (saidRefusal p) → r ≡ lineOf (saidWordLine a)
@@ -159,9 +159,9 @@ pub tableau-refused-told : {a : TableauLine} {q p : Refusal} {r : LineReply} →
     → r ≡ lineOf (saidRefusal p) → r ≡ lineOf (saidTableauLine a)
 tableau-refused-told e f h = rw e (h ∙ rw (f, e))
 
-pub recording-refused-told : {a : RecordingLine} {q p : Refusal} {r : CountReply} → a ≡ recordingLine.Refused q → p ≡ refusedRecording a
-    → r ≡ countOf (saidRefusal p) → r ≡ countOf (saidRecordingLine a)
-recording-refused-told e f h = rw e (h ∙ rw (f, e))
+pub pair-refused-told : {a : PairLine} {q p : Refusal} {r : LineReply} → a ≡ pairLine.Refused q → p ≡ refusedPair a
+    → r ≡ lineOf (saidRefusal p) → r ≡ lineOf (saidPairLine a)
+pair-refused-told e f h = rw e (h ∙ rw (f, e))
 
 pub ruleset replying = (
   passed-on,
@@ -186,16 +186,16 @@ pub ruleset replying = (
   written-case,
   inserted-case,
   repeat-case,
-  recording-line-case,
   class-case,
   weights-case,
   junctions-case,
   numbered-case,
   word-line-case,
   tableau-line-case,
+  pair-line-case,
   cell-case,
   word-refused-told,
   tableau-refused-told,
-  recording-refused-told,
+  pair-refused-told,
   needs,
 )

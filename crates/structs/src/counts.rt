@@ -36,7 +36,7 @@ pub fn done_verdict(answer: Verdict) -> DoneReply
 }
 
 // A count.
-pub(crate) fn counted(count: usize) -> CountReply
+fn counted(count: usize) -> CountReply
     ensures { λ r. ⌜ r ≡ record { number = 0; place = 0; count = count } ⌝ }
 {
     CountReply {
@@ -47,7 +47,7 @@ pub(crate) fn counted(count: usize) -> CountReply
 }
 
 // A refusal of a count: the values are 0.
-pub(crate) fn count_refused(refusal: Refusal) -> CountReply
+fn count_refused(refusal: Refusal) -> CountReply
     ensures { λ r. ⌜ r ≡ countOf (saidRefusal refusal) ⌝ }
 {
     let told = number_and_place(refusal);

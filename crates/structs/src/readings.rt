@@ -1,37 +1,14 @@
 // What readers of lines answer, as structs of the C interface.
-use crate::counts::count_refused;
-use crate::counts::counted;
-use crate::replies::CountReply;
 use crate::replies::LineReply;
-use refusals::answers::RecordingLine;
+use refusals::answers::PairLine;
 use refusals::answers::TableauLine;
 use refusals::answers::WordLine;
 use refusals::refusal::Refusal;
 use refusals::refusal::number_and_place;
 ghost use mathlib.Core.Path.{_≡_};
-ghost use Rattle.refusals.specs.Said.{saidRecordingLine, saidRefusal, saidTableauLine, saidWordLine};
-ghost use Rattle.structs.specs.Handing.{refusedRecording, refusedTableau, refusedWord};
-ghost use Rattle.structs.specs.Replies.{countOf, lineOf};
-
-// The refusal that the reader of an N line passes on. Its caller has seen that it passes one on; what is told otherwise is never used.
-fn refused_recording(answer: RecordingLine) -> Refusal
-    ensures { λ r. ⌜ r ≡ refusedRecording answer ⌝ }
-{
-    let RecordingLine::Refused(refusal) = answer else {
-        return Refusal::Line(0);
-    };
-    refusal
-}
-
-// Entries read from an N line.
-pub fn count_recording(answer: RecordingLine) -> CountReply
-    ensures { λ r. ⌜ r ≡ countOf (saidRecordingLine answer) ⌝ }
-{
-    let RecordingLine::Recording(count) = answer else {
-        return count_refused(refused_recording(answer));
-    };
-    counted(count)
-}
+ghost use Rattle.refusals.specs.Said.{saidPairLine, saidRefusal, saidTableauLine, saidWordLine};
+ghost use Rattle.structs.specs.Handing.{refusedPair, refusedTableau, refusedWord};
+ghost use Rattle.structs.specs.Replies.{lineOf};
 
 // Rank and number of letters or cells.
 fn lined(rank: usize, count: usize) -> LineReply
@@ -94,6 +71,26 @@ pub fn tableau_line_reply(answer: TableauLine) -> LineReply
 {
     let TableauLine::Tableau(rank, count) = answer else {
         return line_refused(refused_tableau(answer));
+    };
+    lined(rank, count)
+}
+
+// The refusal that the reader of a P line passes on. Its caller has seen that it passes one on; what is told otherwise is never used.
+fn refused_pair(answer: PairLine) -> Refusal
+    ensures { λ r. ⌜ r ≡ refusedPair answer ⌝ }
+{
+    let PairLine::Refused(refusal) = answer else {
+        return Refusal::Line(0);
+    };
+    refusal
+}
+
+// A P line that was read.
+pub fn pair_line_reply(answer: PairLine) -> LineReply
+    ensures { λ r. ⌜ r ≡ lineOf (saidPairLine answer) ⌝ }
+{
+    let PairLine::Pair(rank, count) = answer else {
+        return line_refused(refused_pair(answer));
     };
     lined(rank, count)
 }

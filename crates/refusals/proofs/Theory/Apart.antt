@@ -3,7 +3,7 @@
 --     refusal-apart                                                     refusals by number and place
 --     fault-apart                                                       the faults that a scan for one refusal finds
 --     verdict-apart, move-apart, repeat-apart, junctions-apart, numbered-apart, class-apart, weights-apart, written-apart,
---     inserted-apart, cell-apart, word-line-apart, tableau-line-apart, recording-line-apart     the answers
+--     inserted-apart, cell-apart, word-line-apart, tableau-line-apart, pair-line-apart     the answers
 -- Assumes nothing.
 use Prim.Native.Nat.{ℕ, _-_}
 use mathlib.Core.Path.{_≡_, refl, sym, ap, _∙_}
@@ -38,9 +38,9 @@ use Rattle.refusals.specs.declared.answers.WordLine.{WordLine}
 use Rattle.refusals.specs.declared.answers.WordLine.the-variants as wordLine
 use Rattle.refusals.specs.declared.answers.TableauLine.{TableauLine}
 use Rattle.refusals.specs.declared.answers.TableauLine.the-variants as tableauLine
-use Rattle.refusals.specs.declared.answers.RecordingLine.{RecordingLine}
-use Rattle.refusals.specs.declared.answers.RecordingLine.the-variants as recordingLine
-use Rattle.refusals.specs.Said.{number, place, saidRefusal, saidFault, saidVerdict, saidMove, saidRepeat, saidJunctions, saidNumbered, saidClass, saidWeights, saidWritten, saidInserted, saidCell, saidWordLine, saidTableauLine, saidRecordingLine}
+use Rattle.refusals.specs.declared.answers.PairLine.{PairLine}
+use Rattle.refusals.specs.declared.answers.PairLine.the-variants as pairLine
+use Rattle.refusals.specs.Said.{number, place, saidRefusal, saidFault, saidVerdict, saidMove, saidRepeat, saidJunctions, saidNumbered, saidClass, saidWeights, saidWritten, saidInserted, saidCell, saidWordLine, saidTableauLine, saidPairLine}
 
 -- What can be found again is told apart.
 apart : {A : Type 0} (said : A → Said) (back : Said → A) → ((a : A) → back (said a) ≡ a) → (a b : A) → said a ≡ said b → a ≡ b
@@ -206,10 +206,10 @@ tableau-line-again (tableauLine.Refused r) = ap tableauLine.Refused (row-of r)
 pub tableau-line-apart : (a b : TableauLine) → saidTableauLine a ≡ saidTableauLine b → a ≡ b
 tableau-line-apart = apart saidTableauLine (answer (λ vs. tableauLine.Tableau (getD vs 0 0) (getD vs 1 0)) tableauLine.Refused) tableau-line-again
 
-recording-line-again : (a : RecordingLine) → answer (λ vs. recordingLine.Recording (getD vs 0 0)) recordingLine.Refused (saidRecordingLine a) ≡ a
+pair-line-again : (a : PairLine) → answer (λ vs. pairLine.Pair (getD vs 0 0) (getD vs 1 0)) pairLine.Refused (saidPairLine a) ≡ a
 unfolding answer
-recording-line-again (recordingLine.Recording l) = refl
-recording-line-again (recordingLine.Refused r) = ap recordingLine.Refused (row-of r)
+pair-line-again (pairLine.Pair n l) = refl
+pair-line-again (pairLine.Refused r) = ap pairLine.Refused (row-of r)
 
-pub recording-line-apart : (a b : RecordingLine) → saidRecordingLine a ≡ saidRecordingLine b → a ≡ b
-recording-line-apart = apart saidRecordingLine (answer (λ vs. recordingLine.Recording (getD vs 0 0)) recordingLine.Refused) recording-line-again
+pub pair-line-apart : (a b : PairLine) → saidPairLine a ≡ saidPairLine b → a ≡ b
+pair-line-apart = apart saidPairLine (answer (λ vs. pairLine.Pair (getD vs 0 0) (getD vs 1 0)) pairLine.Refused) pair-line-again

@@ -28,8 +28,8 @@ use Rattle.refusals.specs.declared.answers.Inserted.the-variants as inse
 use Rattle.refusals.specs.declared.answers.Cell.the-variants as cell
 use Rattle.refusals.specs.declared.answers.WordLine.the-variants as wordLine
 use Rattle.refusals.specs.declared.answers.TableauLine.the-variants as tableauLine
-use Rattle.refusals.specs.declared.answers.RecordingLine.the-variants as recordingLine
-use Rattle.refusals.specs.Said.{saidRefusal, saidFault, saidVerdict, saidMove, saidRepeat, saidJunctions, saidNumbered, saidClass, saidWeights, saidWritten, saidInserted, saidCell, saidWordLine, saidTableauLine, saidRecordingLine}
+use Rattle.refusals.specs.declared.answers.PairLine.the-variants as pairLine
+use Rattle.refusals.specs.Said.{saidRefusal, saidFault, saidVerdict, saidMove, saidRepeat, saidJunctions, saidNumbered, saidClass, saidWeights, saidWritten, saidInserted, saidCell, saidWordLine, saidTableauLine, saidPairLine}
 
 -- The rows of the tables.
 pub refusal-table : (p : ℕ)
@@ -49,9 +49,9 @@ pub answer-values : (a b c : ℕ)
     → saidVerdict verdict.Passed ∷ saidMove (move.Made a) ∷ saidRepeat (repeat.Times a) ∷ saidJunctions (junctions.Found a b)
     ∷ saidNumbered (numbered.Number a)
     ∷ saidWritten (written.Elements a) ∷ saidInserted (inserted.Used a) ∷ saidCell (cell.Found a b c) ∷ saidCell cell.NoSuchCell
-    ∷ saidWordLine (wordLine.Word a b) ∷ saidTableauLine (tableauLine.Tableau a b) ∷ saidRecordingLine (recordingLine.Recording a) ∷ []
+    ∷ saidWordLine (wordLine.Word a b) ∷ saidTableauLine (tableauLine.Tableau a b) ∷ saidPairLine (pairLine.Pair a b) ∷ []
     ≡ gives [] ∷ gives (a ∷ []) ∷ gives (a ∷ []) ∷ gives (a ∷ b ∷ []) ∷ gives (a ∷ []) ∷ gives (a ∷ []) ∷ gives (a ∷ []) ∷ gives (a ∷ b ∷ c ∷ []) ∷ gives []
-    ∷ gives (a ∷ b ∷ []) ∷ gives (a ∷ b ∷ []) ∷ gives (a ∷ []) ∷ []
+    ∷ gives (a ∷ b ∷ []) ∷ gives (a ∷ b ∷ []) ∷ gives (a ∷ b ∷ []) ∷ []
 answer-values a b c = refl
 
 -- Yes is 1, no is 0, as sameClassSays gives them.
@@ -70,6 +70,6 @@ pub passed-on : (r : Refusal)
     ∷ saidNumbered (numbered.Refused r)
     ∷ saidClass (class.Refused r) ∷ saidWeights (weights.Refused r) ∷ saidWritten (written.Refused r) ∷ saidInserted (inserted.Refused r)
     ∷ saidCell (cell.Refused r) ∷ saidWordLine (wordLine.Refused r) ∷ saidTableauLine (tableauLine.Refused r)
-    ∷ saidRecordingLine (recordingLine.Refused r) ∷ []
+    ∷ saidPairLine (pairLine.Refused r) ∷ []
     ≡ replicate 13 (saidRefusal r)
 passed-on r = refl

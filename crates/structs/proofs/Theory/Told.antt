@@ -1,14 +1,14 @@
 -- Nothing of an answer is lost at the C interface: a struct, read as the C header says, says what the answer says, so no two answers share a struct. By
 -- refusals' Theory/Apart what is said fixes the answer.
 --     refusal-numbers                  a refusal's number is 1 to 17, never 0
---     verdict-told, move-told, written-told, inserted-told, repeat-told, recording-line-told, class-told, weights-told, junctions-told, numbered-told,
---     word-line-told, tableau-line-told, cell-told     the answers
+--     verdict-told, move-told, written-told, inserted-told, repeat-told, class-told, weights-told, junctions-told, numbered-told,
+--     word-line-told, tableau-line-told, pair-line-told, cell-told     the answers
 -- Assumes nothing.
 use Prim.Native.Nat.{ℕ, _≤_}
 use mathlib.Core.Path.{_≡_, refl}
 use mathlib.Core.List.{List}
 use native.Mathlib.Omega.{arith}
-use Rattle.refusals.specs.Said.{number, place, saidRefusal, saidVerdict, saidMove, saidWritten, saidInserted, saidRepeat, saidRecordingLine, saidClass, saidWeights, saidJunctions, saidNumbered, saidWordLine, saidTableauLine, saidCell}
+use Rattle.refusals.specs.Said.{number, place, saidRefusal, saidVerdict, saidMove, saidWritten, saidInserted, saidRepeat, saidClass, saidWeights, saidJunctions, saidNumbered, saidWordLine, saidTableauLine, saidPairLine, saidCell}
 use Rattle.refusals.specs.declared.refusal.Refusal.{Refusal}
 use Rattle.refusals.specs.declared.refusal.Refusal.the-variants.{Rank, Length, Parts, Letter, Falling, Mark, Entry, Step, Index, Inversion, NoLetter, Full, Room, Line, Large, PastLast, Count}
 use Rattle.refusals.specs.declared.answers.Verdict.{Verdict}
@@ -21,8 +21,6 @@ use Rattle.refusals.specs.declared.answers.Inserted.{Inserted}
 use Rattle.refusals.specs.declared.answers.Inserted.the-variants as inserted
 use Rattle.refusals.specs.declared.answers.Repeat.{Repeat}
 use Rattle.refusals.specs.declared.answers.Repeat.the-variants as repeat
-use Rattle.refusals.specs.declared.answers.RecordingLine.{RecordingLine}
-use Rattle.refusals.specs.declared.answers.RecordingLine.the-variants as recordingLine
 use Rattle.refusals.specs.declared.answers.Class.{Class}
 use Rattle.refusals.specs.declared.answers.Class.the-variants as class
 use Rattle.refusals.specs.declared.answers.Weights.{Weights}
@@ -35,6 +33,8 @@ use Rattle.refusals.specs.declared.answers.WordLine.{WordLine}
 use Rattle.refusals.specs.declared.answers.WordLine.the-variants as wordLine
 use Rattle.refusals.specs.declared.answers.TableauLine.{TableauLine}
 use Rattle.refusals.specs.declared.answers.TableauLine.the-variants as tableauLine
+use Rattle.refusals.specs.declared.answers.PairLine.{PairLine}
+use Rattle.refusals.specs.declared.answers.PairLine.the-variants as pairLine
 use Rattle.refusals.specs.declared.answers.Cell.{Cell}
 use Rattle.refusals.specs.declared.answers.Cell.the-variants as cell
 use Rattle.structs.specs.Replies.{doneOf, moveOf, countOf, classOf, orderOf, junctionOf, valueOf, lineOf, cellOf, tells, doneTells, moveTells, countTells, classTells, orderTells, junctionTells, valueTells, lineTells, cellTells}
@@ -101,10 +101,6 @@ pub repeat-told : (a : Repeat) → countTells (countOf (saidRepeat a)) ≡ saidR
 repeat-told (repeat.Times n) = refl
 repeat-told (repeat.Refused r) = refused-told r _
 
-pub recording-line-told : (a : RecordingLine) → countTells (countOf (saidRecordingLine a)) ≡ saidRecordingLine a
-recording-line-told (recordingLine.Recording n) = refl
-recording-line-told (recordingLine.Refused r) = refused-told r _
-
 pub class-told : (a : Class) → classTells (classOf (saidClass a)) ≡ saidClass a
 class-told class.Same = refl
 class-told class.Different = refl
@@ -132,6 +128,10 @@ word-line-told (wordLine.Refused r) = refused-told r _
 pub tableau-line-told : (a : TableauLine) → lineTells (lineOf (saidTableauLine a)) ≡ saidTableauLine a
 tableau-line-told (tableauLine.Tableau n l) = refl
 tableau-line-told (tableauLine.Refused r) = refused-told r _
+
+pub pair-line-told : (a : PairLine) → lineTells (lineOf (saidPairLine a)) ≡ saidPairLine a
+pair-line-told (pairLine.Pair n l) = refl
+pair-line-told (pairLine.Refused r) = refused-told r _
 
 pub cell-told : (a : Cell) → cellTells (cellOf (saidCell a)) ≡ saidCell a
 cell-told (cell.Found a r c) = refl
