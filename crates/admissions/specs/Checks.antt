@@ -18,7 +18,7 @@ use mathlib.Core.List.{List, [], _∷_, _++_}
 use mathlib.Core.Bool.{Bool, true, false}
 use lib.ListN.{length, take}
 use borrow.Author.Needs.{needs}
-use Rattle.hypoplactic.specs.Insertion.{Pair}
+use Rattle.hypoplactic.specs.Insertion.{Pair, pairWith}
 use Rattle.hypoplactic.specs.Replies.{Said, passed, orElse, first, refuseIf}
 use Rattle.hypoplactic.specs.Counts.{countsJudged}
 use Rattle.hypoplactic.specs.Judgements.{entriesJudged, fullJudged, lengthJudged, lettersFrom, lettersJudged, marksJudged, outside, rankJudged, recordingJudged, risingJudged, roomJudged, usedJudged}
@@ -29,10 +29,6 @@ use Rattle.refusals.specs.Said.{saidRefusal, saidVerdict}
 use Rattle.refusals.specs.declared.refusal.Refusal.{Refusal}
 use Rattle.refusals.specs.declared.answers.Verdict.{Verdict}
 use Rattle.refusals.specs.declared.answers.Verdict.the-variants.{Passed, Refused}
-
--- Three lists as a pair.
-abbrev pub pairWith : List ℕ → List ℕ → List ℕ → Pair
-pairWith xs ms rs = record { letters = xs; marks = ms; recording = rs }
 
 -- 1, 2 and 3, from the lengths of the three lists.
 abbrev pub sizeJudgements : ℕ → ℕ → ℕ → ℕ → ℕ → List Said

@@ -16,10 +16,11 @@ ghost use Prim.Native.Nat.{_+_, _≤_};
 ghost use mathlib.Core.Path.{_≡_};
 ghost use mathlib.Core.List.{[], _∷_, _++_};
 ghost use lib.ListN.{length};
+ghost use Rattle.hypoplactic.specs.Insertion.{pairWith};
 ghost use Rattle.hypoplactic.specs.Replies.{first, passed};
 ghost use Rattle.hypoplactic.specs.Judgements.{lettersJudged};
 ghost use Rattle.refusals.specs.Said.{saidVerdict};
-ghost use Rattle.admissions.specs.Checks.{Held, cellJudgements, insertChecks, pairWith, roomJudgements, sizeJudgements, usedChecks};
+ghost use Rattle.admissions.specs.Checks.{Held, cellJudgements, insertChecks, roomJudgements, sizeJudgements, usedChecks};
 
 // 1, 2 and 3: what must pass before the used cells can be looked at.
 fn check_sizes(rank: usize, used: usize, letters: usize, marks: usize, entries: usize) -> Verdict

@@ -12,17 +12,16 @@ use lib.ListN.{length, set, take}
 use borrow.Author.Needs.{needs}
 use Rattle.hypoplactic.specs.Words.{Accepted}
 use Rattle.hypoplactic.specs.Ribbons.{Tableau, TableauAt}
-use Rattle.hypoplactic.specs.Insertion.{lettersOf, marksOf}
+use Rattle.hypoplactic.specs.Insertion.{Pair, lettersOf, marksOf, pairOf, pairWith}
 use Rattle.hypoplactic.specs.Replies.{Said, first, gives, passed, ranTo, written}
-use Rattle.hypoplactic.specs.Counts.{countsOf}
 use Rattle.hypoplactic.specs.Judgements.{countedJudgements, roomJudged, wordJudgements}
-use Rattle.hypoplactic.specs.TableauOperations.{tableauRun}
+use Rattle.hypoplactic.specs.TableauOperations.{pairRun, writtenPair}
 use Rattle.hypoplactic.proofs.Theory.Judged.{counted-passing, word-passing}
 use Rattle.hypoplactic.proofs.Theory.Judgements.{alike-judged, room-judged}
 use Rattle.hypoplactic.proofs.Theory.Memory.{written-needed}
 use Rattle.hypoplactic.proofs.Theory.Pairs.{length-letters, length-marks}
 use Rattle.hypoplactic.proofs.Theory.Passing.{Passing, first-else, first-past, ran-answer}
-use Rattle.hypoplactic.proofs.Theory.Results.{tableau-result}
+use Rattle.hypoplactic.proofs.Theory.Results.{pair-result}
 use Rattle.numbering.specs.Dictionary.{classNumber, classSize, classWord}
 use Rattle.numbering.specs.Operations.{classJudgements, classNumberSays, classSizeSays, classWordRun, classWordSays, numberJudged, smallJudged}
 use Rattle.numbering.specs.Orders.{across, freed, headOf, orders, placeOf, tally, wordAt}
@@ -152,27 +151,26 @@ module _ {v : Verdict} (n : ℕ) (w : List ℕ) (e : saidVerdict v ≡ checksThe
   unfolding classNumberSays checksThen
   number-refused r q = stops r (first (judged n w) passed) (gives (classNumber n w ∷ [])) e q ∙ first-else (judged n w) _
 
-  -- Where it passes, the tableau of the word stands in two lists of 20 elements.
-  module _ (q : v ≡ Passed) (ls ks ps us vs qs : List ℕ) (made : Said) (d : length ls ≡ 20) (c : length ks ≡ 20)
-      (t : (made, (us, (vs, qs))) ≡ tableauRun n w ls ks ps) where
+  -- Where it passes, the pair of the word stands in three lists of 20 elements.
+  module _ (q : v ≡ Passed) (ls ks js cs us vs rs ds : List ℕ) (made : Said) (d : length ls ≡ 20) (c : length ks ≡ 20) (b : length js ≡ 20)
+      (t : (made, (pairWith us vs rs, ds)) ≡ pairRun n w (pairWith ls ks js) cs) where
     accepted : Accepted n w
     accepted = word-passing n w .0 (then-passing _ _ e q .0)
 
     few : length w ≤ 20
     few = small-judged (length w) .0 (then-passing _ _ e q .1 .0)
 
-    ran : _≡_ {A = List ℕ × (List ℕ × List ℕ)} (us, (vs, qs)) (written (lettersOf w) ls, (written (marksOf w) ks, countsOf w))
+    ran : pairWith us vs rs ≡ writtenPair (pairOf w) (pairWith ls ks js)
     ran =
-        ap (λ (o : Said × (List ℕ × (List ℕ × List ℕ))). o .1) (t ∙ tableau-result n w accepted ls ks ps (omega (arith, few)) (omega (arith, few)))
+        ap (λ (o : Said × (Pair × List ℕ)). o .1 .0)
+        (t ∙ pair-result n w accepted (pairWith ls ks js) cs (omega (arith, few)) (omega (arith, few)) (omega (arith, few)))
 
     letters-in : take (length w) us ≡ lettersOf w
-    letters-in =
-        ap₂ take (sym (length-letters w)) (ap (λ (o : List ℕ × (List ℕ × List ℕ)). o .0) ran) ∙ written-needed (lettersOf w) ls
+    letters-in = ap₂ take (sym (length-letters w)) (ap (λ (p : Pair). p .letters) ran) ∙ written-needed (lettersOf w) ls
 
     marks-in : take (length w) (set vs 0 2) ≡ freed (marksOf w)
     marks-in =
-        take-freed (length w) vs (marksOf w)
-        (ap₂ take (sym (length-marks w)) (ap (λ (o : List ℕ × (List ℕ × List ℕ)). o .1 .0) ran) ∙ written-needed (marksOf w) ks)
+        take-freed (length w) vs (marksOf w) (ap₂ take (sym (length-marks w)) (ap (λ (p : Pair). p .marks) ran) ∙ written-needed (marksOf w) ks)
 
     place-is : placeHeld w us (set vs 0 2) ≡ placeOf w (lettersOf w) (freed (marksOf w))
     place-is = ap₂ (placeOf w) letters-in marks-in

@@ -9,7 +9,7 @@ use refusals::answers::Numbered;
 use refusals::answers::Verdict;
 use refusals::answers::Written;
 use ribbon_orders::orders::orders_of;
-use ribbons::tableau::tableau_of_word;
+use ribbons::pair::pair_of_word;
 ghost use mathlib.Core.Path.{_≡_};
 ghost use Rattle.numbering.specs.Operations.{classNumberSays, classSizeSays, classWordRun};
 ghost use Rattle.refusals.specs.Said.{saidNumbered, saidWritten};
@@ -61,8 +61,16 @@ pub fn class_number(rank: usize, word: &[u8]) -> Numbered
     }
     let mut letters = [0u8; 20];
     let mut marks = [0u8; 20];
+    let mut entries = [0u16; 20];
     let mut counts = [0u16; 64];
-    tableau_of_word(rank, word, &mut letters, &mut marks, &mut counts);
+    pair_of_word(
+        rank,
+        word,
+        &mut letters,
+        &mut marks,
+        &mut entries,
+        &mut counts,
+    );
     // The step into the first cell is free.
     marks[0] = 2;
     Numbered::Number(number_in(letters, marks, word))

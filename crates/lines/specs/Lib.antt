@@ -1,2 +1,1 @@
-pub mod Outcomes
 pub mod TableauLine

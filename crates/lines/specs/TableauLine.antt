@@ -1,22 +1,21 @@
--- The tableau line of a word from what the tableau's operation answers, into letters and marks that have room for every accepted word.
---     Made                     the tableau stands in the first cells of both
+-- The tableau line of a word from what the pair's operation answers, into letters, marks and entries that have room for every accepted word.
+--     Made                     the tableau stands in the first cells of letters and marks
 --     tableau-made             it does where the answer tells cells
---     Reached, cells-reach     so many cells can be taken of both
+--     Reached, cells-reach     so many cells can be taken of both lists
 --     made-refused, made-line  the tableau line's reply, from a refusal and from the reply of the T line's writer
 --     lining                   the ruleset of the tableau line
 -- Assumes nothing.
 use Prim.Native.Nat.{ℕ, _-_, _≤_}
-use mathlib.Core.Path.{_≡_, refl, sym, ap, _∙_}
+use mathlib.Core.Path.{_≡_, sym, ap, _∙_}
 use mathlib.Core.List.{List, [], _∷_}
 use native.Mathlib.Omega.{arith}
-use lib.ListN.{length, take, getD}
+use lib.ListN.{length, take}
 use borrow.Author.Needs.{needs}
 use Rattle.hypoplactic.specs.Words.{Accepted}
-use Rattle.hypoplactic.specs.Insertion.{lettersOf, marksOf}
-use Rattle.hypoplactic.specs.Counts.{countsOf}
+use Rattle.hypoplactic.specs.Insertion.{Pair, lettersOf, marksOf, pairWith}
 use Rattle.hypoplactic.specs.Replies.{Said, gives, written}
-use Rattle.hypoplactic.specs.Judgements.{roomJudged, tableauJudgements, tableauRooms, wordJudgements}
-use Rattle.hypoplactic.specs.TableauOperations.{tableauRun, tableauSays}
+use Rattle.hypoplactic.specs.Judgements.{pairRooms, roomJudged, tableauJudgements, wordJudgements}
+use Rattle.hypoplactic.specs.TableauOperations.{pairRun, pairSays}
 use Rattle.hypoplactic.specs.LineOperations.{tableauLine, tableauLineRun, tLineRun}
 use Rattle.hypoplactic.proofs.Theory.Closure.{word-tableau-at}
 use Rattle.hypoplactic.proofs.Theory.Judged.{tableau-passing, word-passing}
@@ -25,11 +24,12 @@ use Rattle.hypoplactic.proofs.Theory.LineResults.{past-checks}
 use Rattle.hypoplactic.proofs.Theory.Memory.{written-length, written-needed}
 use Rattle.hypoplactic.proofs.Theory.Pairs.{length-letters, length-marks}
 use Rattle.hypoplactic.proofs.Theory.Passing.{Passing}
+use Rattle.hypoplactic.proofs.Theory.Results.{pair-result}
+use Rattle.refusals.specs.Outcomes.{Outcome, accepted, stopped, outcome, not-both, wrote-elements}
 use Rattle.refusals.specs.Said.{saidWritten}
 use Rattle.refusals.specs.declared.refusal.Refusal.{Refusal}
 use Rattle.refusals.specs.declared.answers.Written.{Written}
 use Rattle.refusals.specs.declared.answers.Written.the-variants.{Elements, Refused}
-use Rattle.lines.specs.Outcomes.{Outcome, accepted, stopped, outcome, not-both, same-values}
 
 -- The first m cells of xs and ms are the tableau of an accepted word.
 pub record Made (n : ℕ) (w xs ms : List ℕ) (m : ℕ) : Type 0 where
@@ -39,32 +39,39 @@ pub record Made (n : ℕ) (w xs ms : List ℕ) (m : ℕ) : Type 0 where
   pub letters-reach : m ≤ length xs
   pub marks-reach : m ≤ length ms
 
-module _ (n : ℕ) (w ls ks : List ℕ) (long : 1024 ≤ length ls) (long′ : 1024 ≤ length ks) where
-  enough : Accepted n w → Passing (tableauRooms (length w) (length ls) (length ks))
-  enough a = let short : length w ≤ 1024 = a .short in (room-judged _ _ .1 (omega arith), (room-judged _ _ .1 (omega arith), tt))
+-- The three lists before the operation, each of at least 1,024 elements.
+module _ (n : ℕ) (w ls ks js : List ℕ) (long : 1024 ≤ length ls) (long′ : 1024 ≤ length ks) (long″ : 1024 ≤ length js) where
+  abbrev rooms : List Said
+  rooms = pairRooms (length w) (length ls) (length ks) (length js)
 
-  judged : Outcome n w (tableauRooms (length w) (length ls) (length ks)) (length w ∷ [])
-  judged = outcome n w (tableauRooms (length w) (length ls) (length ks)) (length w ∷ []) enough
+  -- They have room for every accepted word, so the word's own checks decide.
+  enough : Accepted n w → Passing rooms
+  enough a =
+      let short : length w ≤ 1024 = a .short in
+      (room-judged _ _ .1 (omega arith), (room-judged _ _ .1 (omega arith), (room-judged _ _ .1 (omega arith), tt)))
 
-  module _ (js xs ms cs : List ℕ) (made : Written) (e : (saidWritten made, (xs, (ms, cs))) ≡ tableauRun n w ls ks js) where
-    said : saidWritten made ≡ tableauSays n w (length ls) (length ks)
-    unfolding tableauRun
-    said = ap (λ (o : Said × (List ℕ × (List ℕ × List ℕ))). o .0) e
+  judged : Outcome n w rooms (length w ∷ [])
+  judged = outcome n w rooms (length w ∷ []) enough
+
+  -- What they hold after it, beside its answer and the counts.
+  module _ (cs xs ms rs ds : List ℕ) (made : Written) (e : (saidWritten made, (pairWith xs ms rs, ds)) ≡ pairRun n w (pairWith ls ks js) cs) where
+    said : saidWritten made ≡ pairSays n w (length ls) (length ks) (length js)
+    unfolding pairRun
+    said = ap (λ (o : Said × (Pair × List ℕ)). o .0) e
 
     -- The answer tells cells.
     pub tableau-made : (m : ℕ) → made ≡ Elements m → Made n w xs ms m
-    unfolding tableauRun tableauSays
+    unfolding pairSays
     tableau-made m q = go judged
       where
-        go : Outcome n w (tableauRooms (length w) (length ls) (length ks)) (length w ∷ []) → Made n w xs ms m
-        go (stopped j p h) = absurd (not-both (sym (ap saidWritten q) ∙ said ∙ h (tableauRooms (length w) (length ls) (length ks)) (gives (length w ∷ []))))
+        go : Outcome n w rooms (length w ∷ []) → Made n w xs ms m
+        go (stopped j p h) = absurd (not-both (sym (ap saidWritten q) ∙ said ∙ h rooms (gives (length w ∷ []))))
         go (accepted a h) =
-            let all : _≡_ {A = Said × (List ℕ × (List ℕ × List ℕ))} (saidWritten made, (xs, (ms, cs))) (gives (length w ∷ []), (written (lettersOf w) ls, (written (marksOf w) ks, countsOf w))) = e ∙ rw h refl in
-            let size : m ≡ length w =
-            ap (λ (vs : List ℕ). getD vs 0 0) (same-values (sym (ap saidWritten q) ∙ ap (λ (o : Said × (List ℕ × (List ℕ × List ℕ))). o .0) all)) in
-            let is-letters : xs ≡ written (lettersOf w) ls = ap (λ (o : Said × (List ℕ × (List ℕ × List ℕ))). o .1 .0) all in
-            let is-marks : ms ≡ written (marksOf w) ks = ap (λ (o : Said × (List ℕ × (List ℕ × List ℕ))). o .1 .1 .0) all in
             let short : length w ≤ 1024 = a .short in
+            let all = e ∙ pair-result n w a (pairWith ls ks js) cs (omega arith) (omega arith) (omega arith) in
+            let is-letters : xs ≡ written (lettersOf w) ls = ap (λ (o : Said × (Pair × List ℕ)). o .1 .0 .letters) all in
+            let is-marks : ms ≡ written (marksOf w) ks = ap (λ (o : Said × (Pair × List ℕ)). o .1 .0 .marks) all in
+            let size : m ≡ length w = wrote-elements made all m q in
             let cells : m ≡ length (lettersOf w) = size ∙ sym (length-letters w) in
             let steps : m ≡ length (marksOf w) = size ∙ sym (length-marks w) in
             record {
@@ -77,14 +84,14 @@ module _ (n : ℕ) (w ls ks : List ℕ) (long : 1024 ≤ length ls) (long′ : 1
 
     -- The answer is a refusal, and so is that of the line.
     pub made-refused : (q : Refusal) (out : List ℕ) → made ≡ Refused q → (saidWritten made, out) ≡ tableauLineRun n w out
-    unfolding tableauSays tableauLineRun
+    unfolding pairSays tableauLineRun
     made-refused q out h = go judged
       where
-        go : Outcome n w (tableauRooms (length w) (length ls) (length ks)) (length w ∷ []) → (saidWritten made, out) ≡ tableauLineRun n w out
+        go : Outcome n w rooms (length w ∷ []) → (saidWritten made, out) ≡ tableauLineRun n w out
         go (accepted a g) = absurd (not-both (sym (sym (ap saidWritten h) ∙ said ∙ g)))
         go (stopped j p f) =
             rw (f (roomJudged (length (tableauLine n w)) (length out) ∷ []) (gives (length (tableauLine n w) ∷ [])))
-            (ap (λ (s : Said). (s, out)) (said ∙ f (tableauRooms (length w) (length ls) (length ks)) (gives (length w ∷ []))))
+            (ap (λ (s : Said). (s, out)) (said ∙ f rooms (gives (length w ∷ []))))
 
 module _ {n : ℕ} {w xs ms : List ℕ} {m : ℕ} (h : Made n w xs ms m) where
   -- What the writer of T lines replies to them is the reply of the tableau line.
@@ -100,10 +107,12 @@ pub record Reached (cells letters marks : ℕ) : Type 0 where
   pub of-letters : cells ≤ letters
   pub of-marks : cells ≤ marks
 
-pub cells-reach : (n : ℕ) (w ls ks js xs ms cs : List ℕ) (made : Written) (m : ℕ) → (saidWritten made, (xs, (ms, cs))) ≡ tableauRun n w ls ks js → made ≡ Elements m
-    → 1024 ≤ length ls → 1024 ≤ length ks → Reached m (length xs) (length ms)
-cells-reach n w ls ks js xs ms cs made m e q long long′ =
-    let h : Made n w xs ms m = tableau-made n w ls ks long long′ js xs ms cs made e m q in record { of-letters = h .letters-reach; of-marks = h .marks-reach }
+pub cells-reach : (n : ℕ) (w ls ks js cs xs ms rs ds : List ℕ) (made : Written) (m : ℕ)
+    → (saidWritten made, (pairWith xs ms rs, ds)) ≡ pairRun n w (pairWith ls ks js) cs → made ≡ Elements m → 1024 ≤ length ls → 1024 ≤ length ks
+    → 1024 ≤ length js → Reached m (length xs) (length ms)
+cells-reach n w ls ks js cs xs ms rs ds made m e q long long′ long″ =
+    let h : Made n w xs ms m = tableau-made n w ls ks js long long′ long″ cs xs ms rs ds made e m q in
+    record { of-letters = h .letters-reach; of-marks = h .marks-reach }
 
 -- Cells taken from the first on.
 pub cut-line : (n m : ℕ) (xs ms out out′ : List ℕ) (r : Written) → (saidWritten r, out′) ≡ tLineRun n (take (m - 0) xs) (take (m - 0) ms) out

@@ -1,6 +1,6 @@
 // The tableau line of a word in one call: the T line of its tableau, which is what a customer stores for the word's whole class.
 use refusals::answers::Written;
-use ribbons::tableau::tableau_of_word;
+use ribbons::pair::pair_of_word;
 use writers::line::write_tableau_line;
 ghost use mathlib.Core.Path.{_≡_};
 ghost use lib.ListN.{length, take};
@@ -25,8 +25,16 @@ pub fn tableau_line_of_word(rank: usize, word: &[u8], out: &mut [u8]) -> Written
 {
     let mut letters = [0u8; 1024];
     let mut marks = [0u8; 1024];
+    let mut entries = [0u16; 1024];
     let mut counts = [0u16; 64];
-    let made = tableau_of_word(rank, word, &mut letters, &mut marks, &mut counts);
+    let made = pair_of_word(
+        rank,
+        word,
+        &mut letters,
+        &mut marks,
+        &mut entries,
+        &mut counts,
+    );
     let Written::Elements(cells) = made else {
         return made;
     };

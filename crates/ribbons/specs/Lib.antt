@@ -1,3 +1,4 @@
-pub mod Tableau
 pub mod RecordingCells
-pub mod Recording
+pub mod Entries
+pub mod Falls
+pub mod Pair

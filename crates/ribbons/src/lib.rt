@@ -1,4 +1,3 @@
-// The ribbons of a word, each written into lent memory: its quasi-ribbon tableau and its recording ribbon. Every public function takes whatever it is given;
-// an operation answers a result or the exact refusal.
-pub mod recording;
-pub mod tableau;
+// The pair of a word, its quasi-ribbon tableau and its recording ribbon, written into lent memory. The operation takes whatever it is given and answers a
+// result or the exact refusal.
+pub mod pair;
