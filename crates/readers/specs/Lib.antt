@@ -1,4 +1,4 @@
-pub mod Letters
 pub mod Stores
-pub mod Narrowed
+pub mod PairStores
 pub mod Readers
+pub mod PairReaders

@@ -1,10 +1,9 @@
 -- Values of a line into lent memory: the reply, and memory, from the verdict of the checks on.
---     word-refused, word-passed                                  a word
---     Copied                                                     letters and marks are copied
---     tableau-refused, tableau-passed                            a tableau, and its letter counts
---     recording-refused, recording-passed                        a recording ribbon
---     storing-words, storing-tableaux, storing-recordings        their rulesets
--- Assumes nothing.
+--     word-refused, word-passed            a word
+--     Copied                               letters and marks are copied
+--     tableau-refused, tableau-passed      a tableau, and its letter counts
+--     storing-words, storing-tableaux      their rulesets
+-- Pairs are in PairStores. Assumes nothing.
 use Prim.Native.Nat.{ℕ}
 use mathlib.Core.Path.{_≡_}
 use mathlib.Core.List.{List, [], _∷_}
@@ -12,8 +11,8 @@ use native.Mathlib.Omega.{arith}
 use lib.ListN.{length}
 use borrow.Author.Needs.{needs}
 use Rattle.hypoplactic.specs.Words.{Accepted}
-use Rattle.hypoplactic.specs.Judgements.{entriesJudged, lengthJudged, roomJudged, tableauJudgements, wordJudgements}
-use Rattle.hypoplactic.specs.LineReadings.{recordingRead, tableauRead, wordRead}
+use Rattle.hypoplactic.specs.Judgements.{roomJudged, tableauJudgements, wordJudgements}
+use Rattle.hypoplactic.specs.LineReadings.{tableauRead, wordRead}
 use Rattle.hypoplactic.specs.Replies.{gives}
 use Rattle.hypoplactic.proofs.Theory.Judged.{tableau-passing}
 use Rattle.hypoplactic.proofs.Theory.Judgements.{alike-judged, room-judged}
@@ -60,15 +59,3 @@ module _ {v : Verdict} (n : ℕ) (xs ms letters marks counts : List ℕ)
       (rw (copied-all xs letters xs′ (h .letters-are) (room-judged _ _ .0 first), copied-all ms marks ms′ (h .marks-are) (omega (arith, room-judged _ _ .0 second)), counts-given word t))
 
 pub ruleset storing-tableaux = (tableau-refused, tableau-passed, needs)
-
--- The verdict of 2, 7 and 13.
-module _ {v : Verdict} (rs old : List ℕ)
-    (e : saidVerdict v ≡ checksThen (lengthJudged (length rs) ∷ entriesJudged (length rs) rs ∷ []) (roomJudged (length rs) (length old) ∷ [])) where
-  pub recording-refused : (r : Refusal) → v ≡ Refused r → (saidRefusal r, old) ≡ recordingRead old rs
-  recording-refused r q = run-refused _ _ e _ _ old r q
-
-  pub recording-passed : (now : List ℕ) → v ≡ Passed → now ≡ copied rs old → (gives (length rs ∷ []), now) ≡ recordingRead old rs
-  recording-passed now q h =
-      let (checks, (room, t)) = then-passing _ _ e q in run-passed _ _ e _ _ old now q (copied-all rs old now h (room-judged _ _ .0 room))
-
-pub ruleset storing-recordings = (recording-refused, recording-passed, needs)

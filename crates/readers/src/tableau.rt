@@ -1,8 +1,8 @@
 // The reader of T lines: the tableau of a line into lent letters and marks, and its letter counts.
-use crate::letters::narrow_letters;
-use crate::room::no_letters;
-use crate::room::no_marks;
 use buffers::copies::copy_bytes;
+use line_items::letters::narrow_letters;
+use line_items::room::no_letters;
+use line_items::room::no_marks;
 use refusals::answers::TableauLine;
 use refusals::answers::Verdict;
 use refusals::chains::check_limits;

@@ -1,8 +1,8 @@
 // The reader of W lines: the word of a line into lent letters.
-use crate::letters::narrow_letters;
-use crate::room::no_letters;
 use acceptance::word::check_word;
 use buffers::copies::copy_bytes;
+use line_items::letters::narrow_letters;
+use line_items::room::no_letters;
 use refusals::answers::Verdict;
 use refusals::answers::WordLine;
 use refusals::chains::check_limits;

@@ -1,16 +1,17 @@
--- The grammar's three lines, each from a whole line as rank and cells.
---     word-whole, tableau-whole, recording-whole      W, T and N
+-- The grammar's four lines, each from a whole line as rank and cells, a P line with its entries.
+--     word-whole, tableau-whole, pair-whole, recording-whole      W, T, P and N
 -- Assumes nothing.
 use Prim.Native.Nat.{ℕ, zero, suc}
 use mathlib.Core.Path.{_≡_, refl, _∙_}
 use mathlib.Core.Bool.{Bool, true, false, cond}
 use mathlib.Core.List.{List, [], _∷_}
 use lib.Dec.{eqb}
-use Rattle.grammar.specs.Reading.{Read, after, both, broken, counted, ended, got, letters, many, marks, onward, readField, readFirst, readLine, readN, readT, readW, turned}
+use Rattle.grammar.specs.Reading.{Read, after, both, broken, counted, countedTwice, ended, got, letters, many, marks, onward, readCell, readField, readFirst, readLine, readN, readP, readT, readW, turned, twice}
 use Rattle.scans.specs.Cells.{readItem}
 use Rattle.scans.specs.Items.{turned-same}
 use Rattle.scans.specs.Heads.{andThen, readCounted, readEnd, readHead, readRank}
 use Rattle.scans.specs.Scans.{readBody, readWhole}
+use Rattle.scans.specs.PairScans.{readPair, readParts}
 
 -- Fields as cells without steps.
 many-fields : (k : ℕ) (t : List ℕ) → many readField readField k t ≡ turned letters (many readFirst readFirst k t)
@@ -94,3 +95,58 @@ recording-whole t = alike t ∙ line-whole 78 false false readField readField (�
     alike : (t : List ℕ) → readLine 78 (counted readField readField) t ≡ readLine 78 (both {A = ℕ} (λ n rs. rs) (got 0) (λ n. counted readField readField)) t
     alike [] = refl
     alike (b ∷ t) = rw (← turned-same (counted readField readField t))
+
+-- The values of a P line, from its rank, cells and entries.
+abbrev pairValues : ℕ × List (ℕ × ℕ) × List (ℕ × ℕ) → ℕ × List ℕ × List ℕ × List ℕ
+pairValues v = (v .0, letters (v .1), marks (v .1), letters (v .2))
+
+abbrev pairJoin : ℕ → List (ℕ × ℕ) × List ℕ → ℕ × List ℕ × List ℕ × List ℕ
+pairJoin n parts = (n, letters (parts .0), marks (parts .0), parts .1)
+
+-- Past the entries.
+entries-on : (n : ℕ) (cs : List (ℕ × ℕ)) (r : Read (List (ℕ × ℕ)))
+    → onward (λ a u. a) (λ a. after 10 ended)
+    (turned (pairJoin n) (turned {A = List (ℕ × ℕ) × List ℕ} {B = List (ℕ × ℕ) × List ℕ} (λ parts. parts) (turned (λ k. (cs, k)) (turned letters r))))
+    ≡ turned pairValues (turned (λ (v : ℕ × List (ℕ × ℕ)). (v .0, cs, v .1)) (andThen r (λ cells. readEnd (n, cells))))
+unfolding readEnd
+entries-on n cs (got es t) = go (after 10 ended t)
+  where
+    go : (e : Read Unit) → turned (λ u. pairJoin n (cs, letters es)) e
+        ≡ turned pairValues (turned (λ (v : ℕ × List (ℕ × ℕ)). (v .0, cs, v .1)) (turned (λ u. (n, es)) e))
+    go (got u t) = refl
+    go (broken t) = refl
+entries-on n cs (broken t) = refl
+
+-- Past the cells.
+cells-on : (n k : ℕ) (r : Read (List (ℕ × ℕ)))
+    → onward (λ a u. a) (λ a. after 10 ended)
+    (turned (pairJoin n) (turned {A = List (ℕ × ℕ) × List ℕ} {B = List (ℕ × ℕ) × List ℕ} (λ parts. parts) (onward (λ l k. (l, k)) (λ l. many readField readField k) r)))
+    ≡ turned pairValues (andThen r (λ cells u. turned (λ v. (v .0, cells, v .1)) (readBody false n k u)))
+unfolding readBody
+cells-on n k (got cs t) = rw (many-fields k t) (entries-on n cs (many readFirst readFirst k t))
+cells-on n k (broken t) = refl
+
+-- Past the rank.
+parts-on : (n : ℕ) (f : Read ℕ)
+    → onward (λ a u. a) (λ a. after 10 ended) (turned (pairJoin n) (onward (λ k parts. parts) (twice readFirst readCell readField) f))
+    ≡ turned pairValues (andThen (turned {B = ℕ × ℕ} (λ k. (n, k)) f) (λ h. readParts (h .0) (h .1)))
+unfolding readParts
+parts-on n (got k t) = cells-on n k (many readFirst readCell k t)
+parts-on n (broken t) = refl
+
+-- P: rank, letters, marks and entries.
+pub pair-whole : (t : List ℕ) → readP t ≡ turned (λ v. (v .0, letters (v .1), marks (v .1), letters (v .2))) (readPair t)
+unfolding readP readPair readHead readCounted
+pair-whole [] = refl
+pair-whole (b ∷ t) = go (eqb b 80)
+  where
+    ranked : (f : Read ℕ)
+        → onward (λ a u. a) (λ a. after 10 ended) (onward pairJoin (λ n. countedTwice readFirst readCell readField) f)
+        ≡ turned pairValues (andThen (andThen f readCounted) (λ h. readParts (h .0) (h .1)))
+    ranked (got n u) = parts-on n (readField u)
+    ranked (broken u) = refl
+
+    go : (c : Bool) → cond c (onward (λ a u. a) (λ a. after 10 ended) (onward pairJoin (λ n. countedTwice readFirst readCell readField) (readField t))) (broken (b ∷ t))
+        ≡ turned pairValues (andThen (cond c (andThen (readField t) readCounted) (broken (b ∷ t))) (λ h. readParts (h .0) (h .1)))
+    go true = ranked (readField t)
+    go false = refl

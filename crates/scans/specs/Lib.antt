@@ -3,4 +3,5 @@ pub mod Cells
 pub mod Items
 pub mod Heads
 pub mod Scans
+pub mod PairScans
 pub mod Kinds
