@@ -1,4 +1,5 @@
--- The items of a line, counted and written one after the other by one loop, whatever an item is. Numbers as items; cells are in Cells.
+-- The items of a line, counted and written one after the other by one loop, whatever an item is. Numbers as items; cells are in Cells, the entries after
+-- them in Parts.
 --     joined f n                      the bytes f 0, f 1, .., f (n - 1) one after the other
 --     joined-first                    the first item, and then the others
 --     listed n vs                     a count, and the bytes of so many items; length-listed, count-room: its size, and room for the count
@@ -71,14 +72,14 @@ count-room n vs old start h = omega (arith, length-listed n vs)
 
 -- The bytes of the first i numbers are counted, beside base others.
 pub record Totalling (base : ℕ) (xs : List ℕ) (size i : ℕ) : Type 0 where
-  pub small : base ≤ 21
+  pub small : base ≤ 23573
   pub short : length xs ≤ 1024
   pub reached : i ≤ length xs
   pub is : size ≡ base + length (joined (fieldAt xs) i)
   pub few : size ≤ base + 21 * i
 
 -- Before the first number.
-total-start : (base : ℕ) (xs : List ℕ) → base ≤ 21 → length xs ≤ 1024 → Totalling base xs base 0
+pub total-start : (base : ℕ) (xs : List ℕ) → base ≤ 23573 → length xs ≤ 1024 → Totalling base xs base 0
 unfolding joined
 total-start base xs l h = record { small = l; short = h; reached = omega arith; is = omega arith; few = omega arith }
 
@@ -98,19 +99,12 @@ module _ {base : ℕ} {xs : List ℕ} {size i x more : ℕ} (h : Totalling base 
   }
 
 -- Past the last number.
-total-end : {base : ℕ} {xs : List ℕ} {size i : ℕ} → Totalling base xs size i → length xs ≤ i → size ≡ base + length (items field field xs)
+pub total-end : {base : ℕ} {xs : List ℕ} {size i : ℕ} → Totalling base xs size i → length xs ≤ i → size ≡ base + length (items field field xs)
 total-end {base} {xs} {size} {i} h l = let all : i ≡ length xs = omega arith in h .is ∙ rw (all, joined-fields xs)
 
--- Numbers alone,
-pub numbers-start : (xs : List ℕ) → length xs ≤ 1024 → Totalling 0 xs 0 0
-numbers-start xs h = total-start 0 xs (omega arith) h
-
-pub numbers-end : {xs : List ℕ} {size i : ℕ} → Totalling 0 xs size i → length xs ≤ i → Counted 21504 (items field field xs) size
-numbers-end {xs} {size} {i} h l = record { is = omega (arith, total-end h l); few = omega (arith, h .few, h .short, h .reached) }
-
--- and after how many there are.
+-- After how many there are.
 pub list-start : {base : ℕ} (xs : List ℕ) → length xs ≤ 1024 → Counted 21 (field (length xs)) base → Totalling base xs base 0
-list-start {base} xs h n = total-start base xs (n .few) h
+list-start {base} xs h n = total-start base xs (omega (arith, n .few)) h
 
 pub list-end : {base size i : ℕ} (xs : List ℕ) → Counted 21 (field (length xs)) base → Totalling base xs size i → length xs ≤ i
     → Counted 21525 (listed (length xs) (items field field xs)) size
@@ -119,7 +113,7 @@ list-end {base} {size} {i} xs n h l = record {
   few = omega (arith, h .few, h .short, h .reached, n .few);
 }
 
-pub ruleset totalling = (numbers-start, list-start, total-fits, total-turn, numbers-end, list-end, needs)
+pub ruleset totalling = (list-start, total-fits, total-turn, list-end, needs)
 
 -- ---- the loop that writes
 
@@ -181,12 +175,12 @@ module _ (xs : List ℕ) {old : List ℕ} {start : ℕ} {now : List ℕ} {i at :
   pub fields-end : length xs ≤ i → Laid (items field field xs) old start now at
   fields-end l = rw (joined-fields xs) at (write-end h l)
 
--- Numbers alone,
+-- From a place on that leaves room for all.
 pub fields-start : (xs old : List ℕ) (start : ℕ) → start + length (items field field xs) ≤ length old
     → Writing (fieldAt xs) (length xs) old start old 0 start
 fields-start xs old start h = write-start (fieldAt xs) (length xs) old start (rw (joined-fields xs) h)
 
--- and after how many there are.
+-- After how many there are.
 module _ (xs old : List ℕ) (start : ℕ) where
   pub list-begun : {mid : List ℕ} {at : ℕ} → start + length (listed (length xs) (items field field xs)) ≤ length old
       → Laid (field (length xs)) old start mid at → Writing (fieldAt xs) (length xs) mid at mid 0 at
@@ -196,4 +190,4 @@ module _ (xs old : List ℕ) (start : ℕ) where
       → Writing (fieldAt xs) (length xs) mid first now i at → length xs ≤ i → Laid (listed (length xs) (items field field xs)) old start now at
   list-written k h l = listed-written (fieldAt xs) (length xs) old start (joined-fields xs) k h l
 
-pub ruleset writing = (fields-start, field-room, fields-turn, fields-end, count-room, list-begun, list-written, list-kept, needs)
+pub ruleset writing = (field-room, fields-turn, count-room, list-begun, list-written, list-kept, needs)

@@ -1,19 +1,19 @@
 -- What the writers of lines reply, and memory, from the verdict on their values on.
---     word-stopped, tableau-stopped, recording-stopped, junctions-stopped         the checks refuse, and memory is as it was
---     word-goes-on, tableau-goes-on, recording-goes-on, junctions-goes-on         they pass, and the room decides
---     word-short, tableau-short, tableau-alike, recording-short                   what holds of the values then
---     refusal-goes-on                                                             a refusal has no checks
---     running                                                                     the ruleset of the public functions
+--     word-stopped, tableau-stopped, pair-stopped, junctions-stopped         the checks refuse, and memory is as it was
+--     word-goes-on, tableau-goes-on, pair-goes-on, junctions-goes-on         they pass, and the room decides
+--     word-short, tableau-short, tableau-alike, pair-alike                   what holds of the values then
+--     refusal-goes-on                                                        a refusal has no checks
+--     running                                                                the ruleset of the public functions
 -- Assumes nothing.
 use Prim.Native.Nat.{ℕ, _≤_}
 use mathlib.Core.Path.{_≡_, sym, ap, ap₂, _∙_}
 use mathlib.Core.List.{List, [], _∷_, _++_}
 use native.Mathlib.Omega.{arith}
 use lib.ListN.{length}
-use Rattle.grammar.specs.Lines.{cell, cells, field, firstCell, items, wLine, tLine, nLine, jLine, eLine}
-use Rattle.hypoplactic.specs.Judgements.{entriesJudged, lengthJudged, roomJudged, tableauJudgements, wordJudgements}
+use Rattle.grammar.specs.Lines.{cell, cells, field, firstCell, items, wLine, tLine, pLine, jLine, eLine}
+use Rattle.hypoplactic.specs.Judgements.{pairJudgements, roomJudged, tableauJudgements, wordJudgements}
 use Rattle.hypoplactic.specs.Junctions.{junctionSet, rowsOf}
-use Rattle.hypoplactic.specs.LineOperations.{eLineRun, jLineRun, lineRun, nLineRun, roomRun, tLineRun, wLineRun}
+use Rattle.hypoplactic.specs.LineOperations.{eLineRun, jLineRun, lineRun, pLineRun, roomRun, tLineRun, wLineRun}
 use Rattle.hypoplactic.specs.Replies.{Said, gives, refused, passed, first}
 use Rattle.hypoplactic.specs.WordOperations.{junctionSays}
 use Rattle.hypoplactic.proofs.Theory.Judgements.{alike-judged, length-judged}
@@ -29,8 +29,9 @@ use Rattle.refusals.specs.declared.answers.Verdict.{Verdict}
 use Rattle.refusals.specs.declared.answers.Verdict.the-variants.{Passed, Refused}
 use Rattle.writers.specs.Items.{listed}
 use Rattle.writers.specs.Lines.{lineOf}
+use Rattle.writers.specs.Parts.{Alike, parts}
 
--- ---- words, tableaux, recording ribbons
+-- ---- words, tableaux, pairs
 
 -- The verdict of the checks,
 module _ {v : Verdict} (js : List Said) (bytes old : List ℕ) (e : saidVerdict v ≡ first js passed) where
@@ -72,18 +73,21 @@ module _ {v : Verdict} (n : ℕ) (xs ms old : List ℕ) (e : saidVerdict v ≡ f
   pub tableau-alike : v ≡ Passed → length ms ≡ length xs
   tableau-alike q = alike-judged _ _ .0 (all-passing (tableauJudgements n xs ms) e q .1 .1 .0) .0
 
--- N: 2 and 7.
-module _ {v : Verdict} (rs old : List ℕ) (e : saidVerdict v ≡ first (lengthJudged (length rs) ∷ entriesJudged (length rs) rs ∷ []) passed) where
-  pub recording-stopped : (r : Refusal) → v ≡ Refused r → (saidRefusal r, old) ≡ nLineRun rs old
-  unfolding nLineRun
-  recording-stopped r q = line-stopped (lengthJudged (length rs) ∷ entriesJudged (length rs) rs ∷ []) (nLine rs) old e r q
+-- P: 1 to 8.
+module _ {v : Verdict} (n : ℕ) (xs ms rs old : List ℕ) (e : saidVerdict v ≡ first (pairJudgements n xs ms rs) passed) where
+  pub pair-stopped : (r : Refusal) → v ≡ Refused r → (saidRefusal r, old) ≡ pLineRun n xs ms rs old
+  unfolding pLineRun
+  pair-stopped r q = line-stopped (pairJudgements n xs ms rs) (pLine n xs ms rs) old e r q
 
-  pub recording-goes-on : {p : Said × List ℕ} → v ≡ Passed → p ≡ roomRun (lineOf 78 (length rs) (items field field rs)) old → p ≡ nLineRun rs old
-  unfolding nLineRun nLine lineOf
-  recording-goes-on q h = line-goes-on (lengthJudged (length rs) ∷ entriesJudged (length rs) rs ∷ []) (nLine rs) old e q h
+  pub pair-goes-on : {p : Said × List ℕ} → v ≡ Passed → p ≡ roomRun (lineOf 80 n (parts xs ms rs)) old → p ≡ pLineRun n xs ms rs old
+  unfolding pLineRun pLine lineOf parts listed
+  pair-goes-on q h = line-goes-on (pairJudgements n xs ms rs) (pLine n xs ms rs) old e q h
 
-  pub recording-short : v ≡ Passed → length rs ≤ 1024
-  recording-short q = length-judged (length rs) .0 (all-passing (lengthJudged (length rs) ∷ entriesJudged (length rs) rs ∷ []) e q .0)
+  pub pair-alike : v ≡ Passed → Alike xs ms rs
+  pair-alike q =
+      let passes : Passing (pairJudgements n xs ms rs) = all-passing (pairJudgements n xs ms rs) e q in
+      let alike = alike-judged _ _ .0 (passes .1 .1 .0) in
+      record { short = length-judged (length xs) .0 (passes .1 .0); marks = alike .0; entries = alike .1 .0 }
 
 -- ---- junctions
 
@@ -133,9 +137,9 @@ pub ruleset running = (
   tableau-goes-on,
   tableau-short,
   tableau-alike,
-  recording-stopped,
-  recording-goes-on,
-  recording-short,
+  pair-stopped,
+  pair-goes-on,
+  pair-alike,
   junctions-stopped,
   junctions-goes-on,
   refusal-goes-on,

@@ -1,4 +1,4 @@
-// The items of a line, one after the other: letters, recording entries, cells. How many bytes they take, and their bytes.
+// The items of a line, one after the other: letters, cells, the cells and the recording entries of a pair. How many bytes they take, and their bytes.
 use crate::fields::write_field;
 use acceptance::letters::wide;
 use line_sizes::sizes::field_size;
@@ -10,6 +10,7 @@ ghost use Rattle.line_sizes.specs.Sizes.{Counted};
 ghost use Rattle.writers.specs.Cells.{cellAt};
 ghost use Rattle.writers.specs.Items.{listed};
 ghost use Rattle.writers.specs.Laying.{Laid};
+ghost use Rattle.writers.specs.Parts.{Alike, Placed, parts};
 
 // How many bytes it takes to say how many letters there are, and the letters.
 pub(crate) fn list_size(letters: &[u8]) -> usize
@@ -46,34 +47,6 @@ fn number(entry: u16) -> usize
     ensures { λ r. ⌜ r ≡ entry ⌝ }
 {
     entry as usize
-}
-
-// How many bytes the entries take.
-pub(crate) fn entries_size(entries: &[u16]) -> usize
-    requires { ⌜ length (now entries) ≤ 1024 ⌝ }
-    ensures { λ r. ⌜ Counted 21504 (items field field (now (entries .entry))) r ⌝ }
-{
-    let mut size = 0;
-    let mut i = 0;
-    while i < entries.len() {
-        size += field_size(number(entries[i]));
-        i += 1;
-    }
-    size
-}
-
-// Writes the entries from a place on.
-pub(crate) fn write_entries(entries: &[u16], out: &mut [u8], start: usize) -> usize
-    requires { ⌜ start + length (items field field (now entries)) ≤ length (now out) ⌝ }
-    ensures { λ r. ⌜ Laid (items field field (now (entries .entry))) (now (out .entry)) start (now (out .exit)) r ⌝ }
-{
-    let mut at = start;
-    let mut i = 0;
-    while i < entries.len() {
-        at = write_field(number(entries[i]), out, at);
-        i += 1;
-    }
-    at
 }
 
 // How many bytes it takes to say how many cells a tableau has, and the cells: as for its letters, and two for each step between neighbours.
@@ -133,6 +106,42 @@ pub(crate) fn write_ribbon(letters: &[u8], marks: &[u8], out: &mut [u8], start: 
     let mut i = 0;
     while i < letters.len() {
         at = write_cell(letters, marks, i, out, at);
+        i += 1;
+    }
+    at
+}
+
+// How many bytes it takes to say how many cells a pair has, the cells, and the entries.
+pub(crate) fn parts_size(letters: &[u8], marks: &[u8], entries: &[u16]) -> usize
+    requires { ⌜ Alike (now letters) (now marks) (now entries) ⌝ }
+    ensures { λ r. ⌜ Counted 45077 (parts (now (letters .entry)) (now (marks .entry)) (now (entries .entry))) r ⌝ }
+{
+    let mut size = ribbon_size(letters, marks);
+    let mut i = 0;
+    while i < entries.len() {
+        size += field_size(number(entries[i]));
+        i += 1;
+    }
+    size
+}
+
+// Writes how many cells a pair has, the cells, and the entries, from a place on.
+pub(crate) fn write_parts(
+    letters: &[u8],
+    marks: &[u8],
+    entries: &[u16],
+    out: &mut [u8],
+    start: usize,
+) -> usize
+    requires { ⌜ Placed (now letters) (now marks) (now entries) (length (now out)) start ⌝ }
+    ensures { λ r. ⌜
+        Laid (parts (now (letters .entry)) (now (marks .entry)) (now (entries .entry))) (now (out .entry)) start (now (out .exit)) r
+        ⌝ }
+{
+    let mut at = write_ribbon(letters, marks, out, start);
+    let mut i = 0;
+    while i < entries.len() {
+        at = write_field(number(entries[i]), out, at);
         i += 1;
     }
     at

@@ -1,11 +1,11 @@
 // Whole lines, each of which begins with the letter of its kind and a field. The bytes needed are counted, the room is judged, and only then a byte is
 // written.
 use crate::fields::write_field;
-use crate::items::entries_size;
 use crate::items::list_size;
+use crate::items::parts_size;
 use crate::items::ribbon_size;
-use crate::items::write_entries;
 use crate::items::write_list;
+use crate::items::write_parts;
 use crate::items::write_ribbon;
 use line_sizes::sizes::field_size;
 use line_sizes::sizes::line_size;
@@ -22,6 +22,7 @@ ghost use Rattle.refusals.specs.Said.{saidWritten};
 ghost use Rattle.writers.specs.Items.{listed};
 ghost use Rattle.writers.specs.Laying.{Laid};
 ghost use Rattle.writers.specs.Lines.{lineOf};
+ghost use Rattle.writers.specs.Parts.{Alike, parts};
 
 // Writes the letter of the kind and the first field.
 fn write_head(kind: u8, first: usize, out: &mut [u8]) -> usize
@@ -84,20 +85,26 @@ pub(crate) fn write_tableau(rank: usize, letters: &[u8], marks: &[u8], out: &mut
     Written::Elements(need)
 }
 
-// Writes the N line of entries.
-pub(crate) fn write_recording(entries: &[u16], out: &mut [u8]) -> Written
-    requires { ⌜ length (now entries) ≤ 1024 ⌝ }
+// Writes the P line of a rank, letters, marks and entries.
+pub(crate) fn write_pair(
+    rank: usize,
+    letters: &[u8],
+    marks: &[u8],
+    entries: &[u16],
+    out: &mut [u8],
+) -> Written
+    requires { ⌜ Alike (now letters) (now marks) (now entries) ⌝ }
     ensures { λ r. ⌜
         (saidWritten r, now (out .exit))
-        ≡ roomRun (lineOf 78 (length (now (entries .entry))) (items field field (now (entries .entry)))) (now (out .entry))
+        ≡ roomRun (lineOf 80 rank (parts (now (letters .entry)) (now (marks .entry)) (now (entries .entry)))) (now (out .entry))
         ⌝ }
 {
-    let need = line_size(entries.len(), entries_size(entries));
+    let need = line_size(rank, parts_size(letters, marks, entries));
     if let Verdict::Refused(refusal) = check_room(need, out.len()) {
         return Written::Refused(refusal);
     }
-    let at = write_head(78, entries.len(), out);
-    let end = write_entries(entries, out, at);
+    let at = write_head(80, rank, out);
+    let end = write_parts(letters, marks, entries, out, at);
     out[end] = 10;
     Written::Elements(need)
 }

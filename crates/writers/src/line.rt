@@ -1,26 +1,21 @@
 // The writers of lines. Each judges its values, then the room for the bytes that it has counted, and only then writes; what stands in the output beyond the
 // bytes of the line keeps its value.
 use crate::laying::write_numbers;
-use crate::laying::write_recording;
+use crate::laying::write_pair;
 use crate::laying::write_tableau;
 use crate::laying::write_word;
 use acceptance::word::check_word;
-use recordings::recording::check_entries;
 use refusals::answers::Junctions;
 use refusals::answers::Verdict;
 use refusals::answers::Written;
-use refusals::numbers::check_length;
 use refusals::refusal::Refusal;
 use refusals::refusal::number_and_place;
+use validity::tableau::check_pair;
 use validity::tableau::check_tableau;
 use words::junctions::junctions;
-ghost use mathlib.Core.List.{[], _∷_};
 ghost use mathlib.Core.Path.{_≡_};
-ghost use lib.ListN.{length};
-ghost use Rattle.hypoplactic.specs.Judgements.{entriesJudged, lengthJudged};
-ghost use Rattle.hypoplactic.specs.LineOperations.{eLineRun, jLineRun, nLineRun, tLineRun, wLineRun};
-ghost use Rattle.hypoplactic.specs.Replies.{first, passed};
-ghost use Rattle.refusals.specs.Said.{number, place, saidVerdict, saidWritten};
+ghost use Rattle.hypoplactic.specs.LineOperations.{eLineRun, jLineRun, pLineRun, tLineRun, wLineRun};
+ghost use Rattle.refusals.specs.Said.{number, place, saidWritten};
 
 // The W line of a word: 1, 2 and 4, then 13.
 pub fn write_word_line(rank: usize, word: &[u8], out: &mut [u8]) -> Written
@@ -44,27 +39,23 @@ pub fn write_tableau_line(rank: usize, letters: &[u8], marks: &[u8], out: &mut [
     write_tableau(rank, letters, marks, out)
 }
 
-// 2 and 7: a recording ribbon alone. Where 2 refuses, no entry is read.
-fn check_ribbon(entries: &[u16]) -> Verdict
+// The P line of a pair: 1 to 8, then 13.
+pub fn write_pair_line(
+    rank: usize,
+    letters: &[u8],
+    marks: &[u8],
+    entries: &[u16],
+    out: &mut [u8],
+) -> Written
     ensures { λ r. ⌜
-        saidVerdict r
-        ≡ first (lengthJudged (length (now (entries .entry))) ∷ entriesJudged (length (now (entries .entry))) (now (entries .entry)) ∷ []) passed
+        (saidWritten r, now (out .exit))
+        ≡ pLineRun rank (now (letters .entry)) (now (marks .entry)) (now (entries .entry)) (now (out .entry))
         ⌝ }
 {
-    if let Verdict::Refused(refusal) = check_length(entries.len()) {
-        return Verdict::Refused(refusal);
-    }
-    check_entries(entries.len(), entries)
-}
-
-// The N line of a recording ribbon: 2 and 7, then 13.
-pub fn write_recording_line(entries: &[u16], out: &mut [u8]) -> Written
-    ensures { λ r. ⌜ (saidWritten r, now (out .exit)) ≡ nLineRun (now (entries .entry)) (now (out .entry)) ⌝ }
-{
-    if let Verdict::Refused(refusal) = check_ribbon(entries) {
+    if let Verdict::Refused(refusal) = check_pair(rank, letters, marks, entries) {
         return Written::Refused(refusal);
     }
-    write_recording(entries, out)
+    write_pair(rank, letters, marks, entries, out)
 }
 
 // The J line of a word, with the junction set and the rows that the word has: 1, 2 and 4, then 13. No function writes a J line of other numbers.
