@@ -1,0 +1,4 @@
+pub mod Breaks
+pub mod Values
+pub mod Conversions
+pub mod Program
