@@ -1,6 +1,6 @@
 -- The program's answer, from what the reader of the W line answers on.
 --     refusedLine line         the E line of an answer that is a refusal
---     Begun                    the first letters of a buffer are an accepted word, whose four lines have room
+--     Begun                    the first letters of a buffer are an accepted word, whose three lines have room
 --     answer-within            an answer's bytes stand in the memory that was lent for it
 --     answering, taking        the rulesets of the answer, and of those who take its bytes
 -- Assumes nothing.
@@ -13,7 +13,7 @@ use borrow.Author.Needs.{needs}
 use Rattle.grammar.specs.Lines.{eLine}
 use Rattle.hypoplactic.specs.Replies.{Said, gives, refused, written}
 use Rattle.hypoplactic.specs.Judgements.{roomJudged}
-use Rattle.hypoplactic.specs.LineOperations.{eLineRun, fourLines, roomRun}
+use Rattle.hypoplactic.specs.LineOperations.{eLineRun, threeLines, roomRun}
 use Rattle.hypoplactic.specs.LineReadings.{answerRun, output, readWRun}
 use Rattle.hypoplactic.proofs.Theory.Judgements.{room-judged}
 use Rattle.hypoplactic.proofs.Theory.LineResults.{e-line-result}
@@ -30,8 +30,8 @@ use Rattle.refusals.specs.declared.answers.WordLine.the-variants as wordLine
 use Rattle.refusals.specs.declared.answers.Written.{Written}
 use Rattle.refusals.specs.declared.answers.Written.the-variants.{Elements, Refused}
 use Rattle.writers.specs.Lengths.{e-length}
-use Rattle.outputs.specs.Longest.{four-ready, output-short}
-use Rattle.lines.specs.Outcomes.{not-both, wrote-elements, wrote-memory}
+use Rattle.outputs.specs.Longest.{three-ready, output-short}
+use Rattle.refusals.specs.Outcomes.{not-both, wrote-elements, wrote-memory}
 use Rattle.outputs.specs.Output.{Taken, long-output, refused-output, word-taken}
 use Rattle.outputs.specs.Printing.{Printed, Ready, printed-by, printed-never}
 
@@ -64,13 +64,13 @@ word-printed line n l old h = rw h (record { held = refl; size = refl; fits = om
 
 pub record Begun (n letters : ℕ) (word : List ℕ) (have : ℕ) : Type 0 where
   pub reach : letters ≤ length word
-  pub ready : Ready n (take letters word) (fourLines n (take letters word)) have
+  pub ready : Ready n (take letters word) (threeLines n (take letters word)) have
 
 module _ (n m : ℕ) (word : List ℕ) where
-  pub begun-ready : (have : ℕ) → Begun n m word have → Ready n (take (m - 0) word) (fourLines n (take (m - 0) word)) have
+  pub begun-ready : (have : ℕ) → Begun n m word have → Ready n (take (m - 0) word) (threeLines n (take (m - 0) word)) have
   begun-ready have h = let z : m - 0 ≡ m = omega arith in rw z (h .ready)
 
-  pub begun-printed : (old now : List ℕ) (k : ℕ) → Printed (fourLines n (take (m - 0) word)) old now k → Printed (fourLines n (take m word)) old now k
+  pub begun-printed : (old now : List ℕ) (k : ℕ) → Printed (threeLines n (take (m - 0) word)) old now k → Printed (threeLines n (take m word)) old now k
   begun-printed old now k h = let z : m - 0 ≡ m = omega arith in rw z at h
 
 -- ---- the reader's answer
@@ -90,9 +90,9 @@ module _ (text buffer word old : List ℕ) (line : WordLine) (e : (saidWordLine 
   pub line-begun : (n l have : ℕ) → line ≡ wordLine.Word n l → 16384 ≤ have → Begun n l word have
   line-begun n l have h r =
       let t : Taken text word n l = word-taken text buffer word short long line e n l h in
-      record { reach = t .within; ready = four-ready have (t .accepted) r }
+      record { reach = t .within; ready = three-ready have (t .accepted) r }
 
-  pub line-printed : (n l : ℕ) (now : List ℕ) (m : ℕ) → line ≡ wordLine.Word n l → Printed (fourLines n (take l word)) old now m → Printed (output text) old now m
+  pub line-printed : (n l : ℕ) (now : List ℕ) (m : ℕ) → line ≡ wordLine.Word n l → Printed (threeLines n (take l word)) old now m → Printed (output text) old now m
   line-printed n l now m h p =
       let t : Taken text word n l = word-taken text buffer word short long line e n l h in rw (t .prints) p
 

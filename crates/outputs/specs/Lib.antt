@@ -1,4 +1,5 @@
 pub mod Output
 pub mod Printing
+pub mod ThreeLines
 pub mod Longest
 pub mod Answer

@@ -1,7 +1,7 @@
 -- The program's output for a text from what the reader of its W line answers, into a buffer that has room for every accepted word.
 --     long-output         more than 4,096 bytes
 --     refused-output      a refusal: its E line
---     Taken               a word: the letters that stand in the buffer are an accepted word, and the output is its four lines
+--     Taken               a word: the letters that stand in the buffer are an accepted word, and the output is its three lines
 --     word-taken
 -- Assumes nothing.
 use Prim.Native.Nat.{ℕ, _≤_, _<_}
@@ -15,7 +15,7 @@ use Rattle.grammar.specs.Reading.{Read, got, broken, readW}
 use Rattle.hypoplactic.specs.Words.{Accepted}
 use Rattle.hypoplactic.specs.Replies.{Said, gives, refused, passed, first, written}
 use Rattle.hypoplactic.specs.Judgements.{roomJudged, wordJudgements}
-use Rattle.hypoplactic.specs.LineOperations.{fourLines, program}
+use Rattle.hypoplactic.specs.LineOperations.{threeLines, program}
 use Rattle.hypoplactic.specs.LineReadings.{output, printedFor, readRun, readWRun, wordRead}
 use Rattle.hypoplactic.proofs.Theory.Judgements.{room-judged}
 use Rattle.hypoplactic.proofs.Theory.LineResults.{program-result}
@@ -25,7 +25,7 @@ use Rattle.refusals.specs.Said.{number, place, saidWordLine}
 use Rattle.refusals.specs.declared.refusal.Refusal.{Refusal}
 use Rattle.refusals.specs.declared.answers.WordLine.{WordLine}
 use Rattle.refusals.specs.declared.answers.WordLine.the-variants.{Word, Refused}
-use Rattle.lines.specs.Outcomes.{Outcome, accepted, stopped, outcome, not-both, same-values, same-refusal}
+use Rattle.refusals.specs.Outcomes.{Outcome, accepted, stopped, outcome, not-both, same-values, same-refusal}
 
 -- More than 4,096 bytes.
 pub long-output : (text : List ℕ) → 4096 < length text → output text ≡ eLine 14 4096
@@ -45,11 +45,11 @@ module _ (n : ℕ) (ws buffer : List ℕ) (long : 1024 ≤ length buffer) where
   judged : Outcome n ws (roomJudged (length ws) (length buffer) ∷ []) (n ∷ length ws ∷ [])
   judged = outcome n ws (roomJudged (length ws) (length buffer) ∷ []) (n ∷ length ws ∷ []) rooms
 
--- The buffer holds an accepted word of rank n and l letters, and the output for the text is its four lines.
+-- The buffer holds an accepted word of rank n and l letters, and the output for the text is its three lines.
 pub record Taken (text now : List ℕ) (n l : ℕ) : Type 0 where
   pub within : l ≤ length now
   pub accepted : Accepted n (take l now)
-  pub prints : output text ≡ fourLines n (take l now)
+  pub prints : output text ≡ threeLines n (take l now)
 
 -- What the reader replies to a text of at most 4,096 bytes, with a buffer of 1,024 letters or more.
 module _ (text buffer now : List ℕ) (short : length text ≤ 4096) (long : 1024 ≤ length buffer) where

@@ -12,7 +12,7 @@ ghost use Prim.Native.Nat.{_≤_};
 ghost use mathlib.Core.Path.{_≡_};
 ghost use lib.ListN.{length, take};
 ghost use Rattle.grammar.specs.Lines.{eLine};
-ghost use Rattle.hypoplactic.specs.LineOperations.{fourLines, roomRun};
+ghost use Rattle.hypoplactic.specs.LineOperations.{threeLines, roomRun};
 ghost use Rattle.hypoplactic.specs.LineReadings.{answerRun, output};
 ghost use Rattle.refusals.specs.Said.{number, place, saidWritten};
 ghost use Rattle.outputs.specs.Answer.{Begun, refusedLine};
@@ -40,10 +40,10 @@ fn print_refused(line: WordLine, out: &mut [u8]) -> usize
     print_refusal(refusal, out)
 }
 
-// The four lines of the first letters of a buffer.
+// The three lines of the first letters of a buffer.
 fn print_letters(rank: usize, letters: usize, word: &[u8], out: &mut [u8]) -> usize
     requires { ⌜ Begun rank letters (now word) (length (now out)) ⌝ }
-    ensures { λ r. ⌜ Printed (fourLines rank (take letters (now (word .entry)))) (now (out .entry)) (now (out .exit)) r ⌝ }
+    ensures { λ r. ⌜ Printed (threeLines rank (take letters (now (word .entry)))) (now (out .entry)) (now (out .exit)) r ⌝ }
 {
     print_word(rank, &word[0..letters], out)
 }
@@ -84,7 +84,7 @@ fn hand_over(bytes: &[u8], out: &mut [u8]) -> Written
     Written::Elements(bytes.len())
 }
 
-// What the program prints for a text: the four lines of its word, or one E line. Any bytes may come in; nothing but room is refused.
+// What the program prints for a text: the three lines of its word, or one E line. Any bytes may come in; nothing but room is refused.
 pub fn answer(text: &[u8], out: &mut [u8]) -> Written
     ensures { λ r. ⌜ (saidWritten r, now (out .exit)) ≡ answerRun (now (text .entry)) (now (out .entry)) ⌝ }
 {

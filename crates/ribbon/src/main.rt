@@ -1,4 +1,4 @@
-// `ribbon`: one W line from standard input; the T line, the N line, the W line of the column reading and the J line to standard output, or one E line.
+// `ribbon`: one W line from standard input; the P line, the W line of the column reading and the J line to standard output, or one E line.
 use libc::STDIN_FILENO;
 use libc::STDOUT_FILENO;
 use streams::answer_stream;

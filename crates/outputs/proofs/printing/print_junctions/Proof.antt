@@ -1,5 +1,5 @@
--- `outputs::printing::print_junctions` meets its contract, by the laws of specs/Printing. Assumes nothing.
-use Rattle.outputs.specs.Printing.{printing}
+-- `outputs::printing::print_junctions` meets its contract, by the laws of specs/ThreeLines. Assumes nothing.
+use Rattle.outputs.specs.ThreeLines.{printing}
 use Rattle.outputs.proofs.printing.print_junctions.Statement.{statement}
 use Rattle.outputs.proofs.printing.print_junctions.Tie as tie
 
