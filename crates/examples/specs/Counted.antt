@@ -8,13 +8,13 @@
 use Prim.Native.Nat.{ℕ}
 use mathlib.Core.List.{List, [], _∷_, _++_}
 use lib.ListN.{length, replicate, set, take}
+use Rattle.hypoplactic.specs.Insertion.{pairWith}
 use Rattle.hypoplactic.specs.Replies.{Said, first, passed}
 use Rattle.hypoplactic.specs.Counts.{countsJudged}
 use Rattle.hypoplactic.specs.Judgements.{countedJudgements, countedPairJudgements}
-use Rattle.hypoplactic.specs.TableauOperations.{insertRun, insertSays, moveTableauRun, moveTableauSays, readingSays, repeatTableauSays, tableauRun, wordSays}
-use Rattle.hypoplactic.specs.LineReadings.{readTRun}
-use Rattle.hypoplactic.specs.Starred.{Case, c4323, case, counts, lent, lower, numbers, outcomes, pair, raise, tableauOutcome, text}
-use Rattle.examples.specs.Pinned.{inserted}
+use Rattle.hypoplactic.specs.TableauOperations.{insertRun, insertSays, moveTableauRun, moveTableauSays, pairRun, readingSays, repeatTableauSays, wordSays}
+use Rattle.hypoplactic.specs.LineReadings.{readPRun, readTRun}
+use Rattle.hypoplactic.specs.Starred.{Case, c4323, case, counts, lent, lentPair, lower, numbers, outcomes, pairOutcome, raise, tableauOutcome, text}
 
 -- ---- wrong counts
 
@@ -58,39 +58,41 @@ countCases =
     -- 17 before 13
     ∷ case (onCounts (λ n xs ms cs. readingSays n xs ms cs 0)) countOrder
     ∷ case (onCounts (λ n xs ms cs. wordSays n xs ms (take (length xs) r4323) cs 0)) countOrder
-    ∷ case (onCounts (λ n xs ms cs. insertSays n (length xs) 1 (pair xs ms r4323) cs)) countOrder
+    ∷ case (onCounts (λ n xs ms cs. insertSays n (length xs) 1 (pairWith xs ms r4323) cs)) countOrder
     -- before 7, and before 8
     ∷ case (onCounts (λ n xs ms cs. wordSays n xs ms (zeros xs) cs 0)) countOrder
     ∷ case (onCounts (λ n xs ms cs. wordSays n xs ms (rises xs) cs 0)) countOrder
-    ∷ case (onCounts (λ n xs ms cs. insertSays n (length xs) 1 (pair xs ms (zeros xs)) cs)) countOrder
-    ∷ case (onCounts (λ n xs ms cs. insertSays n (length xs) 1 (pair xs ms (rises xs)) cs)) countOrder
+    ∷ case (onCounts (λ n xs ms cs. insertSays n (length xs) 1 (pairWith xs ms (zeros xs)) cs)) countOrder
+    ∷ case (onCounts (λ n xs ms cs. insertSays n (length xs) 1 (pairWith xs ms (rises xs)) cs)) countOrder
     -- before 9, 10 and 11: no index, 3 directly below 2, no 1
     ∷ case (onCounts (λ n xs ms cs. repeatTableauSays n (raise 0) xs ms cs)) countOrder
     ∷ case (onCounts (λ n xs ms cs. moveTableauSays n (raise 0) xs ms cs)) countOrder
     ∷ case (onCounts (λ n xs ms cs. moveTableauSays n (raise 2) xs ms cs)) countOrder
     ∷ case (onCounts (λ n xs ms cs. moveTableauSays n (lower 1) xs ms cs)) countOrder
     -- in insertion a bad new letter before 17, at the used count
-    ∷ case (numbers (insertSays 4 4 5 (pair x4323 m4323 r4323) (counts []))) (4 ∷ 4 ∷ [])
+    ∷ case (numbers (insertSays 4 4 5 (pairWith x4323 m4323 r4323) (counts []))) (4 ∷ 4 ∷ [])
     -- 17 looks at 64 places: the letters 1 and 64 are counted there, and nothing beyond is looked at
     ∷ case (numbers (readingSays 64 (1 ∷ 64 ∷ []) (0 ∷ 0 ∷ []) (set (counts (1 ∷ [])) 63 1) 2)) (0 ∷ 2 ∷ [])
     ∷ case (numbers (readingSays 64 (1 ∷ 64 ∷ []) (0 ∷ 0 ∷ []) (counts (1 ∷ [])) 2)) (17 ∷ 63 ∷ [])
     ∷ case (numbers (countsJudged (counts [] ++ (9 ∷ [])) [])) (0 ∷ [])
-    -- counts given: by the tableau of a word and by the reader, whatever was there, at both ends too
-    ∷ case (tableauOutcome (tableauRun 64 (64 ∷ 1 ∷ []) (9 ∷ 9 ∷ []) (9 ∷ 9 ∷ []) (lent 64)))
-    (0 ∷ 2 ∷ 1 ∷ 64 ∷ 0 ∷ 1 ∷ set (counts (1 ∷ [])) 63 1)
+    -- counts given: by the pair of a word and by the readers, whatever was there, at both ends too
+    ∷ case (pairOutcome (pairRun 64 (64 ∷ 1 ∷ []) (lentPair 2) (lent 64))) (0 ∷ 2 ∷ 1 ∷ 64 ∷ 0 ∷ 1 ∷ 2 ∷ 1 ∷ set (counts (1 ∷ [])) 63 1)
+    ∷ case (pairOutcome (readPRun (text "P,64,2,1,d,64,2,1\n") (lentPair 2) (lent 64))) (0 ∷ 64 ∷ 2 ∷ 1 ∷ 64 ∷ 0 ∷ 1 ∷ 2 ∷ 1 ∷ set (counts (1 ∷ [])) 63 1)
     ∷ case (tableauOutcome (readTRun (text "T,64,2,1,d,64\n") (9 ∷ 9 ∷ []) (9 ∷ 9 ∷ []) (lent 64)))
     (0 ∷ 64 ∷ 2 ∷ 1 ∷ 64 ∷ 0 ∷ 1 ∷ set (counts (1 ∷ [])) 63 1)
     -- and left as they were by 4 and by 13
-    ∷ case (tableauOutcome (tableauRun 4 (5 ∷ []) (9 ∷ []) (8 ∷ []) (6 ∷ 7 ∷ []))) (4 ∷ 0 ∷ 9 ∷ 8 ∷ 6 ∷ 7 ∷ [])
-    ∷ case (tableauOutcome (tableauRun 4 (1 ∷ []) (9 ∷ []) [] (6 ∷ 7 ∷ []))) (13 ∷ 1 ∷ 9 ∷ 6 ∷ 7 ∷ [])
+    ∷ case (pairOutcome (pairRun 4 (5 ∷ []) (pairWith (9 ∷ []) (8 ∷ []) (7 ∷ [])) (6 ∷ 7 ∷ []))) (4 ∷ 0 ∷ 9 ∷ 8 ∷ 7 ∷ 6 ∷ 7 ∷ [])
+    ∷ case (pairOutcome (pairRun 4 (1 ∷ []) (pairWith (9 ∷ []) (8 ∷ []) []) (6 ∷ 7 ∷ []))) (13 ∷ 1 ∷ 9 ∷ 8 ∷ 6 ∷ 7 ∷ [])
+    ∷ case (pairOutcome (readPRun (text "P,4,1,5,1\n") (pairWith (9 ∷ []) (8 ∷ []) (7 ∷ [])) (6 ∷ 7 ∷ []))) (4 ∷ 0 ∷ 9 ∷ 8 ∷ 7 ∷ 6 ∷ 7 ∷ [])
+    ∷ case (pairOutcome (readPRun (text "P,4,1,3,1\n") (pairWith (9 ∷ []) (8 ∷ []) []) (6 ∷ 7 ∷ []))) (13 ∷ 1 ∷ 9 ∷ 8 ∷ 6 ∷ 7 ∷ [])
     ∷ case (tableauOutcome (readTRun (text "T,4,1,5\n") (9 ∷ []) (8 ∷ []) (6 ∷ 7 ∷ []))) (4 ∷ 0 ∷ 9 ∷ 8 ∷ 6 ∷ 7 ∷ [])
     ∷ case (tableauOutcome (readTRun (text "T,4,1,3\n") (9 ∷ []) [] (6 ∷ 7 ∷ []))) (13 ∷ 1 ∷ 9 ∷ 6 ∷ 7 ∷ [])
     -- insertion of 1 into the pair of 4323, four cells of six used; of the first and of the last letter; a refusal leaves the counts
-    ∷ case (inserted (insertRun 4 4 1 (pair (x4323 ++ 9 ∷ 9 ∷ []) (m4323 ++ 8 ∷ 8 ∷ []) (r4323 ++ 7 ∷ 7 ∷ [])) c4323))
+    ∷ case (pairOutcome (insertRun 4 4 1 (pairWith (x4323 ++ 9 ∷ 9 ∷ []) (m4323 ++ 8 ∷ 8 ∷ []) (r4323 ++ 7 ∷ 7 ∷ [])) c4323))
     (0 ∷ 5 ∷ 1 ∷ 2 ∷ 3 ∷ 3 ∷ 4 ∷ 9 ∷ 0 ∷ 1 ∷ 1 ∷ 0 ∷ 1 ∷ 8 ∷ 5 ∷ 3 ∷ 2 ∷ 4 ∷ 1 ∷ 7 ∷ counts (1 ∷ 1 ∷ 2 ∷ 1 ∷ []))
-    ∷ case (inserted (insertRun 64 0 1 (pair (9 ∷ []) (8 ∷ []) (7 ∷ [])) (counts []))) (0 ∷ 1 ∷ 1 ∷ 0 ∷ 1 ∷ counts (1 ∷ []))
-    ∷ case (inserted (insertRun 64 0 64 (pair (9 ∷ []) (8 ∷ []) (7 ∷ [])) (counts []))) (0 ∷ 1 ∷ 64 ∷ 0 ∷ 1 ∷ set (counts []) 63 1)
-    ∷ case (inserted (insertRun 4 0 1 (pair (9 ∷ []) (8 ∷ []) (7 ∷ [])) (6 ∷ 7 ∷ []))) (17 ∷ 0 ∷ 9 ∷ 8 ∷ 7 ∷ 6 ∷ 7 ∷ [])
+    ∷ case (pairOutcome (insertRun 64 0 1 (pairWith (9 ∷ []) (8 ∷ []) (7 ∷ [])) (counts []))) (0 ∷ 1 ∷ 1 ∷ 0 ∷ 1 ∷ counts (1 ∷ []))
+    ∷ case (pairOutcome (insertRun 64 0 64 (pairWith (9 ∷ []) (8 ∷ []) (7 ∷ [])) (counts []))) (0 ∷ 1 ∷ 64 ∷ 0 ∷ 1 ∷ set (counts []) 63 1)
+    ∷ case (pairOutcome (insertRun 4 0 1 (pairWith (9 ∷ []) (8 ∷ []) (7 ∷ [])) (6 ∷ 7 ∷ []))) (17 ∷ 0 ∷ 9 ∷ 8 ∷ 7 ∷ 6 ∷ 7 ∷ [])
     -- a move on either side: one count less, its neighbour one more; at both ends too
     ∷ case (outcomes (moveTableauRun 3 (raise 1) (1 ∷ 2 ∷ 2 ∷ []) (0 ∷ 0 ∷ 0 ∷ []) (counts (1 ∷ 2 ∷ [])))) (0 ∷ 1 ∷ 1 ∷ 1 ∷ 2 ∷ counts (2 ∷ 1 ∷ []))
     ∷ case (outcomes (moveTableauRun 3 (lower 2) (1 ∷ 2 ∷ 2 ∷ []) (0 ∷ 0 ∷ 0 ∷ []) (counts (1 ∷ 2 ∷ [])))) (0 ∷ 2 ∷ 1 ∷ 2 ∷ 3 ∷ counts (1 ∷ 1 ∷ 1 ∷ []))

@@ -2,7 +2,6 @@
 -- and value that it replies, and each limit on both sides. So none of them can be changed in definitions and code together.
 --     onWords, onTwo, onTableaux, onPairs              what an operation says of inputs that each break one check and the one after it
 --     wordOrder, twoOrder, tableauOrder, pairOrder     what it must say: the first of the two
---     inserted                                         a reply beside three lent lists and letter counts
 --     orderCases, valueCases, lineCases                the cases
 -- Letter counts have cases of their own, in Counted. That the two sides of every case are equal is proved in proofs/Theory/Pinned.antt. Assumes nothing.
 use Prim.Native.Nat.{ℕ}
@@ -10,18 +9,18 @@ use mathlib.Core.Bool.{true}
 use mathlib.Core.List.{List, [], _∷_, _++_}
 use lib.ListN.{length, replicate}
 use Rattle.grammar.specs.Lines.{eLine}
+use Rattle.hypoplactic.specs.Insertion.{pairWith}
 use Rattle.hypoplactic.specs.Words.{tick}
-use Rattle.hypoplactic.specs.Insertion.{Pair}
 use Rattle.hypoplactic.specs.Moves.{below}
 use Rattle.hypoplactic.specs.Junctions.{junctionSet}
 use Rattle.hypoplactic.specs.Replies.{Said, first, passed, refused}
 use Rattle.hypoplactic.specs.Counts.{countsOf}
 use Rattle.hypoplactic.specs.Judgements.{fullJudged, recordingJudged, roomJudged}
 use Rattle.hypoplactic.specs.WordOperations.{junctionSays, moveJudgements, moveWordRun, moveWordSays, repeatWordSays, sameClassSays, weightsSays}
-use Rattle.hypoplactic.specs.TableauOperations.{cellAt, insertRun, insertSays, lookSays, moveTableauSays, readingRun, readingSays, recordingSays, repeatTableauSays, tableauRun, tableauSays, throughSays, viewerSays, wordRun, wordSays}
-use Rattle.hypoplactic.specs.LineOperations.{eLineRun, jLineRun, nLineRun, program, roomRun, tLineRun, tableauLineRun, wLineRun}
-use Rattle.hypoplactic.specs.LineReadings.{answerRun, output, readNRun, readTRun, readWRun, recordingRead, tableauRead, wordRead}
-use Rattle.hypoplactic.specs.Starred.{Case, case, counts, lower, numbers, outcome, pair, raise, tableauOutcome, text, w4323, w433}
+use Rattle.hypoplactic.specs.TableauOperations.{cellAt, insertRun, insertSays, lookSays, moveTableauSays, pairRun, pairSays, readingRun, readingSays, repeatTableauSays, throughSays, viewerSays, wordRun, wordSays}
+use Rattle.hypoplactic.specs.LineOperations.{eLineRun, jLineRun, pLineRun, program, roomRun, tLineRun, tableauLineRun, wLineRun}
+use Rattle.hypoplactic.specs.LineReadings.{answerRun, output, pairRead, readPRun, readTRun, readWRun, tableauRead, wordRead}
+use Rattle.hypoplactic.specs.Starred.{Case, case, counts, lent, lentPair, lower, numbers, outcome, pairOutcome, raise, tableauOutcome, text, w4323, w433}
 
 -- ---- inputs that break two checks
 
@@ -76,10 +75,6 @@ onPairs says =
 abbrev pub pairOrder : List ℕ
 pairOrder = 1 ∷ 0 ∷ 2 ∷ 0 ∷ 3 ∷ 0 ∷ 3 ∷ 0 ∷ 3 ∷ 0 ∷ 4 ∷ 2 ∷ 5 ∷ 1 ∷ 6 ∷ 1 ∷ 7 ∷ 2 ∷ 8 ∷ 1 ∷ []
 
--- A reply, and three lent lists and the letter counts after it.
-abbrev pub inserted : Said × (Pair × List ℕ) → List ℕ
-inserted r = numbers (r .0) ++ (r .1 .0 .letters ++ (r .1 .0 .marks ++ (r .1 .0 .recording ++ r .1 .1)))
-
 -- ---- the order of checks
 
 -- What comes after the inputs' own checks is broken too: an index 0, or no room. A tableau's counts are all 0, so that 6 stands before 17; a pair's are true.
@@ -89,8 +84,7 @@ orderCases =
     case (onWords junctionSays) wordOrder
     ∷ case (onWords (λ n w. moveWordSays n (raise 0) w)) wordOrder
     ∷ case (onWords (λ n w. repeatWordSays n (raise 0) w)) wordOrder
-    ∷ case (onWords (λ n w. tableauSays n w 0 0)) wordOrder
-    ∷ case (onWords (λ n w. recordingSays n w 0)) wordOrder
+    ∷ case (onWords (λ n w. pairSays n w 0 0 0)) wordOrder
     ∷ case (onWords (λ n w. (wLineRun n w []) .0)) wordOrder
     ∷ case (onWords (λ n w. (tableauLineRun n w []) .0)) wordOrder
     ∷ case (onWords (λ n w. (jLineRun n w []) .0)) wordOrder
@@ -111,10 +105,9 @@ orderCases =
     ∷ case (onTableaux (λ n xs ms. (tableauRead [] [] [] n xs ms) .0)) tableauOrder
     -- of a pair
     ∷ case (onPairs (λ n xs ms rs. wordSays n xs ms rs (countsOf xs) 0)) pairOrder
-    ∷ case (onPairs (λ n xs ms rs. insertSays n (length xs) 1 (pair xs ms rs) (countsOf xs))) pairOrder
-    -- of a recording ribbon alone: 2 before 7 before 13
-    ∷ case (numbers ((nLineRun (replicate 1025 0) []) .0) ++ numbers ((nLineRun (0 ∷ []) []) .0)) (2 ∷ 0 ∷ 7 ∷ 0 ∷ [])
-    ∷ case (numbers ((recordingRead [] (replicate 1025 0)) .0) ++ numbers ((recordingRead [] (0 ∷ [])) .0)) (2 ∷ 0 ∷ 7 ∷ 0 ∷ [])
+    ∷ case (onPairs (λ n xs ms rs. insertSays n (length xs) 1 (pairWith xs ms rs) (countsOf xs))) pairOrder
+    ∷ case (onPairs (λ n xs ms rs. (pLineRun n xs ms rs []) .0)) pairOrder
+    ∷ case (onPairs (λ n xs ms rs. (pairRead (pairWith [] [] []) [] n xs ms rs) .0)) pairOrder
     ∷ []
 
 -- ---- values, places and limits
@@ -164,27 +157,28 @@ valueCases =
     -- 12: one cell is left of 1,024
     ∷ case (numbers (fullJudged 1023)) (0 ∷ [])
     -- 13: each output in turn, with the elements that are needed; as many as needed are enough
-    ∷ case (tableauOutcome (tableauRun 4 w433 (9 ∷ 9 ∷ []) (8 ∷ 8 ∷ 8 ∷ 8 ∷ []) (6 ∷ 7 ∷ []))) (13 ∷ 3 ∷ 9 ∷ 9 ∷ 8 ∷ 8 ∷ 8 ∷ 8 ∷ 6 ∷ 7 ∷ [])
-    ∷ case (tableauOutcome (tableauRun 4 w433 (9 ∷ 9 ∷ 9 ∷ 9 ∷ []) (8 ∷ 8 ∷ []) (6 ∷ 7 ∷ []))) (13 ∷ 3 ∷ 9 ∷ 9 ∷ 9 ∷ 9 ∷ 8 ∷ 8 ∷ 6 ∷ 7 ∷ [])
-    ∷ case (numbers (insertSays 4 1 3 (pair (1 ∷ 0 ∷ []) (0 ∷ []) (1 ∷ 0 ∷ [])) (counts (1 ∷ [])))) (13 ∷ 2 ∷ [])
-    ∷ case (numbers (insertSays 4 1 3 (pair (1 ∷ 0 ∷ []) (0 ∷ 0 ∷ []) (1 ∷ [])) (counts (1 ∷ [])))) (13 ∷ 2 ∷ [])
+    ∷ case (pairOutcome (pairRun 4 w433 (pairWith (9 ∷ 9 ∷ []) (lent 3) (lent 3)) (6 ∷ 7 ∷ []))) (13 ∷ 3 ∷ 9 ∷ 9 ∷ (lent 3 ++ lent 3 ++ 6 ∷ 7 ∷ []))
+    ∷ case (pairOutcome (pairRun 4 w433 (pairWith (lent 3) (8 ∷ 8 ∷ []) (lent 3)) (6 ∷ 7 ∷ []))) (13 ∷ 3 ∷ (lent 3 ++ 8 ∷ 8 ∷ (lent 3 ++ 6 ∷ 7 ∷ [])))
+    ∷ case (pairOutcome (pairRun 4 w433 (pairWith (lent 3) (lent 3) (7 ∷ 7 ∷ [])) (6 ∷ 7 ∷ []))) (13 ∷ 3 ∷ (lent 3 ++ lent 3 ++ 7 ∷ 7 ∷ 6 ∷ 7 ∷ []))
+    ∷ case (numbers (insertSays 4 1 3 (pairWith (1 ∷ 0 ∷ []) (0 ∷ []) (1 ∷ 0 ∷ [])) (counts (1 ∷ [])))) (13 ∷ 2 ∷ [])
+    ∷ case (numbers (insertSays 4 1 3 (pairWith (1 ∷ 0 ∷ []) (0 ∷ 0 ∷ []) (1 ∷ [])) (counts (1 ∷ [])))) (13 ∷ 2 ∷ [])
     ∷ case (outcome (wordRun 4 (1 ∷ 2 ∷ []) (0 ∷ 1 ∷ []) (2 ∷ 1 ∷ []) (counts (1 ∷ 1 ∷ [])) (9 ∷ []))) (13 ∷ 2 ∷ 9 ∷ [])
     ∷ case (outcome (readingRun 4 (1 ∷ 2 ∷ []) (0 ∷ 1 ∷ []) (counts (1 ∷ 1 ∷ [])) (9 ∷ []))) (13 ∷ 2 ∷ 9 ∷ [])
     ∷ case (numbers (roomJudged 2 2)) (0 ∷ [])
     -- results: the elements written, and lent lists longer than needed
-    ∷ case (tableauOutcome (tableauRun 4 w433 (9 ∷ 9 ∷ 9 ∷ 9 ∷ []) (8 ∷ 8 ∷ 8 ∷ 8 ∷ []) (6 ∷ 7 ∷ [])))
-    (0 ∷ 3 ∷ 3 ∷ 3 ∷ 4 ∷ 9 ∷ 0 ∷ 0 ∷ 1 ∷ 8 ∷ counts (0 ∷ 0 ∷ 2 ∷ 1 ∷ []))
+    ∷ case (pairOutcome (pairRun 4 w433 (pairWith (9 ∷ 9 ∷ 9 ∷ 9 ∷ []) (8 ∷ 8 ∷ 8 ∷ []) (7 ∷ 7 ∷ 7 ∷ 7 ∷ 7 ∷ [])) (6 ∷ [])))
+    (0 ∷ 3 ∷ 3 ∷ 3 ∷ 4 ∷ 9 ∷ 0 ∷ 0 ∷ 1 ∷ 2 ∷ 3 ∷ 1 ∷ 7 ∷ 7 ∷ counts (0 ∷ 0 ∷ 2 ∷ 1 ∷ []))
     ∷ case (outcome (wordRun 4 (1 ∷ 2 ∷ []) (0 ∷ 1 ∷ []) (2 ∷ 1 ∷ []) (counts (1 ∷ 1 ∷ [])) (9 ∷ 9 ∷ 9 ∷ []))) (0 ∷ 2 ∷ 2 ∷ 1 ∷ 9 ∷ [])
     ∷ case (outcome (readingRun 4 (1 ∷ 2 ∷ 3 ∷ []) (0 ∷ 1 ∷ 0 ∷ []) (counts (1 ∷ 1 ∷ 1 ∷ [])) (9 ∷ 9 ∷ 9 ∷ 9 ∷ []))) (0 ∷ 3 ∷ 2 ∷ 1 ∷ 3 ∷ 9 ∷ [])
     -- insertion gives the new used count; a refusal leaves all three lists and the counts
-    ∷ case (inserted (insertRun 4 2 3 (pair (2 ∷ 4 ∷ 9 ∷ 9 ∷ []) (0 ∷ 1 ∷ 8 ∷ 8 ∷ []) (2 ∷ 1 ∷ 7 ∷ 7 ∷ [])) (counts (0 ∷ 1 ∷ 0 ∷ 1 ∷ []))))
+    ∷ case (pairOutcome (insertRun 4 2 3 (pairWith (2 ∷ 4 ∷ 9 ∷ 9 ∷ []) (0 ∷ 1 ∷ 8 ∷ 8 ∷ []) (2 ∷ 1 ∷ 7 ∷ 7 ∷ [])) (counts (0 ∷ 1 ∷ 0 ∷ 1 ∷ []))))
     (0 ∷ 3 ∷ 2 ∷ 3 ∷ 4 ∷ 9 ∷ 0 ∷ 0 ∷ 1 ∷ 8 ∷ 2 ∷ 3 ∷ 1 ∷ 7 ∷ counts (0 ∷ 1 ∷ 1 ∷ 1 ∷ []))
-    ∷ case (inserted (insertRun 4 1 5 (pair (1 ∷ 9 ∷ []) (0 ∷ 8 ∷ []) (1 ∷ 7 ∷ [])) (1 ∷ 6 ∷ []))) (4 ∷ 1 ∷ 1 ∷ 9 ∷ 0 ∷ 8 ∷ 1 ∷ 7 ∷ 1 ∷ 6 ∷ [])
+    ∷ case (pairOutcome (insertRun 4 1 5 (pairWith (1 ∷ 9 ∷ []) (0 ∷ 8 ∷ []) (1 ∷ 7 ∷ [])) (1 ∷ 6 ∷ []))) (4 ∷ 1 ∷ 1 ∷ 9 ∷ 0 ∷ 8 ∷ 1 ∷ 7 ∷ 1 ∷ 6 ∷ [])
     -- 3 by the letters; 6 by every used mark; lists longer than 1,024 and cells that are not used are not judged; 7 takes the used count
-    ∷ case (numbers (insertSays 4 2 1 (pair (1 ∷ []) (0 ∷ 0 ∷ []) (1 ∷ 2 ∷ [])) [])) (3 ∷ 0 ∷ [])
-    ∷ case (numbers (insertSays 1 2 1 (pair (1 ∷ 1 ∷ 0 ∷ []) (0 ∷ 1 ∷ 0 ∷ []) (1 ∷ 2 ∷ 0 ∷ [])) [])) (6 ∷ 1 ∷ [])
-    ∷ case (numbers (insertSays 4 0 1 (pair (replicate 1025 0) (replicate 1025 2) (replicate 1025 0)) (counts []))) (0 ∷ 1 ∷ [])
-    ∷ case (numbers (insertSays 4 2 1 (pair (1 ∷ 2 ∷ 0 ∷ []) (0 ∷ 0 ∷ 0 ∷ []) (1 ∷ 3 ∷ 0 ∷ [])) (counts (1 ∷ 1 ∷ [])))) (7 ∷ 1 ∷ [])
+    ∷ case (numbers (insertSays 4 2 1 (pairWith (1 ∷ []) (0 ∷ 0 ∷ []) (1 ∷ 2 ∷ [])) [])) (3 ∷ 0 ∷ [])
+    ∷ case (numbers (insertSays 1 2 1 (pairWith (1 ∷ 1 ∷ 0 ∷ []) (0 ∷ 1 ∷ 0 ∷ []) (1 ∷ 2 ∷ 0 ∷ [])) [])) (6 ∷ 1 ∷ [])
+    ∷ case (numbers (insertSays 4 0 1 (pairWith (replicate 1025 0) (replicate 1025 2) (replicate 1025 0)) (counts []))) (0 ∷ 1 ∷ [])
+    ∷ case (numbers (insertSays 4 2 1 (pairWith (1 ∷ 2 ∷ 0 ∷ []) (0 ∷ 0 ∷ 0 ∷ []) (1 ∷ 3 ∷ 0 ∷ [])) (counts (1 ∷ 1 ∷ [])))) (7 ∷ 1 ∷ [])
     ∷ []
 
 -- ---- lines
@@ -199,25 +193,36 @@ lineCases =
     -- 14 before 1 and 2; numbers of up to four digits; nothing after the line feed
     ∷ case (outcome (readWRun (text "W,0,1025,1\n") (9 ∷ []))) (14 ∷ 10 ∷ 9 ∷ [])
     ∷ case (tableauOutcome (readTRun (text "T,0,1025,1\n") (9 ∷ []) (8 ∷ []) (6 ∷ 7 ∷ []))) (14 ∷ 10 ∷ 9 ∷ 8 ∷ 6 ∷ 7 ∷ [])
-    ∷ case (outcome (readNRun (text "N,1025,1\n") (9 ∷ []))) (14 ∷ 8 ∷ 9 ∷ [])
+    ∷ case (pairOutcome (readPRun (text "P,0,1025,1\n") (pairWith (9 ∷ []) (8 ∷ []) (7 ∷ [])) (6 ∷ []))) (14 ∷ 10 ∷ 9 ∷ 8 ∷ 7 ∷ 6 ∷ [])
+    -- a P line has as many entries as cells, and no more
+    ∷ case (numbers ((readPRun (text "P,4,0,1\n") (lentPair 0) []) .0) ++ numbers ((readPRun (text "P,4,2,1,r,2,1\n") (lentPair 2) []) .0)) (14 ∷ 5 ∷ 14 ∷ 13 ∷ [])
+    ∷ case (numbers ((readPRun (text "P,4,1,3,1,1\n") (lentPair 1) []) .0) ++ numbers ((readPRun (text "T,4,1,3\n") (lentPair 1) []) .0)) (14 ∷ 9 ∷ 14 ∷ 0 ∷ [])
+    -- 5, 6, 7 and 8 of its values, the first that they break
+    ∷ case (numbers ((readPRun (text "P,4,2,2,r,1,9,9\n") (lentPair 2) []) .0) ++ numbers ((readPRun (text "P,4,2,1,d,1,9,9\n") (lentPair 2) []) .0)) (5 ∷ 1 ∷ 6 ∷ 1 ∷ [])
+    ∷ case (numbers ((readPRun (text "P,4,2,1,d,2,2,2\n") (lentPair 2) []) .0) ++ numbers ((readPRun (text "P,4,2,1,d,2,1,2\n") (lentPair 2) []) .0)) (7 ∷ 1 ∷ 8 ∷ 1 ∷ [])
+    ∷ case (numbers ((readPRun (text "P,4,2,1,r,2,2,1\n") (lentPair 2) []) .0)) (8 ∷ 1 ∷ [])
     ∷ case (numbers ((readWRun (text "W,9999,0\n") []) .0)) (1 ∷ 0 ∷ [])
     ∷ case (numbers ((readWRun (text "W,10000,0\n") []) .0)) (14 ∷ 6 ∷ [])
     ∷ case (numbers ((readWRun (text "W,4,0\n\n") []) .0)) (14 ∷ 6 ∷ [])
-    -- readers give rank and length, or length; 13 for each output
+    -- readers give rank and length; 13 for each output
     ∷ case (outcome (readWRun (text "W,64,2,13,1\n") (9 ∷ 9 ∷ 9 ∷ []))) (0 ∷ 64 ∷ 2 ∷ 13 ∷ 1 ∷ 9 ∷ [])
     ∷ case (outcome (readWRun (text "W,4,2,3,1\n") (9 ∷ []))) (13 ∷ 2 ∷ 9 ∷ [])
     ∷ case (tableauOutcome (readTRun (text "T,4,2,1,d,3\n") (9 ∷ 9 ∷ 9 ∷ []) (8 ∷ 8 ∷ 8 ∷ []) (6 ∷ 7 ∷ [])))
     (0 ∷ 4 ∷ 2 ∷ 1 ∷ 3 ∷ 9 ∷ 0 ∷ 1 ∷ 8 ∷ counts (1 ∷ 0 ∷ 1 ∷ []))
     ∷ case (tableauOutcome (readTRun (text "T,4,2,1,d,3\n") (9 ∷ []) (8 ∷ 8 ∷ 8 ∷ []) (6 ∷ 7 ∷ []))) (13 ∷ 2 ∷ 9 ∷ 8 ∷ 8 ∷ 8 ∷ 6 ∷ 7 ∷ [])
     ∷ case (tableauOutcome (readTRun (text "T,4,2,1,d,3\n") (9 ∷ 9 ∷ 9 ∷ []) (8 ∷ []) (6 ∷ 7 ∷ []))) (13 ∷ 2 ∷ 9 ∷ 9 ∷ 9 ∷ 8 ∷ 6 ∷ 7 ∷ [])
-    ∷ case (outcome (readNRun (text "N,2,2,1\n") (9 ∷ []))) (13 ∷ 2 ∷ 9 ∷ [])
+    ∷ case (pairOutcome (readPRun (text "P,4,2,1,d,3,2,1\n") (pairWith (9 ∷ 9 ∷ 9 ∷ []) (8 ∷ 8 ∷ 8 ∷ []) (7 ∷ 7 ∷ 7 ∷ [])) (6 ∷ 7 ∷ [])))
+    (0 ∷ 4 ∷ 2 ∷ 1 ∷ 3 ∷ 9 ∷ 0 ∷ 1 ∷ 8 ∷ 2 ∷ 1 ∷ 7 ∷ counts (1 ∷ 0 ∷ 1 ∷ []))
+    ∷ case (pairOutcome (readPRun (text "P,4,2,1,d,3,2,1\n") (pairWith (9 ∷ []) (lent 2) (lent 2)) (6 ∷ []))) (13 ∷ 2 ∷ 9 ∷ (lent 2 ++ lent 2 ++ 6 ∷ []))
+    ∷ case (pairOutcome (readPRun (text "P,4,2,1,d,3,2,1\n") (pairWith (lent 2) (8 ∷ []) (lent 2)) (6 ∷ []))) (13 ∷ 2 ∷ (lent 2 ++ 8 ∷ (lent 2 ++ 6 ∷ [])))
+    ∷ case (pairOutcome (readPRun (text "P,4,2,1,d,3,2,1\n") (pairWith (lent 2) (lent 2) (7 ∷ [])) (6 ∷ []))) (13 ∷ 2 ∷ (lent 2 ++ lent 2 ++ 7 ∷ 6 ∷ []))
     -- writers give the bytes written; 13 has the bytes needed
     ∷ case (outcome (wLineRun 4 (3 ∷ []) (replicate 9 7))) (0 ∷ 8 ∷ (text "W,4,1,3\n" ++ 7 ∷ []))
     ∷ case (outcome (wLineRun 4 (3 ∷ []) (7 ∷ []))) (13 ∷ 8 ∷ 7 ∷ [])
     ∷ case (outcome (tLineRun 4 (1 ∷ 3 ∷ []) (0 ∷ 0 ∷ []) (replicate 13 7))) (0 ∷ 12 ∷ (text "T,4,2,1,r,3\n" ++ 7 ∷ []))
     ∷ case (outcome (tLineRun 4 (1 ∷ 3 ∷ []) (0 ∷ 1 ∷ []) (7 ∷ []))) (13 ∷ 12 ∷ 7 ∷ [])
-    ∷ case (outcome (nLineRun (2 ∷ 1 ∷ []) (replicate 9 7))) (0 ∷ 8 ∷ (text "N,2,2,1\n" ++ 7 ∷ []))
-    ∷ case (outcome (nLineRun (2 ∷ 1 ∷ []) (7 ∷ []))) (13 ∷ 8 ∷ 7 ∷ [])
+    ∷ case (outcome (pLineRun 4 (1 ∷ 3 ∷ []) (0 ∷ 1 ∷ []) (2 ∷ 1 ∷ []) (replicate 17 7))) (0 ∷ 16 ∷ (text "P,4,2,1,d,3,2,1\n" ++ 7 ∷ []))
+    ∷ case (outcome (pLineRun 4 (1 ∷ 3 ∷ []) (0 ∷ 1 ∷ []) (2 ∷ 1 ∷ []) (7 ∷ []))) (13 ∷ 16 ∷ 7 ∷ [])
     ∷ case (outcome (tableauLineRun 4 (3 ∷ 1 ∷ []) (replicate 13 7))) (0 ∷ 12 ∷ (text "T,4,2,1,d,3\n" ++ 7 ∷ []))
     ∷ case (outcome (tableauLineRun 4 (3 ∷ 1 ∷ []) (7 ∷ []))) (13 ∷ 12 ∷ 7 ∷ [])
     ∷ case (outcome (jLineRun 4 w4323 (replicate 7 7))) (0 ∷ 6 ∷ (text "J,6,3\n" ++ 7 ∷ []))

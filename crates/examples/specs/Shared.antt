@@ -8,6 +8,7 @@ use mathlib.Core.List.{List, [], _∷_, _++_, map}
 use mathlib.Core.Option.{none, some}
 use lib.ListN.{length, replicate}
 use Rattle.grammar.specs.Reading.{letters, marks}
+use Rattle.hypoplactic.specs.Insertion.{pairWith}
 use Rattle.hypoplactic.specs.Words.{tick}
 use Rattle.hypoplactic.specs.Counts.{countsOf}
 use Rattle.hypoplactic.specs.Starred.{Case, case, lower, numbers, outcome, raise, text, w4323}
@@ -20,9 +21,9 @@ use Rattle.scans.specs.Kept.{kept}
 use Rattle.scans.specs.Scans.{wholeCells}
 use Rattle.words.specs.Given.{countGiven, junctionGiven}
 use Rattle.words.specs.Junctions.{bitAt}
-use Rattle.fillings.specs.Filled.{filled}
+use Rattle.fillings.specs.Filled.{filled, filledLetters}
 use Rattle.operators.specs.Changes.{moveLettersRun, repeatLettersSays}
-use Rattle.admissions.specs.Checks.{insertChecks, pairWith}
+use Rattle.admissions.specs.Checks.{insertChecks}
 use Rattle.examples.specs.Counted.{countOrder, onCounts, rises, zeros}
 use Rattle.examples.specs.Pinned.{onPairs, pairOrder}
 
@@ -67,6 +68,9 @@ sharedCases =
     ∷ case (filling 3 1 (9 ∷ 9 ∷ 9 ∷ []) (8 ∷ 8 ∷ [])) (9 ∷ 9 ∷ 9 ∷ 8 ∷ 8 ∷ [])
     ∷ case (filling 1 1 (9 ∷ []) (8 ∷ [])) (1 ∷ 0 ∷ [])
     ∷ case (filling 65 1 (9 ∷ 9 ∷ 9 ∷ []) (8 ∷ 8 ∷ 8 ∷ [])) (9 ∷ 9 ∷ 9 ∷ 8 ∷ 8 ∷ 8 ∷ [])
+    -- letters alone: with room to spare, too short, above 64
+    ∷ case (filledLetters 3 (1 ∷ 0 ∷ 2 ∷ []) (9 ∷ 9 ∷ 9 ∷ 9 ∷ []) ++ filledLetters 3 (1 ∷ 0 ∷ 2 ∷ []) (9 ∷ 9 ∷ [])) (1 ∷ 3 ∷ 3 ∷ 9 ∷ 9 ∷ 9 ∷ [])
+    ∷ case (filledLetters 64 (1 ∷ []) (9 ∷ []) ++ filledLetters 65 (1 ∷ []) (9 ∷ [])) (1 ∷ 9 ∷ [])
     -- a move once its inversion is known: 1, 9, 10, 11, or made at a place
     ∷ case (outcome (moveLettersRun 65 (raise 0) true [])) (1 ∷ 0 ∷ [])
     ∷ case (outcome (moveLettersRun 4 (raise 0) true [])) (9 ∷ 0 ∷ [])

@@ -3,17 +3,17 @@
 -- Assumes nothing.
 use mathlib.Core.Path.{_≡_, refl}
 use mathlib.Core.List.{map}
-use Rattle.grammar.specs.Reading.{readT}
+use Rattle.grammar.specs.Reading.{readP, readT}
 use Rattle.hypoplactic.specs.Counts.{countsJudged, countsOf}
 use Rattle.hypoplactic.specs.Insertion.{insert, pairOf}
 use Rattle.hypoplactic.specs.Moves.{repeatTableau}
 use Rattle.hypoplactic.specs.Judgements.{alikeJudged, entriesJudged, fullJudged, indexJudged, inversionJudged, lengthJudged, letterJudged, lettersJudged, marksJudged, rankJudged, recordingJudged, risingJudged, roomJudged, usedJudged}
-use Rattle.hypoplactic.specs.TableauOperations.{insertRun, insertSays, moveTableauRun, moveTableauSays, readingSays, repeatTableauSays, tableauRun, tableauSays, wordSays}
-use Rattle.hypoplactic.specs.LineReadings.{readTRun}
+use Rattle.hypoplactic.specs.TableauOperations.{insertRun, insertSays, moveTableauRun, moveTableauSays, pairRun, pairSays, readingSays, repeatTableauSays, wordSays}
+use Rattle.hypoplactic.specs.LineReadings.{readPRun, readTRun}
 use Rattle.hypoplactic.specs.Starred.{Case}
 use Rattle.examples.specs.Counted.{countCases}
 
 -- 17 stands where document 02 has it, names each place, and the counts follow the letters.
 pub counts-pinned : map (λ (c : Case). c .meaning) countCases ≡ map (λ (c : Case). c .document) countCases
-unfolding countCases countsOf countsJudged readT pairOf insert repeatTableau rankJudged lengthJudged alikeJudged usedJudged lettersJudged risingJudged marksJudged entriesJudged recordingJudged indexJudged inversionJudged letterJudged fullJudged roomJudged tableauSays tableauRun insertSays insertRun wordSays readingSays moveTableauSays moveTableauRun repeatTableauSays readTRun
+unfolding countCases countsOf countsJudged readT readP pairOf insert repeatTableau rankJudged lengthJudged alikeJudged usedJudged lettersJudged risingJudged marksJudged entriesJudged recordingJudged indexJudged inversionJudged letterJudged fullJudged roomJudged pairSays pairRun insertSays insertRun wordSays readingSays moveTableauSays moveTableauRun repeatTableauSays readPRun readTRun
 counts-pinned = refl

@@ -8,8 +8,8 @@ use mathlib.Core.List.{List, [], _∷_, _++_, map}
 use lib.ListN.{length, take}
 use lib.Count.{ones, onesIn}
 use Rattle.grammar.specs.Numbers.{decimal}
-use Rattle.grammar.specs.Lines.{wLine, tLine, nLine, jLine, eLine}
-use Rattle.grammar.specs.Reading.{readW, readT, readN}
+use Rattle.grammar.specs.Lines.{wLine, tLine, pLine, jLine, eLine}
+use Rattle.grammar.specs.Reading.{readW, readT, readP}
 use Rattle.hypoplactic.specs.Words.{Inside}
 use Rattle.hypoplactic.specs.Ribbons.{TableauAt}
 use Rattle.hypoplactic.specs.Insertion.{Pair, insert, pairOf, wordOf}
@@ -21,9 +21,9 @@ use Rattle.hypoplactic.specs.Replies.{Passes, orElse, refused}
 use Rattle.hypoplactic.specs.Counts.{countsJudged, countsOf}
 use Rattle.hypoplactic.specs.Judgements.{rankJudged, lengthJudged, lettersJudged, indexJudged, inversionJudged, letterJudged, alikeJudged, usedJudged, risingJudged, marksJudged, entriesJudged, recordingJudged, fullJudged, roomJudged}
 use Rattle.hypoplactic.specs.WordOperations.{junctionSays, moveWordRun, moveWordSays, repeatWordSays, sameClassSays, weightsSays}
-use Rattle.hypoplactic.specs.TableauOperations.{insertRun, insertSays, lookSays, moveTableauSays, readingRun, readingSays, recordingSays, repeatTableauSays, tableauRun, tableauSays, throughSays, viewerSays, wordRun, wordSays}
-use Rattle.hypoplactic.specs.LineOperations.{program, tableauLine, eLineRun, jLineRun, nLineRun, roomRun, tLineRun, tableauLineRun, wLineRun}
-use Rattle.hypoplactic.specs.LineReadings.{answerRun, output, readNRun, readTRun, readWRun}
+use Rattle.hypoplactic.specs.TableauOperations.{insertRun, insertSays, lookSays, moveTableauSays, pairRun, pairSays, readingRun, readingSays, repeatTableauSays, throughSays, viewerSays, wordRun, wordSays}
+use Rattle.hypoplactic.specs.LineOperations.{pairLine, program, tableauLine, eLineRun, jLineRun, pLineRun, roomRun, tLineRun, tableauLineRun, wLineRun}
+use Rattle.hypoplactic.specs.LineReadings.{answerRun, output, readPRun, readTRun, readWRun}
 use Rattle.hypoplactic.specs.Starred.{Case}
 use Rattle.examples.specs.Pinned.{lineCases, orderCases, valueCases}
 use Rattle.hypoplactic.proofs.Theory.Passing.{first-past}
@@ -33,17 +33,17 @@ use Rattle.hypoplactic.proofs.Theory.Judged.{tableau-passing}
 
 -- Every operation makes its checks in document 01's order.
 pub orders-pinned : map (λ (c : Case). c .meaning) orderCases ≡ map (λ (c : Case). c .document) orderCases
-unfolding orderCases countsOf countsJudged rankJudged lengthJudged alikeJudged usedJudged lettersJudged risingJudged marksJudged entriesJudged recordingJudged indexJudged inversionJudged fullJudged roomJudged junctionSays moveWordSays repeatWordSays sameClassSays weightsSays tableauSays recordingSays insertSays wordSays readingSays moveTableauSays repeatTableauSays viewerSays lookSays wLineRun tLineRun nLineRun tableauLineRun jLineRun
+unfolding orderCases countsOf countsJudged rankJudged lengthJudged alikeJudged usedJudged lettersJudged risingJudged marksJudged entriesJudged recordingJudged indexJudged inversionJudged fullJudged roomJudged junctionSays moveWordSays repeatWordSays sameClassSays weightsSays pairSays insertSays wordSays readingSays moveTableauSays repeatTableauSays viewerSays lookSays wLineRun tLineRun pLineRun tableauLineRun jLineRun
 orders-pinned = refl
 
 -- Every reply has its values, and every limit its place.
 pub values-pinned : map (λ (c : Case). c .meaning) valueCases ≡ map (λ (c : Case). c .document) valueCases
-unfolding valueCases countsOf countsJudged pairOf insert wordOf columnReading number junctionSet rowsOf ones onesIn sameClass compareWeights repeatTableau rankJudged lengthJudged alikeJudged usedJudged lettersJudged risingJudged marksJudged entriesJudged recordingJudged indexJudged inversionJudged letterJudged fullJudged roomJudged junctionSays moveWordSays moveWordRun repeatWordSays sameClassSays weightsSays tableauSays tableauRun insertSays insertRun wordSays wordRun readingSays readingRun repeatTableauSays viewerSays throughSays lookSays
+unfolding valueCases countsOf countsJudged pairOf insert wordOf columnReading number junctionSet rowsOf ones onesIn sameClass compareWeights repeatTableau rankJudged lengthJudged alikeJudged usedJudged lettersJudged risingJudged marksJudged entriesJudged recordingJudged indexJudged inversionJudged letterJudged fullJudged roomJudged junctionSays moveWordSays moveWordRun repeatWordSays sameClassSays weightsSays pairSays pairRun insertSays insertRun wordSays wordRun readingSays readingRun repeatTableauSays viewerSays throughSays lookSays
 values-pinned = refl
 
 -- The same of readers, writers and the program.
 pub lines-pinned : map (λ (c : Case). c .meaning) lineCases ≡ map (λ (c : Case). c .document) lineCases
-unfolding lineCases countsOf readW readT readN wLine tLine nLine jLine eLine decimal pairOf insert number junctionSet rowsOf ones onesIn program tableauLine rankJudged lengthJudged alikeJudged lettersJudged risingJudged marksJudged entriesJudged roomJudged roomRun wLineRun tLineRun nLineRun tableauLineRun jLineRun eLineRun readWRun readTRun readNRun output answerRun
+unfolding lineCases countsOf readW readT readP wLine tLine pLine jLine eLine decimal pairOf insert number junctionSet rowsOf ones onesIn program pairLine tableauLine rankJudged lengthJudged alikeJudged lettersJudged risingJudged marksJudged entriesJudged recordingJudged roomJudged roomRun wLineRun tLineRun pLineRun tableauLineRun jLineRun eLineRun readWRun readTRun readPRun output answerRun
 lines-pinned = refl
 
 -- Insertion into 1,024 cells where 1 to 7 but 17 pass, whatever room there is: 17 stands before 8, 8 before 12, and 12 before 13. As a case it would compute

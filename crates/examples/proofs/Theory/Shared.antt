@@ -5,6 +5,7 @@
 --     table-ends                  a table has 64 numbers, that of the letter 1 first and that of 64 last
 --     field-told, break-told      a number of a line with the place after it, and the place of a break
 --     line-told, line-broken      a whole line with its values and what is kept of them, and one that breaks
+--     pair-told, pair-broken      the same of P lines
 -- Assumes nothing.
 use Prim.Native.Nat.{ℕ}
 use mathlib.Core.Path.{_≡_, refl}
@@ -27,18 +28,19 @@ use Rattle.occurrences.specs.Places.{foundPlace}
 use Rattle.occurrences.specs.declared.places.Found.the-variants.{At, Nothing}
 use Rattle.scans.specs.Cells.{readMarked}
 use Rattle.scans.specs.Heads.{readCounted, readEnd, readHead}
+use Rattle.scans.specs.PairScans.{PairScanned, pairCells, pairEntries, partEntries, readPair, readParts}
 use Rattle.scans.specs.Scans.{Scanned, readBody, readWhole, wholeCells}
 use Rattle.scans.specs.declared.line.Line.the-variants as line
 use Rattle.words.specs.Given.{countGiven, junctionGiven}
 use Rattle.words.specs.Tables.{Table}
-use Rattle.fillings.specs.Filled.{filled}
+use Rattle.fillings.specs.Filled.{filled, filledLetters}
 use Rattle.operators.specs.Changes.{moveLettersRun, repeatLettersSays}
 use Rattle.operators.specs.Targets.{moveBy}
 use Rattle.operators.specs.declared.changes.Side.the-variants.{Lowering, Raising}
 use Rattle.examples.specs.Shared.{sharedCases}
 
 pub shared-pinned : map (λ (c : Case). c .meaning) sharedCases ≡ map (λ (c : Case). c .document) sharedCases
-unfolding sharedCases countsOf countsJudged pushed wholeCells readHead readCounted number junctionSet rankJudged lengthJudged usedJudged lettersJudged risingJudged marksJudged entriesJudged recordingJudged indexJudged inversionJudged letterJudged fullJudged roomJudged checksThen countGiven junctionGiven filled layers moveLettersRun repeatLettersSays
+unfolding sharedCases countsOf countsJudged pushed wholeCells readHead readCounted number junctionSet rankJudged lengthJudged usedJudged lettersJudged risingJudged marksJudged entriesJudged recordingJudged indexJudged inversionJudged letterJudged fullJudged roomJudged checksThen countGiven junctionGiven filled filledLetters layers moveLettersRun repeatLettersSays
 shared-pinned = refl
 
 pub sides-named : (i : ℕ) → (moveBy Raising i ≡ raise i) × (moveBy Lowering i ≡ lower i)
@@ -71,3 +73,19 @@ pub line-broken :
     (3 ∷ 9 ∷ []) (8 ∷ []) (line.Broken 7)
 unfolding readWhole readBody readHead readCounted readEnd readMarked wholeCells
 line-broken = record { told = record { says = refl; within = omega arith }; long = refl; letters-are = refl; marks-are = refl }
+
+-- A P line: its cells, then its entries.
+pub pair-told :
+    PairScanned (text "P,4,1,3,1\n") (readPair (text "P,4,1,3,1\n")) (pairCells (text "P,4,1,3,1\n")) (pairEntries (text "P,4,1,3,1\n"))
+    (9 ∷ 9 ∷ []) (8 ∷ 8 ∷ []) (7 ∷ 7 ∷ []) (3 ∷ 9 ∷ []) (0 ∷ 8 ∷ []) (1 ∷ 7 ∷ []) (line.Read 4 1 10)
+unfolding readPair readParts readBody readHead readCounted readEnd readMarked wholeCells pairEntries partEntries
+pair-told =
+    record { told = record { says = refl; within = omega arith }; cells-long = refl; entries-long = refl; letters-are = refl; marks-are = refl; entries-are = refl }
+
+-- One that breaks among its entries: the cells and the entries before are kept, as far as they fit.
+pub pair-broken :
+    PairScanned (text "P,4,2,1,d,3,2x") (readPair (text "P,4,2,1,d,3,2x")) (pairCells (text "P,4,2,1,d,3,2x")) (pairEntries (text "P,4,2,1,d,3,2x"))
+    (9 ∷ []) (8 ∷ 8 ∷ []) (7 ∷ 7 ∷ []) (1 ∷ []) (0 ∷ 1 ∷ []) (2 ∷ 7 ∷ []) (line.Broken 13)
+unfolding readPair readParts readBody readHead readCounted readEnd readMarked wholeCells pairEntries partEntries
+pair-broken =
+    record { told = record { says = refl; within = omega arith }; cells-long = refl; entries-long = refl; letters-are = refl; marks-are = refl; entries-are = refl }
