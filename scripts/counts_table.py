@@ -14,14 +14,6 @@ NAMES = {
 }
 
 GIVEN = """
-tableau_of_word 4 4,3,2,3 0*4 0*4 -
-tableau_of_word 4 4,3,2,3 0*4 0*4 1-64
-tableau_of_word 64 1-64 0*64 0*64 -
-tableau_of_word 64 64,64,63 0*3 0*3 9*64
-tableau_of_word 4 1*1024 0*1024 0*1024 65535*64
-tableau_of_word 4 - - - 1-64
-tableau_of_word 4 4,5 9*2 9*2 1-64
-tableau_of_word 4 4,3 9 9*2 1-64
 read_tableau_line T,4,4,2,d,3,r,3,d,4$ 0*4 0*4 -
 read_tableau_line T,4,4,2,d,3,r,3,d,4$ 9*4 9*4 1-64
 read_tableau_line T,64,3,63,d,64,r,64$ 0*3 0*3 1-64

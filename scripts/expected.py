@@ -1,7 +1,8 @@
 """Input files and expected output of the program crates cases, word_operations and ribbon_operations.
 
     python3 scripts/expected.py write    makes them: in crates/cases/ {data/*,args,stdout}, in the two others {data/table,args,stdout}
-    python3 scripts/expected.py check    makes them in memory and says whether what stands in the repository is the same (exit status 1 if not)
+    python3 scripts/expected.py check    makes them in memory and says whether what stands in the repository is the same (exit status 1 if not), and halves
+    python3 scripts/expected.py halves   whether the program's P lines are its former T and N lines (crates/cases/former), and all else as it was
 
 The output comes from the plain Python beside this file (meaning.py, lines.py, class_numbers.py), which follows the documents and their open points and calls no code of
 the kernel. No file of Rattle is made here.
@@ -11,6 +12,7 @@ import sys
 
 sys.dont_write_bytecode = True
 
+from former_lines import halves
 from lines import program
 from operation_calls import came_of
 from operation_table import TABLES, operation_table
@@ -81,7 +83,9 @@ def main():
     if sys.argv[1:] == ["write"]:
         write(expected)
     elif sys.argv[1:] == ["check"]:
-        sys.exit(0 if check(expected) else 1)
+        sys.exit(0 if check(expected) & halves() else 1)
+    elif sys.argv[1:] == ["halves"]:
+        sys.exit(0 if halves() else 1)
     else:
         sys.exit(__doc__)
 

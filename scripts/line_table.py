@@ -1,5 +1,5 @@
-"""Lines of the tables of calls, for the readers and the writers of lines: document 01's checked words, every fault of the grammar that the program does
-not reach, one case at least for each refusal number, outputs longer than needed and too short by one, and the order of the checks."""
+"""Lines of the tables of calls, for the readers and the writers of W, T and J lines: document 01's checked words, every fault of the grammar that the program
+does not reach, one case at least for each refusal number, outputs longer than needed and too short by one, and the order of the checks."""
 
 WORD_LINES = """
 read_word_line W,4,4,4,3,2,3$ 0*4
@@ -51,7 +51,7 @@ tableau_line_of_word 4 4,3,2,5 35*19
 tableau_line_of_word 64 64*1024 35*1100
 """
 
-RIBBON_LINES = """
+TABLEAU_LINES = """
 read_tableau_line T,4,4,2,d,3,r,3,d,4$ 0*4 0*4 7*64
 read_tableau_line T,4,4,2,d,3,r,3,d,4$ 9*6 8*5 7*64
 read_tableau_line T,7,11,1,r,2,r,2,d,3,d,4,r,4,r,5,r,5,r,5,d,6,r,7$ 0*11 0*11 7*64
@@ -110,39 +110,6 @@ read_tableau_line T,4,3,2,d,2,r,1$ 9*3 9*3 7*64
 read_tableau_line T,4,3,1,r,2,d,3$ 9*2 9*3 7*64
 read_tableau_line T,4,3,1,r,2,d,3$ 9*3 9*2 7*64
 read_tableau_line T,4,3,1,r,2,d,2$ 9*2 9*2 7*64
-read_recording_line N,4,3,2,4,1$ 0*4
-read_recording_line N,4,3,2,4,1$ 999*6
-read_recording_line N,11,1,2,9,8,3,4,6,7,11,5,10$ 0*11
-read_recording_line N,0$ -
-read_recording_line N,0$ 9
-read_recording_line - 9
-read_recording_line $ 9
-read_recording_line n,0$ 9
-read_recording_line W,4,0$ 9
-read_recording_line N 9
-read_recording_line N, 9
-read_recording_line N,1 9
-read_recording_line N,1,1 9
-read_recording_line N,00$ 9
-read_recording_line N,1,01$ 9
-read_recording_line N,12345$ 9
-read_recording_line N,1,12345$ 9
-read_recording_line N,$ 9
-read_recording_line N,2,,1$ 9
-read_recording_line N,2,1,$ 9
-read_recording_line N,2,1$ 9
-read_recording_line N,1,1,2$ 9
-read_recording_line N,0,$ 9
-read_recording_line N,1,1$$ 9
-read_recording_line N,1,1$x 9
-read_recording_line N,1025(,0)*1025$ 9
-read_recording_line N,1025,1$ 9
-read_recording_line N,3,0,2,3$ 9*3
-read_recording_line N,3,1,4,3$ 9*3
-read_recording_line N,3,1,2,1$ 9*3
-read_recording_line N,3,3,9999,0$ 9*3
-read_recording_line N,3,1,2,3$ 9*2
-read_recording_line N,3,1,2,2$ 9*2
 write_tableau_line 4 2,3,3,4 0,1,0,1 35*20
 write_tableau_line 4 2,3,3,4 0,1,0,1 35*24
 write_tableau_line 7 1,2,2,3,4,4,5,5,5,6,7 0,0,0,1,1,0,0,0,0,1,0 35*50
@@ -158,14 +125,4 @@ write_tableau_line 4 2,3 1,1 35*20
 write_tableau_line 4 2,3 0,7 35*20
 write_tableau_line 4 2,3,3,4 0,1,0,1 35*19
 write_tableau_line 64 64*1024 0*1024 35*1100
-write_recording_line 3,2,4,1 35*12
-write_recording_line 3,2,4,1 35*15
-write_recording_line - 35*4
-write_recording_line 1,2,9,8,3,4,6,7,11,5,10 35*40
-write_recording_line 1-1025 35*20
-write_recording_line 1,0 35*20
-write_recording_line 1,3 35*20
-write_recording_line 1,1 35*20
-write_recording_line 3,2,4,1 35*11
-write_recording_line 1-1024 35*1100
 """

@@ -1,10 +1,11 @@
-"""Lines as bytes: the readers of W, T and N, the writers, and the program's whole output (document 01, "Lines", "The program").
+"""Lines as bytes: the readers of W, T and P, the writers, the converter of a T line and an N line, and the program's whole output (document 01, "Lines",
+"The program"; document 02, N7).
 
 The place of 14 is the length of the longest beginning of the text that can still become a line of the kind. The scanner goes on byte by byte as
 long as that is so, and raises 14 where it stands when the next byte cannot follow.
 """
 from meaning import (
-    Refused, check_entries, check_length, check_room, check_tableau, check_word, junction_set, pair_of, put, put_tableau, reading, rows,
+    Refused, check_length, check_pair, check_rank, check_room, check_tableau, check_word, junction_set, pair_of, put, put_pair, put_tableau, reading, rows,
 )
 
 
@@ -39,6 +40,20 @@ class Scanner:
         self.one_of(",")
         return self.number()
 
+    def fields(self, count):
+        """So many of them."""
+        return [self.field() for _ in range(count)]
+
+    def cells(self, count):
+        """Letters and marks of so many cells. No step leads into the first."""
+        letters, marks = [], []
+        for place in range(count):
+            if place > 0:
+                self.one_of(",")
+            marks.append(0 if place == 0 else "rd".index(self.one_of("rd")))
+            letters.append(self.field())
+        return letters, marks
+
     def end(self):
         """The line feed, and nothing after it."""
         self.one_of("\n")
@@ -51,32 +66,42 @@ def scan_word(text):
     scanner = Scanner(text)
     scanner.one_of("W")
     rank = scanner.field()
-    letters = [scanner.field() for _ in range(scanner.field())]
+    letters = scanner.fields(scanner.field())
     scanner.end()
     return rank, letters
 
 
 def scan_tableau(text):
-    """Rank, letters and marks of a T line. No step leads into the first cell."""
+    """Rank, letters and marks of a T line."""
     scanner = Scanner(text)
     scanner.one_of("T")
     rank = scanner.field()
-    letters, marks = [], []
-    for place in range(scanner.field()):
-        if place > 0:
-            scanner.one_of(",")
-        marks.append(0 if place == 0 else "rd".index(scanner.one_of("rd")))
-        letters.append(scanner.field())
+    letters, marks = scanner.cells(scanner.field())
     scanner.end()
     return rank, letters, marks
 
 
-def scan_recording(text):
-    """The entries of an N line."""
+def scan_pair(text):
+    """Rank, letters, marks and entries of a P line: one L for the T items and for the N items after them."""
     scanner = Scanner(text)
-    scanner.one_of("N")
-    entries = [scanner.field() for _ in range(scanner.field())]
+    scanner.one_of("P")
+    rank = scanner.field()
+    count = scanner.field()
+    letters, marks = scanner.cells(count)
+    entries = scanner.fields(count)
     scanner.end()
+    return rank, letters, marks, entries
+
+
+def scan_recording(text, before):
+    """The entries of an N line, whose bytes count on from those of the T line before it."""
+    scanner = Scanner(text)
+    try:
+        scanner.one_of("N")
+        entries = scanner.fields(scanner.field())
+        scanner.end()
+    except Refused as refusal:
+        raise Refused(14, before + refusal.place)
     return entries
 
 
@@ -101,18 +126,13 @@ def read_tableau_line(text, letters, marks, counts):
     return [rank, len(new_letters)]
 
 
-def check_recording(entries):
-    """A recording ribbon alone is judged by 2 and 7 only."""
-    check_length(len(entries))
-    check_entries(entries)
-
-
-def read_recording_line(text, entries):
-    """Gives the number of entries."""
-    new_entries = scan_recording(text)
-    check_recording(new_entries)
-    check_room(len(new_entries), entries)
-    return put(new_entries, entries)
+def read_pair_line(text, letters, marks, entries, counts):
+    """Gives rank and number of cells, and counts the letters."""
+    rank, *pair = scan_pair(text)
+    check_pair(rank, *pair)
+    check_room(len(pair[0]), letters, marks, entries)
+    put_pair(*pair, letters, marks, entries, counts)
+    return [rank, len(pair[0])]
 
 
 # ---- lines
@@ -126,16 +146,26 @@ def word_line(rank, word):
     return line("W", [rank, len(word)] + word)
 
 
-def tableau_line(rank, letters, marks):
+def cells_of(letters, marks):
+    """The T items: letters with a step between neighbours."""
     cells = []
     for place, letter in enumerate(letters):
         if place > 0:
             cells.append("rd"[marks[place]])
         cells.append(letter)
-    return line("T", [rank, len(letters)] + cells)
+    return cells
+
+
+def tableau_line(rank, letters, marks):
+    return line("T", [rank, len(letters)] + cells_of(letters, marks))
+
+
+def pair_line(rank, letters, marks, entries):
+    return line("P", [rank, len(letters)] + cells_of(letters, marks) + entries)
 
 
 def recording_line(entries):
+    """What old files have beside a T line. Nothing writes it."""
     return line("N", [len(entries)] + entries)
 
 
@@ -165,9 +195,9 @@ def write_tableau_line(rank, letters, marks, out):
     return write(tableau_line(rank, letters, marks), out)
 
 
-def write_recording_line(entries, out):
-    check_recording(entries)
-    return write(recording_line(entries), out)
+def write_pair_line(rank, letters, marks, entries, out):
+    check_pair(rank, letters, marks, entries)
+    return write(pair_line(rank, letters, marks, entries), out)
 
 
 def write_junction_line(rank, word, out):
@@ -185,6 +215,16 @@ def tableau_line_of_word(rank, word, out):
     return write(tableau_line(rank, letters, marks), out)
 
 
+def convert_lines(tableau_text, recording_text, out):
+    """The P line of a T line and the N line beside it: 14 of the one, then of the other; 2 of either L, and 3 where they differ."""
+    rank, letters, marks = scan_tableau(tableau_text)
+    entries = scan_recording(recording_text, len(tableau_text))
+    check_rank(rank)
+    check_length(len(letters))
+    check_length(len(entries))
+    return write_pair_line(rank, letters, marks, entries, out)
+
+
 # ---- the program
 
 
@@ -198,9 +238,7 @@ def program(text):
     except Refused as refusal:
         return refusal_line(refusal.number, refusal.place)
     letters, marks, entries = pair_of(word)
-    return (
-        tableau_line(rank, letters, marks) + recording_line(entries) + word_line(rank, reading(letters, marks)) + junction_line(word)
-    )
+    return pair_line(rank, letters, marks, entries) + word_line(rank, reading(letters, marks)) + junction_line(word)
 
 
 def answer(text, out):

@@ -21,8 +21,7 @@ OPERATIONS = {
     "lower_count_word": ("nnl", lambda *a: meaning.count_word(False, *a)),
     "same_class": ("nnll", meaning.same_class),
     "compare_weights": ("nnll", meaning.compare_weights),
-    "tableau_of_word": ("nlLLC", meaning.tableau_of_word),
-    "recording_of_word": ("nlL", meaning.recording_of_word),
+    "pair_of_word": ("nlLLLC", meaning.pair_of_word),
     "insert_letter": ("nnnLLLC", meaning.insert_letter),
     "word_of_pair": ("nlllcL", meaning.word_of_pair),
     "column_reading": ("nllcL", meaning.column_reading),
@@ -41,12 +40,13 @@ OPERATIONS = {
     "class_number": ("nl", class_numbers.class_number),
     "read_word_line": ("tL", lines.read_word_line),
     "read_tableau_line": ("tLLC", lines.read_tableau_line),
-    "read_recording_line": ("tL", lines.read_recording_line),
+    "read_pair_line": ("tLLLC", lines.read_pair_line),
     "write_word_line": ("nlO", lines.write_word_line),
     "write_tableau_line": ("nllO", lines.write_tableau_line),
-    "write_recording_line": ("lO", lines.write_recording_line),
+    "write_pair_line": ("nlllO", lines.write_pair_line),
     "write_junction_line": ("nlO", lines.write_junction_line),
     "tableau_line_of_word": ("nlO", lines.tableau_line_of_word),
+    "convert_lines": ("ttO", lines.convert_lines),
 }
 
 

@@ -3,7 +3,8 @@ and too short by one, moves of a first, a middle and a last place, on words and 
 of the checks. The program that makes the calls of a table knows its operations alone: at the end of each table it is asked for one that it does not know."""
 from class_table import CLASS_CALLS
 from counts_table import COUNT_CALLS
-from line_table import RIBBON_LINES, WORD_LINES
+from line_table import TABLEAU_LINES, WORD_LINES
+from pair_table import PAIR_CALLS
 
 WORDS = """
 junctions 4 4,3,2,3
@@ -159,45 +160,7 @@ compare_weights 4 4 1,2 3,4,5
 compare_weights 4 3 1,2 3,4
 """
 
-RIBBONS = """
-tableau_of_word 4 4,3,2,3 0*4 0*4 7*64
-tableau_of_word 4 4,3,2,3 9*6 8*5 7*64
-tableau_of_word 7 1,2,4,4,6,5,5,3,2,7,5 0*11 9*11 7*64
-tableau_of_word 4 - - - 7*64
-tableau_of_word 4 - 7,7 7 7*64
-tableau_of_word 4 4,3,3 9*4 9*3 7*64
-tableau_of_word 6 2,4,3,2,4,5,5,6,5 0*9 0*9 7*64
-tableau_of_word 3 3,1 0,0 0,0 7*64
-tableau_of_word 64 64,1,64,33 0*4 0*4 7*64
-tableau_of_word 1 1*1024 0*1024 9*1024 7*64
-tableau_of_word 4 1*1023,4 0*1024 9*1025 7*64
-tableau_of_word 0 1 9 9 7*64
-tableau_of_word 65 1 9 9 7*64
-tableau_of_word 4 1*1025 9 9 7*64
-tableau_of_word 4 4,5,0 9*3 9*3 7*64
-tableau_of_word 4 4,3,2,3 9*3 9*4 7*64
-tableau_of_word 4 4,3,2,3 9*4 9*3 7*64
-tableau_of_word 4 4,3,2,3 9*3 9*2 7*64
-tableau_of_word 4 4,3,2,9 - - 7*64
-tableau_of_word 4 4 - 9 7*64
-recording_of_word 4 4,3,2,3 0*4
-recording_of_word 4 4,3,2,3 1111*6
-recording_of_word 7 1,2,4,4,6,5,5,3,2,7,5 0*11
-recording_of_word 4 4,3,3 0*3
-recording_of_word 4 3,3 0*2
-recording_of_word 6 2,4,3,2,4,5,5,6,5 9*10
-recording_of_word 4 - -
-recording_of_word 4 - 5,5
-recording_of_word 64 64,1,64,33 0*4
-recording_of_word 1 1*1024 0*1025
-recording_of_word 0 - -
-recording_of_word 4 1*1025 -
-recording_of_word 4 1,2,0,5 9*4
-recording_of_word 4 4,3,2,3 9*3
-recording_of_word 4 4,3,2,5 9*3
-"""
-
-PAIRS = """
+INSERTIONS = """
 insert_letter 4 0 4 0*4 0*4 0*4 -
 insert_letter 4 1 3 4,0,0,0 0,0,0,0 1,0,0,0 0,0,0,1
 insert_letter 4 2 2 3,4,0,0 0,1,0,0 2,1,0,0 0,0,1,1
@@ -491,7 +454,7 @@ no_such_operation 1 2 3
 
 TABLES = {
     "word_operations": (WORDS, COMPARISONS, WORD_LINES, *CLASS_CALLS, NO_WORDS),
-    "ribbon_operations": (RIBBONS, PAIRS, TABLEAUX, PRODUCTS, RIBBON_LINES, *COUNT_CALLS, NO_RIBBONS),
+    "ribbon_operations": (INSERTIONS, TABLEAUX, PRODUCTS, TABLEAU_LINES, *PAIR_CALLS, *COUNT_CALLS, NO_RIBBONS),
 }
 
 

@@ -51,7 +51,7 @@ def with_field(name, text):
 
 
 def answered():
-    """Words that the program answers with four lines."""
+    """Words that the program answers with three lines."""
     cases = {}
     for rank, digits in CHECKED:
         cases["checked-%s-rank-%d" % (digits or "empty", rank)] = word_line(rank, word_of(digits))
@@ -136,6 +136,7 @@ def broken_lines():
     cases = {"line-ends-after-%d-bytes" % length: whole[:length] for length in range(len(whole))}
     cases.update({
         "line-feed-only": b"\n", "kind-w-lower-case": b"w,4,1,3\n", "kind-t-line": b"T,4,4,2,d,3,r,3,d,4\n", "kind-n-line": b"N,4,3,2,4,1\n",
+        "kind-p-line": b"P,4,4,2,d,3,r,3,d,4,3,2,4,1\n",
         "kind-j-line": b"J,6,3\n", "kind-e-line": b"E,14,0\n", "kind-quoted": b'"W",4,1,3\n', "kind-after-space": b" W,4,1,3\n",
         "kind-twice": b"WW,4,1,3\n", "kind-zero-byte": b"\0", "kind-byte-order-mark": b"\xef\xbb\xbfW,4,1,3\n", "semicolons": b"W;4;1;3\n",
         "items-none-of-two": b"W,4,2\n", "items-one-of-two": b"W,4,2,3\n", "items-three-of-two": b"W,4,2,3,3,3\n", "items-one-of-none": b"W,4,0,3\n",

@@ -13,8 +13,7 @@ use plain_words::one_if;
 use refusals::answers::Inserted;
 use refusals::answers::Junctions;
 use refusals::answers::Written;
-use ribbons::recording::recording_of_word;
-use ribbons::tableau::tableau_of_word;
+use ribbons::pair::pair_of_word;
 use words::junctions::junctions;
 ghost use Prim.Native.Nat.{_≤_};
 ghost use mathlib.Core.Path.{_≡_};
@@ -131,7 +130,7 @@ fn answers_of(
     put_junctions(rank, word, all)
 }
 
-// All answers for a word, its tableau and its recording ribbon made at once.
+// All answers for a word, its pair made at once.
 pub(crate) fn answers_at_once(rank: usize, word: &[u8]) -> [u64; 8192]
     requires { ⌜ length (now word) ≤ 1024 ⌝ }
 {
@@ -139,9 +138,15 @@ pub(crate) fn answers_at_once(rank: usize, word: &[u8]) -> [u64; 8192]
     let mut marks = [0u8; 1024];
     let mut entries = [0u16; 1024];
     let mut counts = [65535u16; 64];
-    let tableau = tableau_of_word(rank, word, &mut letters, &mut marks, &mut counts);
-    let recording = recording_of_word(rank, word, &mut entries);
-    let wrong = wrong_written(tableau, word.len()) + wrong_written(recording, word.len());
+    let reply = pair_of_word(
+        rank,
+        word,
+        &mut letters,
+        &mut marks,
+        &mut entries,
+        &mut counts,
+    );
+    let wrong = wrong_written(reply, word.len());
     answers_of(rank, word, letters, marks, entries, counts, wrong)
 }
 

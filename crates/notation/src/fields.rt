@@ -96,6 +96,24 @@ pub(crate) fn number_at(text: &[u8], from: usize) -> usize
     value
 }
 
+// Where the digits that begin at a place of a text end.
+pub(crate) fn number_end(text: &[u8], from: usize) -> usize
+    ensures { λ r. ⌜ from ≤ r ⌝ }
+{
+    let mut at = from;
+    while at < text.len() {
+        let byte = text[at];
+        if byte < b'0' {
+            return at;
+        }
+        if b'9' < byte {
+            return at;
+        }
+        at += 1;
+    }
+    at
+}
+
 // The number that a text begins with, up to the largest of 64 bits.
 pub fn large_number(text: &[u8]) -> usize
     ensures { λ r. ⌜ r ≡ digitsFrom 0 (now (text .entry)) ⌝ }

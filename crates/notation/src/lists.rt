@@ -1,10 +1,10 @@
 // Lists and texts of the table, into lent elements. An item of a list is a number, `v*k` for k times v, or `a-b` for the numbers from a to b. A text has `$`
-// for the line feed, and may end in a group and a line feed, `(t)*k$` for k times t. `-` is the empty list and the empty text. Elements beyond the room are
-// dropped.
+// for the line feed, and may hold groups, `(t)*k` for k times t. `-` is the empty list and the empty text. Elements beyond the room are dropped.
 use crate::fields::argument;
 use crate::fields::field;
 use crate::fields::has;
 use crate::fields::number_at;
+use crate::fields::number_end;
 use crate::fields::place_of;
 use crate::fields::wide;
 ghost use Prim.Native.Nat.{_≤_};
@@ -72,32 +72,47 @@ fn meant(text: &[u8], at: usize) -> usize {
     wide(byte)
 }
 
-// The byte at a place of so many times a group and the line feed after them; 65,536 past it.
-fn in_group(group: &[u8], times: usize, place: usize) -> usize {
-    if group.len() < 1 {
-        return 65536;
+// A place counted from the end of so many times a group.
+fn after_group(size: usize, times: usize, place: usize) -> usize {
+    let mut left = place;
+    let mut round = 0;
+    while round < times {
+        if left < size {
+            return left;
+        }
+        left -= size;
+        round += 1;
     }
-    let round = place / group.len();
-    let at = place % group.len();
-    if round < times {
-        return meant(group, at);
-    }
-    meant(b"$", std::num::wrapping_add_usize(round - times, at))
+    left
 }
 
 // The byte of a text at a place; 65,536 past its end.
 fn in_text(text: &[u8], place: usize) -> usize {
-    let open = place_of(text, 0, b'(');
-    if place < open {
-        return meant(text, place);
+    let mut left = place;
+    let mut from = 0;
+    while from < text.len() {
+        let open = place_of(text, from, b'(');
+        if left < open - from {
+            return meant(text, from + left);
+        }
+        if text.len() <= open {
+            return 65536;
+        }
+        left -= open - from;
+        let inner = open + 1;
+        let close = place_of(text, inner, b')');
+        let group = &text[inner..close];
+        let times = number_at(text, close + 2);
+        if group.len() < 1 {
+            return 65536;
+        }
+        if left / group.len() < times {
+            return meant(group, left % group.len());
+        }
+        left = after_group(group.len(), times, left);
+        from = number_end(text, close + 2);
     }
-    let star = place_of(text, open, b'*');
-    if text.len() <= star {
-        return 65536;
-    }
-    let inner = open + 1;
-    let close = place_of(text, inner, b')');
-    in_group(&text[inner..close], number_at(text, star + 1), place - open)
+    65536
 }
 
 // The element of a text or a list at a place; 65,536 past its end.
@@ -129,13 +144,18 @@ fn bytes(is_text: bool, list: &[u8], out: &mut [u8]) -> usize
     i
 }
 
-// The bytes of a line's argument of one of two kinds, t for a text, by the kinds of all its arguments; answers how many there are, none where it has no such
-// argument.
+// Whether a kind is that of a text: t, or u for a second one.
+fn names_text(kind: u8) -> bool {
+    kind == b't' || kind == b'u'
+}
+
+// The bytes of a line's argument of one of two kinds, the first perhaps that of a text, by the kinds of all its arguments; answers how many there are, none
+// where it has no such argument.
 pub fn bytes_of(kinds: &[u8], line: &[u8], kind: u8, other: u8, out: &mut [u8]) -> usize
     ensures { λ r. ⌜ r ≤ length (now (out .exit)) ⌝ }
 {
     let list = field(line, argument(kinds, kind, other));
-    bytes(kind == b't' && has(kinds, b't'), list, out)
+    bytes(names_text(kind) && has(kinds, kind), list, out)
 }
 
 // A number as a 16-bit element.

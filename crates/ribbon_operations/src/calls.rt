@@ -1,5 +1,6 @@
 // The calls, by the place of an operation in the list of names. Each takes the numbers of a line and its lists, and prints what came of it.
 use columns::reading::column_reading;
+use conversions::former::convert_lines;
 use inverses::way_back::word_of_pair;
 use notation::answers::print_gives;
 use notation::answers::print_gives_two;
@@ -12,14 +13,13 @@ use notation::fields::number;
 use notation::printing::print;
 use notation::printing::print_number;
 use pairs::insertion::insert_letter;
-use readers::recording::read_recording_line;
+use readers::pair::read_pair_line;
 use readers::tableau::read_tableau_line;
 use refusals::answers::Cell;
 use refusals::answers::Inserted;
-use refusals::answers::RecordingLine;
+use refusals::answers::PairLine;
 use refusals::answers::TableauLine;
-use ribbons::recording::recording_of_word;
-use ribbons::tableau::tableau_of_word;
+use ribbons::pair::pair_of_word;
 use tableaux::moves::lower_count_tableau;
 use tableaux::moves::lower_tableau;
 use tableaux::moves::raise_count_tableau;
@@ -27,7 +27,7 @@ use tableaux::moves::raise_tableau;
 use validity::counted::check_counted_pair;
 use validity::counted::check_counted_tableau;
 use viewer::viewers::look_once;
-use writers::line::write_recording_line;
+use writers::line::write_pair_line;
 use writers::line::write_tableau_line;
 
 // Letter, row and column; no value where there is no such cell.
@@ -50,11 +50,11 @@ fn print_tableau(answer: TableauLine) {
     }
 }
 
-// The number of entries.
-fn print_recording(answer: RecordingLine) {
+// Rank and number of cells of a pair.
+fn print_pair(answer: PairLine) {
     match answer {
-        RecordingLine::Recording(count) => print_gives(count),
-        RecordingLine::Refused(refusal) => print_refusal(refusal),
+        PairLine::Pair(rank, cells) => print_gives_two(rank, cells),
+        PairLine::Refused(refusal) => print_refusal(refusal),
     }
 }
 
@@ -80,7 +80,7 @@ fn ask(operation: usize, rank: usize, index: usize, a: &[u8], b: &[u8], counts: 
     print_verdict(check_counted_tableau(rank, a, b, counts))
 }
 
-// Calls that are given a tableau, or a pair: word and line of a tableau, 4 and 5, and the check, the word and the line of a pair or its entries.
+// Calls that are given a tableau, a pair or two texts: word and line of a tableau, 4 and 5, check, word and line of a pair, 6 to 8, and the line of two texts.
 fn call_on_given(
     operation: usize,
     rank: usize,
@@ -102,10 +102,13 @@ fn call_on_given(
     if operation == 7 {
         return print_written(word_of_pair(rank, a, b, entries, counts, out));
     }
-    print_written(write_recording_line(entries, out))
+    if operation == 8 {
+        return print_written(write_pair_line(rank, a, b, entries, out));
+    }
+    print_written(convert_lines(a, b, out))
 }
 
-// Calls from 11 on, which write into letters, marks and counts, or into entries too, or into entries alone.
+// Calls from 12 on, which write into letters, marks and counts, or into entries too.
 fn call_on_parts(
     operation: usize,
     line: &[u8],
@@ -116,24 +119,21 @@ fn call_on_parts(
     counts: &mut [u16; 64],
 ) {
     let rank = number(line, 1);
-    if operation == 11 {
+    if operation == 12 {
         return print_tableau(read_tableau_line(a, letters, marks, counts));
     }
-    if operation == 12 {
+    if operation == 13 {
         let used = number(line, 2);
         let letter = number(line, 3);
         return print_inserted(insert_letter(rank, used, letter, letters, marks, entries, counts));
     }
-    if operation == 13 {
-        return print_written(tableau_of_word(rank, a, letters, marks, counts));
-    }
     if operation == 14 {
-        return print_written(recording_of_word(rank, a, entries));
+        return print_written(pair_of_word(rank, a, letters, marks, entries, counts));
     }
-    print_recording(read_recording_line(a, entries))
+    print_pair(read_pair_line(a, letters, marks, entries, counts))
 }
 
-// Any call. Moves, 9 and 10, change lent letters and counts.
+// Any call. Moves, 10 and 11, change lent letters and counts.
 pub(crate) fn call(
     operation: usize,
     line: &[u8],
@@ -149,13 +149,13 @@ pub(crate) fn call(
     if operation < 4 {
         return ask(operation, rank, index, a, b, counts);
     }
-    if operation < 9 {
+    if operation < 10 {
         return call_on_given(operation, rank, a, b, entries, counts, letters);
     }
-    if operation == 9 {
+    if operation == 10 {
         return print_move(raise_tableau(rank, index, letters, a, counts));
     }
-    if operation == 10 {
+    if operation == 11 {
         return print_move(lower_tableau(rank, index, letters, a, counts));
     }
     call_on_parts(operation, line, a, letters, marks, entries, counts)

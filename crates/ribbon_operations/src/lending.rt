@@ -43,22 +43,22 @@ fn lend(operation: usize, kinds: &[u8], line: &[u8], a: &[u8], b: &[u8]) {
 
 // Gives the lists that are not lent.
 fn give(operation: usize, kinds: &[u8], line: &[u8]) {
-    let mut first_space: [u8; 4200] = [0; 4200];
-    let mut second_space: [u8; 1100] = [0; 1100];
+    let mut first_space: [u8; 6400] = [0; 6400];
+    let mut second_space: [u8; 2200] = [0; 2200];
     let first: &mut [u8] = &mut first_space;
     let second: &mut [u8] = &mut second_space;
     let in_first = bytes_of(kinds, line, b't', b'a', first);
-    let in_second = bytes_of(kinds, line, b'b', b'b', second);
+    let in_second = bytes_of(kinds, line, b'u', b'b', second);
     let a = &first[..];
     let b = &second[..];
     lend(operation, kinds, line, &a[0..in_first], &b[0..in_second]);
 }
 
-// The call of a line. The kinds of arguments, in the order of the calls: n is a number, t a text, a and b are lists of bytes, e is a list of 16-bit
+// The call of a line. The kinds of arguments, in the order of the calls: n is a number, t and u are texts, a and b lists of bytes, e is a list of 16-bit
 // elements, k are letter counts; L and M are lists of bytes that are lent, T is one that a text is written into, E is a lent list of 16-bit elements, K are lent
 // letter counts.
 pub(crate) fn make_call(operation: usize, line: &[u8]) {
     let kinds =
-        b"nnabk nnabk nnab nabk nabkL nabT nabek nabekL eT nnLaK nnLaK tLMK nnnLMEK naLMK naE tE";
+        b"nnabk nnabk nnab nabk nabkL nabT nabek nabekL nabeT tuT nnLaK nnLaK tLMK nnnLMEK naLMEK tLMEK";
     give(operation, field(kinds, operation), line);
 }

@@ -1,4 +1,4 @@
-// Makes every call of operations that make or take tableaux and recording ribbons, or their lines, that a table names, and prints each line of the table with
+// Makes every call of operations that make or take tableaux and pairs, or their lines, that a table names, and prints each line of the table with
 // what came of its call (notation).
 mod calls;
 mod lending;
@@ -15,7 +15,7 @@ use two_tableaux::call_on_two;
 // The place of a line's operation in the order of the calls, those on two tableaux last; 19 where there is no such operation.
 fn operation_of(line: &[u8]) -> usize {
     let names =
-        b"raise_count_tableau lower_count_tableau look_once check_counted_tableau column_reading write_tableau_line check_counted_pair word_of_pair write_recording_line raise_tableau lower_tableau read_tableau_line insert_letter tableau_of_word recording_of_word read_recording_line product same_class_of_tableaux compare_weights_of_tableaux";
+        b"raise_count_tableau lower_count_tableau look_once check_counted_tableau column_reading write_tableau_line check_counted_pair word_of_pair write_pair_line convert_lines raise_tableau lower_tableau read_tableau_line insert_letter pair_of_word read_pair_line product same_class_of_tableaux compare_weights_of_tableaux";
     field_of(names, field(line, 0), 19)
 }
 
