@@ -46,6 +46,13 @@ def break_length(draw, input):
         input[name] = input[name] + [input[name][-1] if input[name] else 1] * (length - len(input[name]))
 
 
+def break_one_length(draw, input):
+    """More than 1,024 cells, or more than 1,024 entries: of a T line and an N line, one alone."""
+    length = draw.one_of((1025, 1025, 1025 + draw.below(1000)))
+    for name in draw.one_of((["letters", "marks"], ["entries"])):
+        input[name] = input[name] + [input[name][-1] if input[name] else 1] * (length - len(input[name]))
+
+
 def break_parts(draw, input):
     """One part of a tableau or pair shorter or longer than the others; in insertion, a used count above one of them; a mark given to another factor."""
     name = draw.one_of(lists_of(input, [*TABLEAUX, "entries"]))
@@ -179,21 +186,27 @@ def break_counts(draw, letters, counts, input):
 
 
 BREAKS = {
-    "rank": break_rank, "length": break_length, "parts": break_parts, "letter": break_letter, "falling letter": break_rising, "mark": break_mark,
-    "both factors": break_both, "entry": break_entry, "step": break_step, "index": break_index, "many cells": break_many,
-    "number past the last": break_number, "full": break_full,
+    "rank": break_rank, "length": break_length, "one length": break_one_length, "parts": break_parts, "letter": break_letter,
+    "falling letter": break_rising, "mark": break_mark, "both factors": break_both, "entry": break_entry, "step": break_step, "index": break_index,
+    "many cells": break_many, "number past the last": break_number, "full": break_full,
 }
 
 # ---- breaks of a text
 
 # What a field may be exchanged for.
 FIELDS = ["", "0", "00", "03", "1", "2", "9", "64", "65", "255", "256", "257", "1024", "1025", "9999", "10000", "12345", " 3", "3 ", "+3", "-3", "r", "d", "x"]
-BYTES = b"WTNJEwtnrd,,,00123456789\n\n\r \0;\"-+.\xff"
+BYTES = b"WTNPJEwtnprd,,,00123456789\n\n\r \0;\"-+.\xff"
 
 
 def change_byte(draw, text):
     if text:
         text[draw.below(len(text))] = draw.one_of(BYTES)
+
+
+def change_kind(draw, text):
+    """The letter of another kind of line."""
+    if text:
+        text[0] = draw.one_of(b"WTNPJEwtnp")
 
 
 def delete_byte(draw, text):
@@ -229,6 +242,6 @@ def lengthen_text(draw, text):
 
 
 TEXT_BREAKS = {
-    "byte changed": change_byte, "byte deleted": delete_byte, "byte inserted": insert_byte, "text cut": cut_text, "field changed": change_field,
-    "text long": lengthen_text,
+    "byte changed": change_byte, "byte deleted": delete_byte, "byte inserted": insert_byte, "kind changed": change_kind, "text cut": cut_text,
+    "field changed": change_field, "text long": lengthen_text,
 }

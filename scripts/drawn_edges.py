@@ -48,7 +48,7 @@ KINDS = AS_LENT, CLAIMED, HIDDEN = "as lent", "claimed", "hidden"
 def claimable(function, fixed=False):
     """The places of the buffers that can be claimed to be longer, or hidden, letter counts among them. A text is read as far as it is a line; only the
     program's answer stops at a length."""
-    return [at for at, p in enumerate(function.parameters) if p.size and p.fixed <= 64 * fixed and (p.name != "text" or function.name == "answer")]
+    return [at for at, p in enumerate(function.parameters) if p.size and p.fixed <= 64 * fixed and (not p.name.endswith("text") or function.name == "answer")]
 
 
 def claim(draw, arguments, places):
@@ -120,7 +120,7 @@ def copied(argument):
 def wanted(function):
     """The replies that must come: 1, 2 and 3 where inputs are claimed or hidden; 0 where an output is claimed, insertion's cells, or a cell to look for."""
     in_place = function.name.startswith(("raise", "lower"))
-    inputs = [p for p in function.parameters if p.size and p.name != "text" and (in_place or not p.lent)]
+    inputs = [p for p in function.parameters if p.size and not p.name.endswith("text") and (in_place or not p.lent)]
     outputs = [p for p in function.parameters if p.lent and not in_place]
     by_numbers = [number for number in function.refusals if number <= 3 and (inputs or function.name == "insert_letter")]
     given = [(CLAIMED, 0)] if outputs or function.name == "cell_at" else []

@@ -93,10 +93,6 @@ def draw_insertion(draw):
     return {"used": len(input["letters"]), "letter": 1 + draw.below(input["rank"]), **input}
 
 
-def draw_recording(draw):
-    return {"entries": draw.recording(draw.length())}
-
-
 def draw_refusal(draw):
     return {"number": draw.one_of((draw.below(15), draw.below(15), draw.one_of(FAR))), "place": draw.place(draw.one_of((12, 1024, 99999)))}
 
@@ -104,17 +100,39 @@ def draw_refusal(draw):
 # ---- lines, of values that may be broken
 
 
+def word_text(input):
+    return word_line(input["rank"], input["word"])
+
+
+def cells_of(input):
+    """The T items of any letters and marks; a mark that is none is a step down."""
+    return [value for letter, mark in zip(input["letters"], input["marks"]) for value in ("d" if mark else "r", letter)][1:]
+
+
+def ribbon_text(kind, input, items):
+    """A T line, or a P line with its entries: L is the number of cells."""
+    cells = cells_of(input)
+    return line(kind, [input["rank"], (len(cells) + 1) // 2] + cells + items)
+
+
 def tableau_text(input):
-    """A T line of any letters and marks; a mark that is none is a step down."""
-    cells = [value for letter, mark in zip(input["letters"], input["marks"]) for value in ("d" if mark else "r", letter)]
-    return line("T", [input["rank"], len(cells) // 2] + cells[1:])
+    return ribbon_text("T", input, [])
+
+
+def pair_text(input):
+    return ribbon_text("P", input, input["entries"])
+
+
+def recording_text(input):
+    return recording_line(input["entries"])
 
 
 TEXTS = {
-    "read_word_line": lambda input: word_line(input["rank"], input["word"]),
-    "read_tableau_line": tableau_text,
-    "read_recording_line": lambda input: recording_line(input["entries"]),
-    "answer": lambda input: word_line(input["rank"], input["word"]),
+    "read_word_line": {"text": word_text},
+    "read_tableau_line": {"text": tableau_text},
+    "read_pair_line": {"text": pair_text},
+    "convert_lines": {"tableau_text": tableau_text, "recording_text": recording_text},
+    "answer": {"text": word_text},
 }
 
 # ---- by function: how a valid input is drawn, and what can be broken in it
@@ -124,13 +142,11 @@ TABLEAU = WORD + ["parts", "falling letter", "mark"]
 PAIR = TABLEAU + ["entry", "step"]
 COUNTED = TABLEAU + ["counts"]
 BOTH = COUNTED + ["both factors", "both counts"]
-RECORDING = ["length", "entry", "entry"]
 TEXT = list(TEXT_BREAKS)
 
 INPUTS = {
     "check_word": (draw_word, WORD),
-    "tableau_of_word": (draw_word, WORD + ["room"]),
-    "recording_of_word": (draw_word, WORD + ["room"]),
+    "pair_of_word": (draw_word, WORD + ["room", "room"]),
     "junctions": (draw_word, WORD),
     "raise_word": (draw_word_move, WORD + ["index"]),
     "lower_word": (draw_word_move, WORD + ["index"]),
@@ -160,12 +176,13 @@ INPUTS = {
     "tableau_line_of_word": (draw_word, WORD + ["room"]),
     "write_word_line": (draw_word, WORD + ["room"]),
     "write_tableau_line": (draw_tableau, TABLEAU + ["room"]),
-    "write_recording_line": (draw_recording, RECORDING + ["room"]),
+    "write_pair_line": (draw_pair, PAIR + ["room"]),
     "write_junction_line": (draw_word, WORD + ["room"]),
     "write_refusal_line": (draw_refusal, ["room"]),
     "read_word_line": (draw_word, WORD + ["room"] + TEXT),
     "read_tableau_line": (draw_tableau, WORD + ["falling letter", "mark", "room"] + TEXT),
-    "read_recording_line": (draw_recording, RECORDING + ["room"] + TEXT),
+    "read_pair_line": (draw_pair, PAIR + ["room"] + TEXT),
+    "convert_lines": (draw_pair, PAIR + ["one length", "room"] + TEXT),
     "answer": (draw_word, WORD + ["room"] + TEXT),
 }
 
@@ -180,7 +197,7 @@ def random_values(draw, parameter):
     if parameter.fixed:
         return [0] * parameter.fixed if draw.below(2) else any_counts(draw, parameter)
     count = draw.below(9)
-    if parameter.name == "text":
+    if parameter.name.endswith("text"):
         return [draw.one_of(BYTES) for _ in range(3 * count)] if draw.below(2) else list(draw.bytes(3 * count))
     top = draw.one_of((2, 4, 256 if parameter.size == 1 else 65536))
     return [draw.below(top) for _ in range(count)]
@@ -206,7 +223,7 @@ def with_outputs(draw, function, arguments, short):
     outputs = [at for at, argument in enumerate(arguments) if argument is None]
     if not outputs:
         return arguments
-    said = plain_reply(function, [[] if argument is None else argument for argument in arguments])
+    said = plain_reply(function, [[] if argument is None else list(argument) if isinstance(argument, list) else argument for argument in arguments])
     needed = said[1] if said[0] == 13 else 0 if said[0] == 0 else draw.below(20)
     counts = [longer(draw, needed) for _ in outputs]
     if short and needed:
@@ -254,11 +271,11 @@ def drawn_input(draw, function):
         if name in BREAKS:
             BREAKS[name](draw, input)
     if function.name in TEXTS:
-        text = bytearray(TEXTS[function.name](input))
+        texts = {name: bytearray(make(input)) for name, make in TEXTS[function.name].items()}
         for name in chosen:
             if name in TEXT_BREAKS:
-                TEXT_BREAKS[name](draw, text)
-        input = {"text": list(text)}
+                TEXT_BREAKS[name](draw, draw.one_of(list(texts.values())))
+        input = {name: list(text) for name, text in texts.items()}
     if function.name == "insert_letter":
         with_cells_beyond(draw, function, input, "room" in chosen)
     with_counts(draw, function, input, [name for name in chosen if name in ("counts", "both counts")])

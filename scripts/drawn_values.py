@@ -117,12 +117,6 @@ class Draw:
         marks = [int(cell > 0 and place < places[cell - 1]) for cell, place in enumerate(places)]
         return [word[place] for place in places], marks, [place + 1 for place in places]
 
-    def recording(self, length):
-        """1 to length in any order."""
-        entries = list(range(1, length + 1))
-        self.random.shuffle(entries)
-        return entries
-
     def second_word(self, rank, word):
         """A word for comparison with another: itself, its column reading, its letters shuffled, one letter away from it, or any."""
         kind = self.below(8)

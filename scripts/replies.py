@@ -10,8 +10,7 @@ from meaning import Refused
 # By function: the operation on lists that gives the values of its reply.
 OPERATIONS = {
     "check_word": meaning.check_word,
-    "tableau_of_word": meaning.tableau_of_word,
-    "recording_of_word": meaning.recording_of_word,
+    "pair_of_word": meaning.pair_of_word,
     "junctions": meaning.junctions,
     "raise_word": lambda *a: meaning.move_word(True, *a),
     "lower_word": lambda *a: meaning.move_word(False, *a),
@@ -41,17 +40,18 @@ OPERATIONS = {
     "tableau_line_of_word": lines.tableau_line_of_word,
     "write_word_line": lines.write_word_line,
     "write_tableau_line": lines.write_tableau_line,
-    "write_recording_line": lines.write_recording_line,
+    "write_pair_line": lines.write_pair_line,
     "write_junction_line": lines.write_junction_line,
     "write_refusal_line": lines.write_refusal_line,
     "read_word_line": lines.read_word_line,
     "read_tableau_line": lines.read_tableau_line,
-    "read_recording_line": lines.read_recording_line,
+    "read_pair_line": lines.read_pair_line,
+    "convert_lines": lines.convert_lines,
     "answer": lines.answer,
 }
 
 # By function: the values that it can answer with, where they are few, and the same of two words or tableaux whose ranks differ; those of `answer` are the
-# refusals in its E lines, 0 for four lines.
+# refusals in its E lines, 0 for three lines.
 TWO_RANKS = " of two ranks"
 SAME, ORDER = ("same", [0, 1]), ("order", [0, 1, 2, 3])
 FEW = {

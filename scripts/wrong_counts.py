@@ -15,7 +15,8 @@ OF_SECOND = "    check_counts(second_letters, second_counts, 64)\n"
 MARKS_OF_SECOND = "    check_marks(second_letters, second_marks, first_count)\n"
 MOVED = "    put(letter_counts(letters), counts)\n    return changed\n"
 GIVEN = "    put(letter_counts(new_letters), counts)\n"
-INSERTED = "    put_tableau(new_letters, new_marks, letters, marks, counts)\n    return put(new_entries, entries)\n"
+PUT_IN = "inserted(letter, letters[:used], marks[:used], entries[:used])"
+INSERTED = "    return put_pair(*%s, letters, marks, entries, counts)\n" % PUT_IN
 MULTIPLIED_INTO = "    return put_tableau(new_letters, new_marks, letters, marks, counts)\n"
 READ = "    put_tableau(new_letters, new_marks, letters, marks, counts)\n    return [rank, len(new_letters)]\n"
 CLASS_OF_TABLEAUX = "    return of_one_class(reading(first_letters, first_marks), reading(second_letters, second_marks))\n"
@@ -30,7 +31,8 @@ def moved(text):
 
 def inserted(text):
     """Other counts after an insertion."""
-    return "    put(new_letters, letters)\n    put(new_marks, marks)\n    %s\n    return put(new_entries, entries)\n" % text
+    new = "    new_letters, new_marks, new_entries = %s\n" % PUT_IN
+    return new + "    put(new_letters, letters)\n    put(new_marks, marks)\n    %s\n    return put(new_entries, entries)\n" % text
 
 
 def multiplied(text):
@@ -129,11 +131,6 @@ EDITS = [
         "counts: given by a reader that is refused for room", "lines",
         "    check_room(len(new_letters), letters, marks)\n",
         "    put([new_letters.count(a) for a in range(1, 65)], counts)\n    check_room(len(new_letters), letters, marks)\n",
-    ),
-    (
-        "counts: given for a word that is refused for room", "meaning",
-        "    check_word(rank, word)\n    check_room(len(word), letters, marks)\n",
-        "    check_word(rank, word)\n    put(letter_counts(word), counts)\n    check_room(len(word), letters, marks)\n",
     ),
     ("counts: a product's those of the first factor", "meaning", MULTIPLIED_INTO, multiplied("first_counts")),
     ("counts: a product's the larger of both", "meaning", MULTIPLIED_INTO, multiplied("[max(both) for both in zip(first_counts, second_counts)]")),

@@ -1,7 +1,7 @@
 """The edits of wrong_kernels.py: what goes wrong, the module, and the text that is exchanged, which stands there once.
 
 Those of EDGES leave every reply and every byte as they must be where buffers are as long as they say: they only touch memory that they need not, or were
-not lent. RIGHT changes nothing. Edits of letter counts are in wrong_counts.py.
+not lent. RIGHT changes nothing. Edits of letter counts are in wrong_counts.py, those of pairs and of their lines in wrong_pairs.py.
 """
 
 
@@ -305,21 +305,11 @@ LINES = [
     ("a fifth digit passes", "lines", "len(digits) < 4", "len(digits) < 5"),
     ("a fourth digit refused", "lines", "len(digits) < 4", "len(digits) < 3"),
     ("bytes after the line feed pass", "lines", "        if self.at < len(self.text):\n            raise Refused(14, self.at)\n", ""),
-    ("a letter of a line cut to a byte", "lines", "    letters = [scanner.field() for _", "    letters = [scanner.field() % 256 for _"),
-    (
-        "N read: 13 before 7", "lines",
-        "    check_recording(new_entries)\n    check_room(len(new_entries), entries)\n",
-        "    check_room(len(new_entries), entries)\n    check_recording(new_entries)\n",
-    ),
+    ("a letter of a line cut to a byte", "lines", "    letters = scanner.fields(scanner.field())", "    letters = [a % 256 for a in scanner.fields(scanner.field())]"),
     (
         "T read: 13 before 1", "lines",
         "    check_tableau(rank, new_letters, new_marks)\n    check_room(len(new_letters), letters, marks)\n",
         "    check_room(len(new_letters), letters, marks)\n    check_tableau(rank, new_letters, new_marks)\n",
-    ),
-    (
-        "7 before 2", "lines",
-        "    check_length(len(entries))\n    check_entries(entries)\n",
-        "    check_entries(entries)\n    check_length(len(entries))\n",
     ),
     ("r and d exchanged", "lines", '"rd"[marks[place]]', '"dr"[marks[place]]'),
     ("a place of an E line cut to four digits", "lines", 'line("E", [number, place])', 'line("E", [number, place % 10000])'),
@@ -404,11 +394,6 @@ EDGES = [
         "entries of a pair read before they are as many as the letters", "meaning",
         OF_A_PAIR,
         OF_A_PAIR.replace("    check_alike", "    sum(entries)\n    check_alike"),
-    ),
-    (
-        "entries of a ribbon alone read before its length is judged", "lines",
-        "    check_length(len(entries))\n",
-        "    sum(entries)\n    check_length(len(entries))\n",
     ),
     ("insertion: cells read before the used count is judged", "meaning", "    check_length(used)\n", "    letters[:used]\n    check_length(used)\n"),
     (

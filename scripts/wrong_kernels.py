@@ -16,6 +16,7 @@ sys.dont_write_bytecode = True
 import header
 import wrong_counts
 import wrong_edits
+import wrong_pairs
 from drawn import called
 from drawn_edges import apart, calls
 from drawn_inputs import drawn_input
@@ -23,9 +24,9 @@ from drawn_values import Draw
 from fenced_memory import python_length
 from lent_memory import Memory, packed, unpacked
 
-EDITS = wrong_edits.EDITS + wrong_counts.EDITS
-EDGES = wrong_edits.EDGES + wrong_counts.EDGES
-RIGHT = wrong_edits.RIGHT + wrong_counts.RIGHT
+EDITS = wrong_edits.EDITS + wrong_counts.EDITS + wrong_pairs.EDITS
+EDGES = wrong_edits.EDGES + wrong_counts.EDGES + wrong_pairs.EDGES
+RIGHT = wrong_edits.RIGHT + wrong_counts.RIGHT + wrong_pairs.RIGHT
 MOST = 1000000
 MOST_RIGHT = 100000
 MOST_EDGES = 300
