@@ -13,20 +13,25 @@
  *             and a step down joins a smaller letter to a larger one.
  *   counts    how often each letter occurs in a tableau: 64 numbers of 16 bits, that of letter a at place a - 1. They
  *             are stored with the tableau, and stand after its marks, in a pair after the entries. A function that
- *             gives a tableau gives its counts; one that takes a tableau takes and judges them (17), but for the writer
- *             of T lines, luchtrav_look, luchtrav_cell_at, and the checks without 'counted' in their names.
+ *             gives a tableau gives its counts; one that takes a tableau takes and judges them (17), but for the
+ *             writers of T and P lines, luchtrav_look, luchtrav_cell_at, and the checks without 'counted' in their
+ *             names.
  *   recording its entries in ribbon order, 16 bits each: 1 to L, each once, rising at a step right and falling at a
  *             step down. Tableau and recording of one shape are a pair; each pair is that of one word.
  *   line      a text that ends in one line feed, its fields parted by commas, numbers in decimal:
  *                 W,rank,L,letters                      a word
  *                 T,rank,L,letter,step,letter,..        a tableau, steps r (right) and d (down)
- *                 N,L,entries                           a recording ribbon
+ *                 P,rank,L,letter,step,..,letter,entries
+ *                                                       a pair: the items of its T line, then its entries
  *                 J,set,rows and E,number,place         a junction set with rows, a refusal: never read
- *             L is the number of letters or entries. Two words of one rank have the same T line, byte for byte,
- *             exactly when they are in one class of the hypoplactic monoid. T lines of words of different rank differ
- *             in the rank field; the words are in one class exactly when the lines agree with that field left out. A
- *             move at an index that both ranks have is then defined on both words or on neither, and the lines of the
- *             words that it makes agree again with that field left out.
+ *             L is the number of letters, in a P line also that of the entries. Two words of one rank have the same
+ *             T line, byte for byte, exactly when they are in one class of the hypoplactic monoid. T lines of words of
+ *             different rank differ in the rank field; the words are in one class exactly when the lines agree with
+ *             that field left out. A move at an index that both ranks have is then defined on both words or on neither,
+ *             and the lines of the words that it makes agree again with that field left out. Two words of one rank have
+ *             the same P line only where they are the same word.
+ *             Versions before 0.8 stored a recording ribbon in a line of its own, N,L,entries. It is read only by
+ *             luchtrav_convert_lines, which makes a P line of a T line and an N line.
  *   Places count from 0.
  *
  * BUFFERS
@@ -77,21 +82,22 @@
  *   the first's length. 2 judges each by itself, but the cells of a product's factors together. The letter to be
  *   inserted has the used count as its place. The place of 13 is the number of elements that the output needs; the
  *   first that is too short in the order letters, marks, entries. The place of 14 is that of the first byte that breaks
- *   the grammar, or the text's length; where a line is read, all other places are those of letters or entries. The
- *   place of 17 is the letter minus 1, in a second tableau 64 more; a letter above the rank has the count 0. With each
- *   function stand the numbers that it can refuse with, in order.
+ *   the grammar, or the text's length, and in a second text it counts on from the first's length; where a line is read,
+ *   all other places are those of letters or entries. The place of 17 is the letter minus 1, in a second tableau 64
+ *   more; a letter above the rank has the count 0. With each function stand the numbers that it can refuse with, in
+ *   order.
  *
  * EXAMPLE
- *   The tableau of 4323 at rank 4, its steps in words. It prints '2 down 3 right 3 down 4'.
+ *   The pair of 4323 at rank 4, the steps of its tableau in words. It prints '2 down 3 right 3 down 4'.
  *
  *     #include <stdio.h>
  *     #include "luchtrav.h"
  *     int main(void) {
  *         uint8_t word[] = {4, 3, 2, 3}, letters[4], marks[4];
- *         uint16_t counts[LUCHTRAV_COUNTS];
- *         luchtrav_count t = luchtrav_tableau_of_word(4, word, 4, letters, 4, marks, 4, counts);
- *         if (t.number != LUCHTRAV_OK) return printf("place %zu: %s\n", t.place, luchtrav_refusal_text(t.number)), 1;
- *         for (size_t i = 0; i < t.count; i++)
+ *         uint16_t entries[4], counts[LUCHTRAV_COUNTS];
+ *         luchtrav_count p = luchtrav_pair_of_word(4, word, 4, letters, 4, marks, 4, entries, 4, counts);
+ *         if (p.number != LUCHTRAV_OK) return printf("place %zu: %s\n", p.place, luchtrav_refusal_text(p.number)), 1;
+ *         for (size_t i = 0; i < p.count; i++)
  *             printf("%s%d", i == 0 ? "" : marks[i] ? " down " : " right ", letters[i]);
  *         return printf("\n"), 0;
  *     }
@@ -117,8 +123,8 @@ extern "C" {
 
 /* The version; and the number at the end of the shared library's name, which goes one up whenever a program must be
  * compiled anew to run with the library. */
-#define LUCHTRAV_VERSION "0.7.0"
-#define LUCHTRAV_INTERFACE 2
+#define LUCHTRAV_VERSION "0.8.0"
+#define LUCHTRAV_INTERFACE 3
 
 /* The limits; the last is that of letters or cells where a class is counted. */
 #define LUCHTRAV_RANKS 64
@@ -129,10 +135,10 @@ extern "C" {
 #define LUCHTRAV_COUNTS 64
 
 /* Bytes that are always enough for one line, whatever its kind, and for an answer of luchtrav_answer. The longest
- * lines, line feed included: T 5,128 bytes and W 3,082 (1,024 letters of two digits), N 4,020 (1,024 entries), J 25
- * (a set of 19 digits, rows of two), E 44 (number and place of 20 digits each). The longest answer: 12,255. (Counted,
- * and each reached in a test.) */
-#define LUCHTRAV_LINE_BYTES 8192
+ * lines, line feed included: P 9,141 bytes (1,024 letters of two digits and 1,024 entries), T 5,128 and W 3,082 (1,024
+ * letters of two digits), J 25 (a set of 19 digits, rows of two), E 44 (number and place of 20 digits each). The
+ * longest answer: 12,248. (Counted, and each reached in a test.) */
+#define LUCHTRAV_LINE_BYTES 16384
 #define LUCHTRAV_ANSWER_BYTES 16384
 
 /* The numbers of the table above, by name. */
@@ -248,16 +254,13 @@ typedef struct {
  * Refuses 1 2 4. */
 luchtrav_done luchtrav_check_word(size_t rank, const uint8_t *word, size_t word_count);
 
-/* The quasi-ribbon tableau of a word by Krob-Thibon insertion, with its counts; count is the cells written.
- * Needs word_count elements in letters and as many in marks. Refuses 1 2 4 13. */
-luchtrav_count luchtrav_tableau_of_word(size_t rank, const uint8_t *word, size_t word_count,
-                                        uint8_t *letters, size_t letters_count,
-                                        uint8_t *marks, size_t marks_count, uint16_t *counts);
-
-/* The recording ribbon of a word; count is the entries written.
- * Needs word_count elements in entries. Refuses 1 2 4 13. */
-luchtrav_count luchtrav_recording_of_word(size_t rank, const uint8_t *word, size_t word_count,
-                                          uint16_t *entries, size_t entries_count);
+/* The pair of a word: its quasi-ribbon tableau by Krob-Thibon insertion, with the counts, and its recording ribbon;
+ * count is the cells written. luchtrav_word_of_pair is the way back.
+ * Needs word_count elements in each of letters, marks and entries. Refuses 1 2 4 13. */
+luchtrav_count luchtrav_pair_of_word(size_t rank, const uint8_t *word, size_t word_count,
+                                     uint8_t *letters, size_t letters_count,
+                                     uint8_t *marks, size_t marks_count,
+                                     uint16_t *entries, size_t entries_count, uint16_t *counts);
 
 /* The junction set of a word, and the rows of its tableau. Bit a - 1 is set when a occurs, a larger letter occurs,
  * and the next larger letter that occurs stands left of some a.
@@ -459,10 +462,12 @@ luchtrav_count luchtrav_write_tableau_line(size_t rank, const uint8_t *letters, 
                                            const uint8_t *marks, size_t marks_count,
                                            uint8_t *out, size_t out_count);
 
-/* The N line of a recording ribbon, which is judged alone; count is the bytes written.
- * Needs the bytes of the line in out, 4,020 at most. Refuses 2 7 13. */
-luchtrav_count luchtrav_write_recording_line(const uint16_t *entries, size_t entries_count,
-                                             uint8_t *out, size_t out_count);
+/* The P line of a pair, which has no counts; count is the bytes written.
+ * Needs the bytes of the line in out, 9,141 at most. Refuses 1 2 3 4 5 6 7 8 13. */
+luchtrav_count luchtrav_write_pair_line(size_t rank, const uint8_t *letters, size_t letters_count,
+                                        const uint8_t *marks, size_t marks_count,
+                                        const uint16_t *entries, size_t entries_count,
+                                        uint8_t *out, size_t out_count);
 
 /* The J line of a word: its junction set and rows; count is the bytes written.
  * Needs the bytes of the line in out, 25 at most. Refuses 1 2 4 13. */
@@ -485,16 +490,27 @@ luchtrav_line luchtrav_read_tableau_line(const uint8_t *text, size_t text_count,
                                          uint8_t *letters, size_t letters_count,
                                          uint8_t *marks, size_t marks_count, uint16_t *counts);
 
-/* A whole N line, line feed included and nothing after it, as a recording ribbon, which is judged alone; count is the
- * entries written.
- * Needs as many elements in entries as the line has, LUCHTRAV_LETTERS at most. Refuses 14 2 7 13. */
-luchtrav_count luchtrav_read_recording_line(const uint8_t *text, size_t text_count,
-                                            uint16_t *entries, size_t entries_count);
+/* A whole P line, line feed included and nothing after it, as a pair with its counts; count is the cells written.
+ * Needs as many elements in each of letters, marks and entries as the line has cells, LUCHTRAV_LETTERS at most.
+ * Refuses 14 1 2 4 5 6 7 8 13. */
+luchtrav_line luchtrav_read_pair_line(const uint8_t *text, size_t text_count,
+                                      uint8_t *letters, size_t letters_count,
+                                      uint8_t *marks, size_t marks_count,
+                                      uint16_t *entries, size_t entries_count, uint16_t *counts);
 
-/* What the program 'ribbon' prints for its whole input: the T, N, W and J lines of the word in a W line, or one
- * E line; count is the bytes written. For a text of more than 4,096 bytes that is E,14,4096, and the text is not
- * read.
- * Needs the bytes of the answer in out, 12,255 at most. Refuses 13. */
+/* The P line of what versions before 0.8 stored in two lines, a T line and the N line of the same pair, each whole,
+ * line feed included and nothing after it; count is the bytes written. 14 judges the T text, then the N text, where the
+ * place counts on from the T text's length. 2 judges the number of cells, then that of entries, and 3 is the refusal
+ * where these differ.
+ * Needs the bytes of the line in out, 9,141 at most. Refuses 14 1 2 3 4 5 6 7 8 13. */
+luchtrav_count luchtrav_convert_lines(const uint8_t *tableau_text, size_t tableau_text_count,
+                                      const uint8_t *recording_text, size_t recording_text_count,
+                                      uint8_t *out, size_t out_count);
+
+/* What the program 'ribbon' prints for its whole input: the P line of the pair of the word in a W line, the W line of
+ * its column reading and its J line, or one E line; count is the bytes written. For a text of more than 4,096 bytes
+ * that is E,14,4096, and the text is not read.
+ * Needs the bytes of the answer in out, 12,248 at most. Refuses 13. */
 luchtrav_count luchtrav_answer(const uint8_t *text, size_t text_count, uint8_t *out, size_t out_count);
 
 #ifdef __cplusplus

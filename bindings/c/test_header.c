@@ -1,5 +1,6 @@
 /* What include/luchtrav.h says beside its functions: names and texts of the refusal numbers, the longest lines, the
- * places that moves change, words of two ranks, words of a class by number, letter counts, NULL.
+ * places that moves change, words of two ranks, words of a class by number, letter counts, pairs and their lines, the
+ * converter of former lines, NULL.
  *
  * Prints the table of refusals as the names and luchtrav_refusal_text have it, for scripts/packages_c to hold against
  * the table of the header's opening comment. Fails where something else is not as the header says.
@@ -40,14 +41,22 @@ static void texts(void) {
     expect("text of the largest number", (size_t)strcmp(luchtrav_refusal_text((size_t)-1), "no such number"), 0);
 }
 
+/* The line of entries that versions before 0.8 wrote; gives its bytes, line feed included. */
+static size_t former_line(const uint16_t *entries, size_t count, uint8_t *out) {
+    char *text = (char *)out;
+    size_t at = (size_t)sprintf(text, "N,%zu", count);
+    for (size_t i = 0; i < count; i++) at += (size_t)sprintf(text + at, ",%u", entries[i]);
+    return at + (size_t)sprintf(text + at, "\n");
+}
+
 /* A word of 1,024 letters of two digits with as many rows as they allow has the longest line of each kind; with one
  * byte less each is refused, and the place is the bytes needed. */
 static void longest(void) {
     static uint8_t word[L], letters[L], marks[L], out[LUCHTRAV_ANSWER_BYTES], w_line[LUCHTRAV_LINE_BYTES];
+    static uint8_t t_line[LUCHTRAV_LINE_BYTES], n_line[LUCHTRAV_LINE_BYTES];
     static uint16_t entries[L], counts[COUNTS];
     for (size_t i = 0; i < L; i++) word[i] = (uint8_t)(RANK - i % 55);
-    expect("cells", luchtrav_tableau_of_word(RANK, word, L, letters, L, marks, L, counts).count, L);
-    expect("entries", luchtrav_recording_of_word(RANK, word, L, entries, L).count, L);
+    expect("cells", luchtrav_pair_of_word(RANK, word, L, letters, L, marks, L, entries, L, counts).count, L);
 
 #define LONGEST(bytes, function, ...) \
     expect(#function, luchtrav_##function(__VA_ARGS__, out, bytes).count, bytes); \
@@ -57,11 +66,14 @@ static void longest(void) {
     LONGEST(5128, tableau_line_of_word, RANK, word, L);
     LONGEST(5128, write_tableau_line, RANK, letters, L, marks, L);
     LONGEST(3082, write_word_line, RANK, word, L);
-    LONGEST(4020, write_recording_line, entries, L);
+    LONGEST(9141, write_pair_line, RANK, letters, L, marks, L, entries, L);
     LONGEST(25, write_junction_line, RANK, word, L);
     LONGEST(44, write_refusal_line, (size_t)-1, (size_t)-1);
     size_t w_count = luchtrav_write_word_line(RANK, word, L, w_line, sizeof w_line).count;
-    LONGEST(12255, answer, w_line, w_count);
+    size_t t_count = luchtrav_write_tableau_line(RANK, letters, L, marks, L, t_line, sizeof t_line).count;
+    size_t n_count = former_line(entries, L, n_line);
+    LONGEST(9141, convert_lines, t_line, t_count, n_line, n_count);
+    LONGEST(12248, answer, w_line, w_count);
 }
 
 /* Counts, one digit a letter; those of all further letters are 0. */
@@ -104,8 +116,7 @@ static void moves(void) {
     counted("its counts", of_cells, "012");
     undefined("233 lowered at 3", luchtrav_lower_tableau(3, 3, cells, 3, level, 3, of_cells), LUCHTRAV_BAD_INDEX);
     counted("its counts", of_cells, "012");
-    luchtrav_tableau_of_word(3, third, 3, letters, 3, marks, 3, counts);
-    luchtrav_recording_of_word(3, third, 3, entries, 3);
+    luchtrav_pair_of_word(3, third, 3, letters, 3, marks, 3, entries, 3, counts);
     made("131 raised", luchtrav_raise_word(3, 2, third, 3), 1, third, "121");
     made("the tableau of 131 raised", luchtrav_raise_tableau(3, 2, letters, 3, marks, 3, counts), 2, letters, "112");
     expect("the entry of the changed cell", entries[2], 2);
@@ -140,10 +151,10 @@ static void valued(const char *what, luchtrav_value said, size_t number, uint64_
 /* A word, one digit a letter, and its number, there and back; with the size, and with the largest number, 16 falls. */
 static void numbered(const char *digits, uint64_t size, uint64_t number) {
     uint8_t word[LUCHTRAV_COUNTED], letters[LUCHTRAV_COUNTED], marks[LUCHTRAV_COUNTED], back[LUCHTRAV_COUNTED] = {0};
-    uint16_t counts[COUNTS];
+    uint16_t entries[LUCHTRAV_COUNTED], counts[COUNTS];
     size_t l = strlen(digits);
     for (size_t i = 0; i < l; i++) word[i] = (uint8_t)(digits[i] - '0');
-    luchtrav_tableau_of_word(9, word, l, letters, l, marks, l, counts);
+    luchtrav_pair_of_word(9, word, l, letters, l, marks, l, entries, l, counts);
 #define CLASS 9, letters, l, marks, l, counts
     valued(digits, luchtrav_class_size(CLASS), LUCHTRAV_OK, size);
     valued(digits, luchtrav_class_number(9, word, l), LUCHTRAV_OK, number);
@@ -196,7 +207,7 @@ static void counts(void) {
     counted("4323, letter by letter", of_pair, "0121");
     luchtrav_read_tableau_line((const uint8_t *)line, sizeof line - 1, letters, 4, marks, 4, of_line);
     counted("4323, read", of_line, "0121");
-    luchtrav_tableau_of_word(4, word, 4, letters, 4, marks, 4, of_word);
+    luchtrav_pair_of_word(4, word, 4, letters, 4, marks, 4, entries, 4, of_word);
     counted("4323", of_word, "0121");
     luchtrav_product(4, letters, 4, marks, 4, of_word, letters, 4, marks, 4, of_word, square, 8, steps, 8, of_square);
     counted("4323 squared", of_square, "0242");
@@ -232,6 +243,74 @@ static void two_tableaux(void) {
     expect("weights of 12 and 21", order.order, LUCHTRAV_EQUAL);
 }
 
+/* Text, and how many bytes it has. */
+#define TEXT(text) (const uint8_t *)(text), sizeof(text) - 1
+
+/* What writes elements or bytes: number, place and how many. */
+static void wrote(const char *what, luchtrav_count said, size_t number, size_t place, size_t count) {
+    expect(what, said.number, number);
+    expect(what, said.place, place);
+    expect(what, said.count, count);
+}
+
+/* The pair of 4323, into memory with one element to spare; of three outputs the first that is too short is told. */
+static void pairs(void) {
+    const uint8_t word[] = {4, 3, 2, 3}, cells[] = {2, 3, 3, 4, 9}, steps[] = {0, 1, 0, 1, 9}, bad[] = {4, 5, 2, 3};
+    const uint16_t numbers[] = {3, 2, 4, 1, 9};
+    uint8_t letters[5], marks[5];
+    uint16_t entries[5] = {9, 9, 9, 9, 9}, counts[COUNTS];
+    memset(letters, 9, sizeof letters);
+    memset(marks, 9, sizeof marks);
+    memset(counts, 0xA5, sizeof counts);
+#define PAIR(word, room_l, room_m, room_r) \
+    luchtrav_pair_of_word(4, word, 4, letters, room_l, marks, room_m, entries, room_r, counts)
+    wrote("no room for letters", PAIR(word, 3, 2, 1), LUCHTRAV_NO_ROOM, 4, 0);
+    wrote("no room for marks", PAIR(word, 4, 3, 4), LUCHTRAV_NO_ROOM, 4, 0);
+    wrote("no room for entries", PAIR(word, 4, 5, 3), LUCHTRAV_NO_ROOM, 4, 0);
+    wrote("a letter above the rank", PAIR(bad, 3, 3, 3), LUCHTRAV_BAD_LETTER, 1, 0);
+    expect("after refusals", (size_t)letters[0] + marks[0] + entries[0] + counts[0], 9 + 9 + 9 + 0xA5A5);
+    wrote("4323's pair", PAIR(word, 5, 5, 5), LUCHTRAV_OK, 0, 4);
+    expect("its letters", (size_t)memcmp(letters, cells, sizeof cells), 0);
+    expect("its marks", (size_t)memcmp(marks, steps, sizeof steps), 0);
+    expect("its entries", (size_t)memcmp(entries, numbers, sizeof numbers), 0);
+    counted("its counts", counts, "0121");
+}
+
+/* The P line of 4323: written, read, and made of the two lines of before. */
+static void pair_lines(void) {
+    static const char line[] = "P,4,4,2,d,3,r,3,d,4,3,2,4,1\n", tableau[] = "T,4,4,2,d,3,r,3,d,4\n";
+    const size_t bytes = sizeof line - 1, front = sizeof tableau - 1;
+    uint8_t letters[4], marks[4], out[LUCHTRAV_LINE_BYTES];
+    uint16_t entries[4], counts[COUNTS];
+#define MEMORY(room) letters, room, marks, room, entries, room, counts
+    luchtrav_line read = luchtrav_read_pair_line(TEXT(line), MEMORY(4));
+    expect("read", read.number + read.place, 0);
+    expect("its rank", read.rank, 4);
+    expect("its cells", read.count, 4);
+    counted("its counts", counts, "0121");
+    wrote("written", luchtrav_write_pair_line(4, letters, 4, marks, 4, entries, 4, out, sizeof out), 0, 0, bytes);
+    expect("as it was", (size_t)memcmp(out, line, bytes), 0);
+    memset(out, 0, sizeof out);
+    wrote("converted", luchtrav_convert_lines(TEXT(tableau), TEXT("N,4,3,2,4,1\n"), out, sizeof out), 0, 0, bytes);
+    expect("to the same", (size_t)memcmp(out, line, bytes), 0);
+    read = luchtrav_read_pair_line(TEXT(line), MEMORY(3));
+    expect("no room to read", read.number, LUCHTRAV_NO_ROOM);
+    expect("no room to read", read.place, 4);
+    read = luchtrav_read_pair_line(TEXT("N,4,3,2,4,1\n"), MEMORY(4));
+    expect("an N line alone", read.number, LUCHTRAV_BAD_LINE);
+    read = luchtrav_read_pair_line(TEXT("P,4,3,1,d,2,d,3,1,2,2\n"), MEMORY(4));
+    expect("an entry twice", read.number, LUCHTRAV_BAD_ENTRY);
+    expect("an entry twice", read.place, 2);
+#define FORMER(number, place, first, second) \
+    wrote(second, luchtrav_convert_lines(TEXT(first), TEXT(second), out, bytes - 1), number, place, 0)
+    FORMER(LUCHTRAV_NO_ROOM, bytes, tableau, "N,4,3,2,4,1\n");
+    FORMER(LUCHTRAV_BAD_LINE, front + 9, tableau, "N,4,3,2,4\n");
+    FORMER(LUCHTRAV_BAD_LINE, 0, "N,0\n", tableau);
+    FORMER(LUCHTRAV_BAD_PARTS, 0, tableau, "N,3,3,2,1\n");
+    FORMER(LUCHTRAV_BAD_ENTRY, 2, tableau, "N,4,3,2,2,1\n");
+    FORMER(LUCHTRAV_BAD_RECORDING, 2, tableau, "N,4,4,3,2,1\n");
+}
+
 /* The factors of a product without memory, their letters and marks as many as told. */
 static size_t product_says(size_t first, size_t first_marks, size_t second, size_t second_marks) {
     static const uint16_t none[COUNTS] = {0};
@@ -243,8 +322,11 @@ static size_t product_says(size_t first, size_t first_marks, size_t second, size
 /* NULL where the number is 0, and where 1, 2 or 3 refuses by the numbers alone. */
 static void null(void) {
     uint16_t given[COUNTS];
-    expect("the empty word", luchtrav_tableau_of_word(4, NULL, 0, NULL, 0, NULL, 0, given).number, LUCHTRAV_OK);
+    wrote("the empty word", luchtrav_pair_of_word(4, NULL, 0, NULL, 0, NULL, 0, NULL, 0, given), LUCHTRAV_OK, 0, 0);
     counted("the empty word", given, "");
+    luchtrav_count long_word = luchtrav_pair_of_word(4, NULL, (size_t)-1, NULL, 1, NULL, 1, NULL, 1, NULL);
+    wrote("a word of too many letters", long_word, LUCHTRAV_BAD_LENGTH, 0, 0);
+    wrote("no texts", luchtrav_convert_lines(NULL, 0, NULL, 0, NULL, 0), LUCHTRAV_BAD_LINE, 0, 0);
     expect("rank", luchtrav_check_word(0, NULL, 4).number, LUCHTRAV_BAD_RANK);
     expect("length", luchtrav_check_word(4, NULL, (size_t)-1).number, LUCHTRAV_BAD_LENGTH);
     expect("parts", luchtrav_check_tableau(4, NULL, 4, NULL, 3).number, LUCHTRAV_BAD_PARTS);
@@ -270,6 +352,8 @@ int main(void) {
     classes();
     counts();
     two_tableaux();
+    pairs();
+    pair_lines();
     null();
     return wrong != 0;
 }

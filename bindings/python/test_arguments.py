@@ -22,17 +22,18 @@ class Sequences(Case):
         kinds: List[Callable[[List[int]], Any]] = [bytes, bytearray, tuple, list, UserList, deque]
         for kind in kinds:
             given = kind(word)
-            self.assertEqual(lu.tableau_of_word(4, given), lu.tableau_of_word(4, word))
+            self.assertEqual(lu.pair_of_word(4, given), PAIR)
             self.assertEqual(lu.raise_word(4, 1, given), ([4, 3, 1, 3], 2))
             self.assertEqual(lu.tableau_line_of_word(4, given), lu.tableau_line_of_word(4, word))
             self.assertTrue(lu.same_class(4, given, 4, word))
             parts = kind(LETTERS), kind(MARKS), kind(ENTRIES)
             self.assertEqual(lu.raise_tableau(4, 1, *parts[:2]), (lu.Tableau([1, 3, 3, 4], MARKS), 0))
             self.assertEqual(lu.word_of_pair(4, *parts), word)
+            self.assertEqual(lu.write_pair_line(4, *parts), b"P,4,4,2,d,3,r,3,d,4,3,2,4,1\n")
             self.assertEqual(lu.insert_letter(4, 1, *parts), lu.Pair([1, 2, 3, 3, 4], [0, 1, 1, 0, 1], [5, 3, 2, 4, 1]))
             self.assertEqual(lu.product(4, parts[:2], parts[:2]), lu.product(4, TABLEAU, TABLEAU))
             self.assertEqual(lu.product(4, *parts[:2], *parts[:2]), lu.product(4, TABLEAU, TABLEAU))
-        self.assertEqual(lu.write_recording_line(range(1, 4)), b"N,3,1,2,3\n")
+        self.assertEqual(lu.write_pair_line(4, range(1, 4), [0] * 3, range(1, 4)), b"P,4,3,1,r,2,r,3,1,2,3\n")
         self.assertEqual(lu.write_word_line(1, [True, True]), b"W,1,2,1,1\n")
         for text in (b"W,4,1,3\n", bytearray(b"W,4,1,3\n"), memoryview(b"W,4,1,3\n")):
             self.assertEqual(lu.read_word_line(text), (4, [3]))
@@ -43,7 +44,7 @@ class Sequences(Case):
             return type("Other", (kind,), {"__bytes__": lambda self: b"\1", "__index__": lambda self: 0})(values)
 
         for kind in (list, tuple, bytes, bytearray):
-            self.assertEqual(lu.tableau_of_word(4, other(kind, [4, 3, 2, 3])), TABLEAU)
+            self.assertEqual(lu.pair_of_word(4, other(kind, [4, 3, 2, 3])), PAIR)
             self.assertEqual(lu.word_of_pair(4, other(kind, LETTERS), other(kind, MARKS), other(kind, ENTRIES)), [4, 3, 2, 3])
         for kind in (bytes, bytearray):
             self.assertEqual(lu.read_word_line(other(kind, list(b"W,4,1,3\n"))), (4, [3]))
@@ -59,7 +60,7 @@ class Sequences(Case):
             self.refuses(2, 0, lu.product, 4, ([1], [0]), (long, [0]))
             self.refuses(3, 0, lu.product, 4, ([1], [0]), ([1], long))
             self.refuses(3, 0, lu.check_pair, 4, [1], [0], long)
-            self.refuses(2, 0, lu.write_recording_line, long)
+            self.refuses(3, 0, lu.write_pair_line, 4, [1], [0], long)
         self.assertEqual(lu.cell_at(range(3000), range(3000), 200), lu.Cell(200, 1, 0))
         self.assertEqual(lu.cell_at(UserList([7] * 3000), UserList([1] * 3000), 2500), lu.Cell(7, 2500, 0))
 
@@ -81,16 +82,18 @@ class Sequences(Case):
         )
         for other in others:
             calls: List[Tuple[Any, ...]] = [
-                (lu.check_word, 4, other), (lu.same_class, 4, [1], 4, other), (lu.column_reading, 4, other, [0, 0]), (lu.write_recording_line, other),
+                (lu.check_word, 4, other), (lu.same_class, 4, [1], 4, other), (lu.column_reading, 4, other, [0, 0]), (lu.pair_of_word, 4, other),
                 (lu.class_number, 4, other), (lu.class_size, 4, other, [0, 0]), (lu.class_word, 4, other, [0, 0], 0),
-                (lu.check_pair, 4, other, [0, 0], [1, 2]), (lu.Tableau, other, [0, 0]), (lu.Pair, [1, 2], [0, 0], other),
-                (lu.product, 4, ([1], [0]), (other, [0])), (lu.product, 4, ([1], [0]), ([1], other)),
+                (lu.check_pair, 4, other, [0, 0], [1, 2]), (lu.write_pair_line, 4, other, [0, 0], [1, 2]), (lu.Tableau, other, [0, 0]),
+                (lu.Pair, [1, 2], [0, 0], other), (lu.product, 4, ([1], [0]), (other, [0])), (lu.product, 4, ([1], [0]), ([1], other)),
             ]
             for call, *arguments in calls:
                 with self.assertRaisesRegex(TypeError, "^a sequence or a buffer of integers is needed, not %s$" % type(other).__name__):
                     call(*arguments)
         for other in ("W,4,0\n", [87], None, memoryview(array("H", b"W,4,1,3\n"))):
             self.assertRaises(TypeError, lu.read_word_line, other)
+            self.assertRaises(TypeError, lu.read_pair_line, other)
+            self.assertRaises(TypeError, lu.convert_lines, b"T,4,0\n", other)
             self.assertRaises(TypeError, lu.answer, other)
 
 
@@ -116,7 +119,7 @@ class Numbers(Case):
             self.assertRaises(TypeError, lu.check_word, 4, [1, other])
             self.assertRaises(TypeError, lu.check_word, 4, [300, other])
             self.assertRaises(TypeError, lu.check_tableau, 4, [1], [other])
-            self.assertRaises(TypeError, lu.write_recording_line, [other])
+            self.assertRaises(TypeError, lu.write_pair_line, 4, [1], [0], [other])
             self.assertRaises(TypeError, lu.raise_word, 4, other, [1])
             self.assertRaises(TypeError, lu.look, 4, [1], [0], other)
             self.assertRaises(TypeError, lu.insert_letter, 4, other, [], [], [])
@@ -125,7 +128,7 @@ class Numbers(Case):
 
     def test_places(self) -> None:
         """Which of many is no integer."""
-        calls: List[Tuple[Any, ...]] = [(lu.check_word, 4), (lu.check_tableau, 4, [1, 2, 3]), (lu.write_recording_line,), (lu.Tableau, [])]
+        calls: List[Tuple[Any, ...]] = [(lu.check_word, 4), (lu.check_tableau, 4, [1, 2, 3]), (lu.check_pair, 4, [1] * 3, [0] * 3), (lu.Tableau, [])]
         for numbers in ([1, 2, None], [1, 300, None], (1, 2, "1")):
             for call, *before in calls:
                 with self.assertRaisesRegex(TypeError, "^integers are needed; at place 2: "):
@@ -137,13 +140,14 @@ class Values(Case):
         """A Tableau and a Pair hold tuples, however they were made, and so they hash."""
         self.assertEqual(TABLEAU, ((2, 3, 3, 4), (0, 1, 0, 1)))
         self.assertEqual(repr(PAIR), "Pair(letters=(2, 3, 3, 4), marks=(0, 1, 0, 1), entries=(3, 2, 4, 1))")
-        made = lu.Tableau(bytes(LETTERS), memoryview(bytes(MARKS))), lu.tableau_of_word(4, [4, 3, 2, 3]), lu.Tableau._make((LETTERS, MARKS))
+        made = lu.Tableau(bytes(LETTERS), memoryview(bytes(MARKS))), lu.pair_of_word(4, [4, 3, 2, 3]).tableau, lu.Tableau._make((LETTERS, MARKS))
         for tableau in (*made, TABLEAU._replace(letters=tuple(LETTERS)), pickle.loads(pickle.dumps(TABLEAU)), copy.deepcopy(TABLEAU)):
             self.assertEqual(tableau, TABLEAU)
             self.assertEqual(hash(tableau), hash(TABLEAU))
             self.assertIs(type(tableau), lu.Tableau)
         inserted = lu.insert_letter(4, 3, lu.insert_letter(4, 2, lu.insert_letter(4, 3, lu.insert_letter(4, 4, [], [], []))))
-        for pair in (inserted, lu.Pair._make((LETTERS, MARKS, ENTRIES)), PAIR._replace(entries=tuple(ENTRIES)), pickle.loads(pickle.dumps(PAIR))):
+        again = lu.Pair._make((LETTERS, MARKS, ENTRIES)), PAIR._replace(entries=tuple(ENTRIES)), pickle.loads(pickle.dumps(PAIR))
+        for pair in (inserted, lu.pair_of_word(4, [4, 3, 2, 3]), *again):
             self.assertEqual(pair, PAIR)
             self.assertEqual(hash(pair), hash(PAIR))
             self.assertIs(type(pair), lu.Pair)
@@ -162,7 +166,7 @@ class Values(Case):
         """What a move gives is taken apart, and told by name; only a tableau with its place is a key."""
         word, place = lu.raise_word(3, 2, [1, 3, 1])
         self.assertEqual((type(word), type(place)), (list, int))
-        tableau, cell = lu.raise_tableau(3, 2, lu.tableau_of_word(3, [1, 3, 1]))
+        tableau, cell = lu.raise_tableau(3, 2, lu.pair_of_word(3, [1, 3, 1]).tableau)
         self.assertEqual((type(tableau), type(cell)), (lu.Tableau, int))
         moved_word, moved_tableau = lu.MovedWord([1, 2, 1], 1), lu.MovedTableau(lu.Tableau([1, 1, 2], [0, 0, 1]), 2)
         self.assertEqual((moved_word.word, moved_word.place, moved_tableau.tableau, moved_tableau.place), (word, place, tableau, cell))
@@ -170,7 +174,7 @@ class Values(Case):
         for moved in (moved_word, moved_tableau):
             self.assertIs(type(pickle.loads(pickle.dumps(moved))), type(moved))
             self.assertRaises(AttributeError, setattr, moved, "place", 0)
-        self.assertEqual({moved_tableau: 1}[lu.raise_tableau(3, 2, lu.tableau_of_word(3, [3, 1, 1]))], 1)
+        self.assertEqual({moved_tableau: 1}[lu.raise_tableau(3, 2, lu.pair_of_word(3, [3, 1, 1]).tableau)], 1)
         self.assertRaises(TypeError, hash, moved_word)
         calls: List[Tuple[Any, ...]] = [
             (lu.check_word, 3, moved_word), (lu.raise_word, 3, 1, moved_word), (lu.check_tableau, 3, moved_tableau),
@@ -181,7 +185,7 @@ class Values(Case):
             self.assertRaises(TypeError, call, *arguments)
 
     def test_keys(self) -> None:
-        classes = {lu.tableau_of_word(4, word): word for word in ([4, 3, 2, 3], [3, 2, 4, 3], [2, 3, 3, 4])}
+        classes = {lu.pair_of_word(4, word).tableau: word for word in ([4, 3, 2, 3], [3, 2, 4, 3], [2, 3, 3, 4])}
         self.assertEqual(len(classes), 2)
 
     def test_tableau_for_its_parts(self) -> None:
@@ -233,18 +237,23 @@ class Values(Case):
         lu.check_pair(4, PAIR)
         self.assertEqual(lu.word_of_pair(4, PAIR), [4, 3, 2, 3])
         self.assertEqual(lu.insert_letter(4, 1, PAIR), lu.insert_letter(4, 1, LETTERS, MARKS, ENTRIES))
+        line = b"P,4,4,2,d,3,r,3,d,4,3,2,4,1\n"
+        self.assertEqual(lu.write_pair_line(4, PAIR), line)
         self.refuses(4, 3, lu.check_pair, 3, PAIR)
         for entries in (ENTRIES, tuple(ENTRIES), array("H", ENTRIES)):
             lu.check_pair(4, TABLEAU, entries)
             lu.check_pair(4, TABLEAU, entries=entries)
             self.assertEqual(lu.word_of_pair(4, TABLEAU, entries), [4, 3, 2, 3])
             self.assertEqual(lu.word_of_pair(4, TABLEAU, entries=entries), [4, 3, 2, 3])
+            self.assertEqual(lu.write_pair_line(4, TABLEAU, entries), line)
+            self.assertEqual(lu.write_pair_line(4, TABLEAU, entries=entries), line)
             self.assertEqual(lu.insert_letter(4, 1, TABLEAU, entries), lu.insert_letter(4, 1, PAIR))
             self.assertEqual(lu.insert_letter(4, 1, TABLEAU, entries=entries), lu.insert_letter(4, 1, PAIR))
         self.refuses(8, 1, lu.check_pair, 4, TABLEAU, [1, 2, 3, 4])
         for other in ((PAIR, MARKS), (PAIR, MARKS, ENTRIES), (LETTERS, MARKS), (LETTERS,), (TABLEAU,), (TABLEAU, MARKS, ENTRIES), (TABLEAU, TABLEAU)):
             self.assertRaises(TypeError, lu.check_pair, 4, *other)
             self.assertRaises(TypeError, lu.word_of_pair, 4, *other)
+            self.assertRaises(TypeError, lu.write_pair_line, 4, *other)
             self.assertRaises(TypeError, lu.insert_letter, 4, 1, *other)
         self.assertRaises(TypeError, lu.insert_letter, 4, LETTERS, MARKS, ENTRIES, 1)
 

@@ -37,11 +37,12 @@ def came_of(call: Callable[..., Any], *arguments: Any) -> Any:
 def uses(values: Any) -> Tuple[Any, ...]:
     """What comes of integers as a word, as letters and marks, also where nothing is refused, and as entries."""
     return (
-        came_of(lu.tableau_of_word, 64, values), came_of(lu.same_class, 64, [1], 64, values), came_of(lu.raise_word, 64, 1, values),
+        came_of(lu.pair_of_word, 64, values), came_of(lu.same_class, 64, [1], 64, values), came_of(lu.raise_word, 64, 1, values),
         [lu.cell_at(values, [0] * len(values), place) for place in range(len(values))],
         [lu.cell_at([1] * len(values), values, place) for place in range(len(values))],
         came_of(lu.product, 64, ([1], [0]), (values, [0] * len(values))), came_of(lu.product, 64, ([1] * len(values), values), ([1], [0])),
-        came_of(lu.check_tableau, 64, [1] * len(values), values), came_of(lu.write_recording_line, values), lu.Tableau(values, values),
+        came_of(lu.check_tableau, 64, [1] * len(values), values), lu.Tableau(values, values),
+        came_of(lu.write_pair_line, 64, [1] * len(values), [0] * len(values), values),
     )
 
 
@@ -100,7 +101,7 @@ class Buffers(Case):
             with self.assertRaisesRegex(TypeError, "a buffer of integers is needed, in one dimension and in the machine's byte order, not"):
                 lu.check_word(4, other)
             with self.assertRaisesRegex(TypeError, "a buffer of integers is needed, in one dimension and in the machine's byte order, not"):
-                lu.write_recording_line(other)
+                lu.write_pair_line(4, [1], [0], other)
 
     def test_memory_stays(self) -> None:
         for code in FORMATS:
@@ -125,12 +126,12 @@ class Numpy(Case):
                 square = numpy.stack([array_of] * 3, axis=1)
                 for buffer in (array_of, square[:, 1], array_of[::-1][::-1]):
                     self.assertEqual(uses(buffer), uses(values), (code, values))
-        self.assertEqual(lu.tableau_of_word(4, numpy.array([4, 3, 2, 3])), lu.tableau_of_word(4, [4, 3, 2, 3]))
+        self.assertEqual(lu.pair_of_word(4, numpy.array([4, 3, 2, 3])), lu.pair_of_word(4, [4, 3, 2, 3]))
         self.assertEqual(lu.check_tableau(4, [2, 3], numpy.array([False, True])), None)
 
     def test_single_numbers(self) -> None:
         word = numpy.array([4, 3, 2, 3])
-        self.assertEqual(lu.tableau_of_word(numpy.int32(4), list(word)), lu.tableau_of_word(4, [4, 3, 2, 3]))  # type: ignore[arg-type]
+        self.assertEqual(lu.pair_of_word(numpy.int32(4), list(word)), lu.pair_of_word(4, [4, 3, 2, 3]))  # type: ignore[arg-type]
         refusal = self.refusal(lu.check_word, 4, list(word * 3))
         self.assertEqual(str(refusal), "check_word: refusal 4 at place 0: letter outside 1 to rank (12)")
 
@@ -139,7 +140,7 @@ class Numpy(Case):
                       numpy.array([1], dtype=">i4"), numpy.array([1], dtype="M8[s]"), numpy.array([1j]),
                       numpy.ma.array([1, 2], mask=[0, 1])):  # type: ignore[no-untyped-call]
             self.assertRaises(TypeError, lu.check_word, 4, other)
-            self.assertRaises(TypeError, lu.write_recording_line, other)
+            self.assertRaises(TypeError, lu.write_pair_line, 4, [1], [0], other)
 
 
 if __name__ == "__main__":

@@ -15,7 +15,7 @@ LARGEST_SIZE = 370371188237525
 
 class Classes(Case):
     def test_4323(self) -> None:
-        tableau = lu.tableau_of_word(4, word_of("4323"))
+        tableau = lu.pair_of_word(4, word_of("4323")).tableau
         words = [word_of(digits) for digits in ("3243", "3423", "3432", "4323", "4332")]
         self.assertEqual(lu.class_size(4, tableau), 5)
         self.assertEqual([lu.class_word(4, tableau, number) for number in range(5)], words)
@@ -28,7 +28,7 @@ class Classes(Case):
             (7, "12446553275", 15399, 260, "12432455657", "67445553122"), (2, "1", 1, 0, "1", "1"), (2, "", 1, 0, "", ""), (9, "987", 1, 0, "987", "987"),
         ):
             word = word_of(digits)
-            tableau = lu.tableau_of_word(rank, word)
+            tableau = lu.pair_of_word(rank, word).tableau
             self.assertEqual((lu.class_size(rank, tableau), lu.class_number(rank, word)), (size, number))
             self.assertEqual([lu.class_word(rank, tableau, k) for k in (0, number, size - 1)], [word_of(first), word, word_of(last)])
             self.refuses(16, 0, lu.class_word, rank, tableau, size)
@@ -38,21 +38,21 @@ class Classes(Case):
         for number in (0, 1, 247997108057619, LARGEST_SIZE // 2, LARGEST_SIZE - 2, LARGEST_SIZE - 1):
             word = lu.class_word(64, LARGEST, number)
             self.assertEqual(lu.class_number(20, word), number)
-            self.assertEqual(lu.tableau_of_word(20, word), LARGEST)
+            self.assertEqual(lu.pair_of_word(20, word).tableau, LARGEST)
         self.assertEqual(lu.class_word(20, LARGEST, LARGEST_SIZE - 1), [20, 18, 19, 16, 17, 14, 15, 12, 13, 10, 11, 8, 9, 6, 7, 4, 5, 2, 3, 1])
         self.refuses(16, 0, lu.class_word, 20, LARGEST, LARGEST_SIZE)
 
     def test_one_word(self) -> None:
         for word in ([7] * 20, list(range(1, 21)), list(range(20, 0, -1)), []):
-            self.assertEqual((lu.class_size(20, lu.tableau_of_word(20, word)), lu.class_number(20, word)), (1, 0))
-            self.assertEqual(lu.class_word(20, lu.tableau_of_word(20, word), 0), word)
+            self.assertEqual((lu.class_size(20, lu.pair_of_word(20, word).tableau), lu.class_number(20, word)), (1, 0))
+            self.assertEqual(lu.class_word(20, lu.pair_of_word(20, word).tableau, 0), word)
 
     def test_all_short_words(self) -> None:
         """All words of up to six letters over 1 to 3, put into their classes in dictionary order: sizes, words and numbers are those of the lists."""
         for length in range(7):
             classes: Dict[lu.Tableau, List[List[int]]] = {}
             for letters in product((1, 2, 3), repeat=length):
-                classes.setdefault(lu.tableau_of_word(3, letters), []).append(list(letters))
+                classes.setdefault(lu.pair_of_word(3, letters).tableau, []).append(list(letters))
             for tableau, words in classes.items():
                 self.assertEqual(lu.class_size(3, tableau), len(words))
                 self.assertEqual([lu.class_word(3, tableau, number) for number in range(len(words))], words)

@@ -67,13 +67,13 @@ class Values(Case):
             self.assertEqual(one, other)
             self.assertEqual(hash(one), hash(other))
             self.assertNotEqual(one.counts, other.counts)
-        self.assertEqual(len({TABLEAU, lu.tableau_of_word(4, [4, 3, 2, 3]), lu.tableau_of_word(6, [3, 2, 4, 3]), wrong(0, 1)}), 1)
+        self.assertEqual(len({TABLEAU, lu.pair_of_word(4, [4, 3, 2, 3]).tableau, lu.pair_of_word(6, [3, 2, 4, 3]).tableau, wrong(0, 1)}), 1)
         letters, marks = wrong(0, 1)
         self.assertEqual((letters, marks), TABLEAU)
 
     def test_text(self) -> None:
         """Counts are shown where they are not those of the letters, and what is shown can be read."""
-        self.assertEqual(repr(lu.tableau_of_word(4, [4, 3, 2, 3])), "Tableau(letters=(2, 3, 3, 4), marks=(0, 1, 0, 1))")
+        self.assertEqual(repr(lu.pair_of_word(4, [4, 3, 2, 3]).tableau), "Tableau(letters=(2, 3, 3, 4), marks=(0, 1, 0, 1))")
         self.assertEqual(repr(lu.Tableau([2], [0], [0, 1])), "Tableau(letters=(2,), marks=(0,))")
         self.assertEqual(repr(wrong(0, 1)), "Tableau(letters=(2, 3, 3, 4), marks=(0, 1, 0, 1), counts=(1, 1, 2, 1))")
         self.assertEqual(repr(lu.Pair([2], [0], [1], [])), "Pair(letters=(2,), marks=(0,), entries=(1,), counts=())")
@@ -98,11 +98,13 @@ class KeptTrue(Case):
     def test_given(self) -> None:
         for rank, digits in ((4, "4323"), (7, "12446553275"), (4, ""), (9, "999")):
             word = word_of(digits)
-            tableau = lu.tableau_of_word(rank, word)
-            self.assertEqual(tableau._counts, counts_of(word))
+            pair = lu.pair_of_word(rank, word)
+            tableau = pair.tableau
+            self.assertEqual((pair._counts, tableau._counts), (counts_of(word),) * 2)
             self.assertEqual(lu.read_tableau_line(lu.write_tableau_line(rank, tableau))[1]._counts, counts_of(word))
+            self.assertEqual(lu.read_pair_line(lu.write_pair_line(rank, pair))[1]._counts, counts_of(word))
             self.assertEqual(lu.product(rank, tableau, tableau)._counts, counts_of(word + word))
-        self.assertEqual(lu.tableau_of_word(64, list(range(1, 65)) * 16)._counts, (16,) * 64)
+        self.assertEqual(lu.pair_of_word(64, list(range(1, 65)) * 16)._counts, (16,) * 64)
 
     def test_insertion(self) -> None:
         pair, word = lu.Pair([], [], []), word_of("12446553275")
@@ -117,7 +119,7 @@ class KeptTrue(Case):
         made = 0
         for length in range(5):
             for word in product((1, 2, 3), repeat=length):
-                tableau = lu.tableau_of_word(3, word)
+                tableau = lu.pair_of_word(3, word).tableau
                 for move, index in product((lu.raise_tableau, lu.lower_tableau), (1, 2)):
                     try:
                         moved, _ = move(3, index, tableau)
@@ -205,6 +207,7 @@ class Judged(Case):
         """Lines, cells and the checks of letters, marks and entries alone do not look at counts."""
         bad = wrong(0, 1)
         self.assertEqual(lu.write_tableau_line(4, bad), b"T,4,4,2,d,3,r,3,d,4\n")
+        self.assertEqual(lu.write_pair_line(4, bad, ENTRIES), b"P,4,4,2,d,3,r,3,d,4,3,2,4,1\n")
         self.assertEqual(lu.look(4, bad, 3), lu.Cell(4, 2, 1))
         self.assertEqual(lu.cell_at(bad, 3), lu.Cell(4, 2, 1))
         lu.check_tableau(4, bad)
@@ -232,7 +235,7 @@ class Judged(Case):
 
 class TwoTableaux(Case):
     def test_12_and_21(self) -> None:
-        row, column = lu.tableau_of_word(2, [1, 2]), lu.tableau_of_word(2, [2, 1])
+        row, column = lu.pair_of_word(2, [1, 2]).tableau, lu.pair_of_word(2, [2, 1]).tableau
         self.assertIs(lu.same_class_of_tableaux(2, row, 2, column), False)
         self.assertIs(lu.same_class_of_tableaux(2, column, 5, ([1, 2], [0, 1])), True)
         self.assertEqual(lu.compare_weights_of_tableaux(2, row, 2, column), "equal")

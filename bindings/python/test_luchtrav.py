@@ -14,20 +14,18 @@ class CheckedWords(Case):
 
     def test_4323(self) -> None:
         word = word_of("4323")
-        self.assertEqual(lu.answer(b"W,4,4,4,3,2,3\n"), b"T,4,4,2,d,3,r,3,d,4\nN,4,3,2,4,1\nW,4,4,3,2,4,3\nJ,6,3\n")
-        self.assertEqual(lu.tableau_of_word(4, word), lu.Tableau([2, 3, 3, 4], [0, 1, 0, 1]))
-        self.assertEqual(lu.recording_of_word(4, word), [3, 2, 4, 1])
+        self.assertEqual(lu.answer(b"W,4,4,4,3,2,3\n"), b"P,4,4,2,d,3,r,3,d,4,3,2,4,1\nW,4,4,3,2,4,3\nJ,6,3\n")
+        self.assertEqual(lu.pair_of_word(4, word), lu.Pair([2, 3, 3, 4], [0, 1, 0, 1], [3, 2, 4, 1]))
         self.assertEqual(lu.column_reading(4, [2, 3, 3, 4], [0, 1, 0, 1]), word_of("3243"))
         self.assertEqual(lu.junctions(4, word), (6, 3))
         self.assertEqual(lu.tableau_line_of_word(4, word), b"T,4,4,2,d,3,r,3,d,4\n")
 
     def test_12446553275(self) -> None:
         word = word_of("12446553275")
-        letters, marks = lu.tableau_of_word(7, word)
+        letters, marks, entries = lu.pair_of_word(7, word)
         self.assertEqual(letters, (1, 2, 2, 3, 4, 4, 5, 5, 5, 6, 7))
         self.assertEqual(marks, (0, 0, 0, 1, 1, 0, 0, 0, 0, 1, 0))
-        entries = lu.recording_of_word(7, word)
-        self.assertEqual(entries, [1, 2, 9, 8, 3, 4, 6, 7, 11, 5, 10])
+        self.assertEqual(entries, (1, 2, 9, 8, 3, 4, 6, 7, 11, 5, 10))
         lu.check_pair(7, letters, marks, entries)
         self.assertEqual(lu.word_of_pair(7, letters, marks, entries), word)
         pair = lu.Pair([], [], [])
@@ -36,21 +34,22 @@ class CheckedWords(Case):
         self.assertEqual(pair, lu.Pair(letters, marks, entries))
 
     def test_empty_word(self) -> None:
-        self.assertEqual(lu.answer(b"W,4,0\n"), b"T,4,0\nN,0\nW,4,0\nJ,0,0\n")
-        self.assertEqual(lu.tableau_of_word(4, []), ((), ()))
-        self.assertEqual(lu.recording_of_word(4, b""), [])
+        self.assertEqual(lu.answer(b"W,4,0\n"), b"P,4,0\nW,4,0\nJ,0,0\n")
+        for word in ([], b""):
+            self.assertEqual(lu.pair_of_word(4, word), ((), (), ()))
         self.assertEqual(lu.column_reading(4, [], []), [])
         self.assertEqual(lu.word_of_pair(4, [], [], []), [])
         self.assertEqual(lu.junctions(4, []), (0, 0))
-        self.assertEqual(lu.write_recording_line([]), b"N,0\n")
+        self.assertEqual(lu.write_pair_line(4, [], [], []), b"P,4,0\n")
 
     def test_433(self) -> None:
         self.assertEqual(lu.tableau_line_of_word(4, word_of("433")), b"T,4,3,3,r,3,d,4\n")
-        self.assertEqual(lu.recording_of_word(4, word_of("433")), [2, 3, 1])
-        self.assertEqual(lu.column_reading(4, lu.tableau_of_word(4, word_of("433"))), word_of("343"))
+        pair = lu.pair_of_word(4, word_of("433"))
+        self.assertEqual(pair.entries, (2, 3, 1))
+        self.assertEqual(lu.column_reading(4, pair.tableau), word_of("343"))
 
     def test_243245565(self) -> None:
-        self.assertEqual(lu.recording_of_word(6, word_of("243245565")), [1, 4, 3, 2, 5, 6, 7, 9, 8])
+        self.assertEqual(lu.pair_of_word(6, word_of("243245565")).entries, (1, 4, 3, 2, 5, 6, 7, 9, 8))
 
     def test_moves(self) -> None:
         self.assertEqual(lu.lower_word(3, 1, word_of("3113")), lu.MovedWord(word_of("3123"), 2))
@@ -72,8 +71,8 @@ class CheckedWords(Case):
             lu.check_word(rank, [1])
         for rank in (0, 65):
             self.refuses(1, 0, lu.check_word, rank, [1])
-        self.assertEqual(lu.recording_of_word(1, [1] * 1024), list(range(1, 1025)))
-        self.refuses(2, 0, lu.recording_of_word, 1, [1] * 1025)
+        self.assertEqual(lu.pair_of_word(1, [1] * 1024).entries, tuple(range(1, 1025)))
+        self.refuses(2, 0, lu.pair_of_word, 1, [1] * 1025)
         self.refuses(9, 0, lu.raise_word, 1, 1, [1])
 
     def test_lines(self) -> None:
@@ -95,7 +94,8 @@ class ChangedPlaces(Case):
             (2, True, 1, "122", 1, 1), (2, True, 1, "22", 0, 0), (2, False, 1, "11", 1, 1), (4, False, 2, "2114", 0, 2),
         ):
             word = word_of(digits)
-            tableau, entries = lu.tableau_of_word(rank, word), lu.recording_of_word(rank, word)
+            pair = lu.pair_of_word(rank, word)
+            tableau, entries = pair.tableau, pair.entries
             move_word, move_tableau = (lu.raise_word, lu.raise_tableau) if raising else (lu.lower_word, lu.lower_tableau)
             new = index if raising else index + 1
             moved = [new if at == place else letter for at, letter in enumerate(word)]
@@ -127,7 +127,8 @@ class ChangedPlaces(Case):
 
     def moves_alike(self, index: int, word: List[int]) -> int:
         """Both moves at an index, on a word over 1 to 3 and on its tableau: how many were made."""
-        tableau, entries = lu.tableau_of_word(3, word), lu.recording_of_word(3, word)
+        pair = lu.pair_of_word(3, word)
+        tableau, entries = pair.tableau, pair.entries
         made = 0
         for raising, move_word, move_tableau in ((True, lu.raise_word, lu.raise_tableau), (False, lu.lower_word, lu.lower_tableau)):
             try:
@@ -154,7 +155,7 @@ class Operations(Case):
     """What the checked words do not call."""
 
     def test_tableau_moves(self) -> None:
-        letters, marks = lu.tableau_of_word(3, word_of("3113"))
+        letters, marks = lu.pair_of_word(3, word_of("3113")).tableau
         self.assertEqual(lu.lower_tableau(3, 1, letters, marks), lu.MovedTableau(lu.Tableau([1, 2, 3, 3], marks), 1))
         self.assertEqual(lu.raise_tableau(3, 2, letters, marks), lu.MovedTableau(lu.Tableau([1, 1, 2, 3], marks), 2))
         self.assertEqual(lu.lower_count_tableau(3, 1, letters, marks), 2)
@@ -182,35 +183,37 @@ class Operations(Case):
             (2, "21", "21", "1122", "0010"), (4, "4323", "21", "122334", "010101"), (4, "", "433", "334", "001"), (4, "433", "", "334", "001"),
             (4, "", "", "", ""), (7, "12446553275", "4323", "122233344455567", "000010010010010"),
         ):
-            product = lu.product(rank, lu.tableau_of_word(rank, word_of(first)), lu.tableau_of_word(rank, word_of(second)))
+            product = lu.product(rank, lu.pair_of_word(rank, word_of(first)).tableau, lu.pair_of_word(rank, word_of(second)).tableau)
             self.assertEqual(product, lu.Tableau(word_of(letters), word_of(marks)))
             self.assertIs(type(product), lu.Tableau)
 
     def test_laws_of_products(self) -> None:
         """Words one after the other, three factors either way, and the empty tableau, on all words of up to two letters over 1 to 3."""
         words = [word_of(digits) for digits in ("", "1", "2", "3", "11", "12", "13", "21", "22", "23", "31", "32", "33")]
-        tableaux = {tuple(word): lu.tableau_of_word(3, word) for word in words}
+        tableaux = {tuple(word): lu.pair_of_word(3, word).tableau for word in words}
         empty = lu.Tableau([], [])
         for u, first in tableaux.items():
             self.assertEqual(lu.product(3, empty, first), first)
             self.assertEqual(lu.product(3, first, empty), first)
             for v, second in tableaux.items():
-                self.assertEqual(lu.product(3, first, second), lu.tableau_of_word(3, u + v))
+                self.assertEqual(lu.product(3, first, second), lu.pair_of_word(3, u + v).tableau)
                 for third in tableaux.values():
                     self.assertEqual(lu.product(3, lu.product(3, first, second), third), lu.product(3, first, lu.product(3, second, third)))
 
     def test_longest_product(self) -> None:
         word = [64 - place % 64 for place in range(1024)]
         for cut in (0, 1, 512, 1024):
-            self.assertEqual(lu.product(64, lu.tableau_of_word(64, word[:cut]), lu.tableau_of_word(64, word[cut:])), lu.tableau_of_word(64, word))
-        self.refuses(2, 0, lu.product, 64, lu.tableau_of_word(64, word), lu.Tableau([1], [0]))
+            first, second = (lu.pair_of_word(64, part).tableau for part in (word[:cut], word[cut:]))
+            self.assertEqual(lu.product(64, first, second), lu.pair_of_word(64, word).tableau)
+        self.refuses(2, 0, lu.product, 64, lu.pair_of_word(64, word).tableau, lu.Tableau([1], [0]))
 
     def test_lines_there_and_back(self) -> None:
         word = word_of("12446553275")
-        tableau, entries = lu.tableau_of_word(7, word), lu.recording_of_word(7, word)
+        pair = lu.pair_of_word(7, word)
+        tableau = pair.tableau
         self.assertEqual(lu.read_word_line(lu.write_word_line(7, word)), (7, word))
         self.assertEqual(lu.read_tableau_line(lu.write_tableau_line(7, tableau)), (7, tableau))
-        self.assertEqual(lu.read_recording_line(lu.write_recording_line(entries)), entries)
+        self.assertEqual(lu.read_pair_line(lu.write_pair_line(7, pair)), (7, pair))
         self.assertEqual(lu.write_tableau_line(7, tableau), lu.tableau_line_of_word(7, word))
         self.assertEqual(lu.write_junction_line(4, word_of("4323")), b"J,6,3\n")
         self.assertEqual(lu.write_refusal_line(14, 7), b"E,14,7\n")
@@ -218,16 +221,14 @@ class Operations(Case):
 
     def test_longest(self) -> None:
         word = [64 - place % 64 for place in range(1024)]
-        letters, marks = lu.tableau_of_word(64, word)
-        self.assertEqual((list(letters), sum(marks)), (sorted(word), 63))
-        entries = lu.recording_of_word(64, word)
-        self.assertEqual(lu.word_of_pair(64, letters, marks, entries), word)
+        pair = lu.pair_of_word(64, word)
+        self.assertEqual((list(pair.letters), sum(pair.marks)), (sorted(word), 63))
+        self.assertEqual(lu.word_of_pair(64, pair), word)
         for line, length in ((lu.write_tableau_line(64, [10] * 1024, [0] * 1024), 5128), (lu.write_word_line(64, [64] * 1024), 3082),
-                             (lu.write_recording_line(entries), 4020)):
+                             (lu.write_pair_line(64, [10] * 1024, [0] * 1024, range(1, 1025)), 9141)):
             self.assertEqual(len(line), length)
         self.assertEqual(lu.answer(lu.write_word_line(64, word)), b"".join((
-            lu.tableau_line_of_word(64, word), lu.write_recording_line(entries), lu.write_word_line(64, lu.column_reading(64, letters, marks)),
-            lu.write_junction_line(64, word),
+            lu.write_pair_line(64, pair), lu.write_word_line(64, lu.column_reading(64, pair.tableau)), lu.write_junction_line(64, word),
         )))
         self.assertEqual(lu.junctions(64, word), (2**63 - 1, 64))
 

@@ -12,7 +12,7 @@ import unittest
 
 from support import HERE, PACKAGES, Case, lu, run_python
 
-from luchtrav import classes, places, tableaux, two_tableaux, words
+from luchtrav import classes, lines, places, tableaux, two_tableaux, words
 from luchtrav.library import FUNCTIONS
 
 
@@ -36,7 +36,7 @@ class Package(Case):
 
     def test_examples(self) -> None:
         """Those that docstrings have."""
-        for module, count in ((words, 3), (tableaux, 3), (two_tableaux, 3), (classes, 3)):
+        for module, count in ((words, 5), (lines, 2), (tableaux, 3), (two_tableaux, 3), (classes, 3)):
             failed, tried = doctest.testmod(module, extraglobs={"luchtrav": lu})
             self.assertEqual((failed, tried), (0, count))
 
@@ -55,7 +55,7 @@ class Package(Case):
 
     def test_named_library(self) -> None:
         came = run_python("import luchtrav; print(luchtrav.answer(b'W,4,0\\n'))", LUCHTRAV_LIBRARY=places.LIBRARY)
-        self.assertEqual((came.returncode, came.stdout), (0, "b'T,4,0\\nN,0\\nW,4,0\\nJ,0,0\\n'\n"))
+        self.assertEqual((came.returncode, came.stdout), (0, "b'P,4,0\\nW,4,0\\nJ,0,0\\n'\n"))
 
     def test_no_such_library(self) -> None:
         for path, says in (("/nowhere/libluchtrav.so", "no library at /nowhere/libluchtrav.so"),

@@ -19,17 +19,17 @@ class Numbers(Case):
         self.refuses(1, 0, lu.junctions, 65, [])
         self.refuses(2, 0, lu.check_tableau, 4, [1] * 1025, [])
         self.refuses(3, 0, lu.column_reading, 4, [1, 2], [0])
-        self.refuses(4, 2, lu.tableau_of_word, 4, [4, 1, 5])
+        self.refuses(4, 2, lu.pair_of_word, 4, [4, 1, 5])
         self.refuses(4, 5, lu.same_class, 4, [1, 1, 1], 2, [1, 2, 3])
         self.refuses(5, 2, lu.write_tableau_line, 4, [1, 3, 2], [0, 0, 0])
         self.refuses(6, 1, lu.check_tableau, 4, [2, 2], [0, 1])
-        self.refuses(7, 1, lu.write_recording_line, [1, 1])
+        self.refuses(7, 1, lu.write_pair_line, 4, [1, 2], [0, 0], [1, 1])
         self.refuses(8, 1, lu.word_of_pair, 4, [1, 2], [0, 1], [1, 2])
         self.refuses(9, 0, lu.lower_count_word, 4, 4, [1])
         self.refuses(10, 0, lu.lower_word, 4, 1, [2, 1])
         self.refuses(11, 0, lu.raise_word, 4, 1, [1, 3])
         self.refuses(12, 1024, lu.insert_letter, 4, 1, [1] * 1024, [0] * 1024, list(range(1, 1025)))
-        self.refuses(14, 0, lu.read_recording_line, b"")
+        self.refuses(14, 0, lu.read_pair_line, b"")
         self.refuses(14, 3, lu.read_tableau_line, b"T,04")
         self.refuses(15, 0, lu.class_number, 4, [1] * 21)
         self.refuses(16, 0, lu.class_word, 4, [2, 3, 3, 4], [0, 1, 0, 1], 5)
@@ -85,7 +85,8 @@ class Exceptions(Case):
             (256, lu.look, (4, [2, 2], [0, 256], 0)),
             (2**16 + 1, lu.check_pair, (4, *shape, [1, 2**16 + 1])),
             (1, lu.word_of_pair, (4, lu.Pair(*shape, [2, 1]))),
-            (3, lu.write_recording_line, ([1, 3],)),
+            (3, lu.write_pair_line, (4, *shape, [1, 3])),
+            (9, lu.pair_of_word, (4, [1, 9])),
             (9, lu.class_number, (4, [1, 9])),
             (2, lu.class_word, (4, [1, 2], [0, 2], 7)),
             (None, lu.class_size, (4, [1] * 21, [0] * 21)),
@@ -97,6 +98,8 @@ class Exceptions(Case):
             (None, lu.raise_word, (4, 4, [1])),
             (None, lu.insert_letter, (4, 1, [1], [0], [])),
             (None, lu.read_word_line, (b"W,4,1,5\n",)),
+            (None, lu.read_pair_line, (b"P,4,1,5,1\n",)),
+            (None, lu.convert_lines, (b"T,4,1,5\n", b"N,1,1\n")),
         ]
         for value, function, arguments in calls:
             self.assertEqual(self.refusal(function, *arguments).value, value, (function, arguments))

@@ -3,11 +3,11 @@
 Every function of the header stands here under its name without the prefix.
 
 Words, letters, marks and entries are sequences of integers (lists, tuples, bytes) or buffers of them (array.array, memoryview, numpy arrays); sets,
-dicts, iterators and strings are a TypeError. Words, readings and recording ribbons come back as lists, a Tableau and a Pair as tuples, which hash;
-one Tableau stands for letters and marks wherever these are taken, one Pair for letters, marks and entries. With both go letter counts, that of the letter
-a at place a - 1 of 64, which nobody need write: a Tableau or a Pair that comes back has them, and those that are made from letters count these. A move
-gives two things, what it made and the place that it changed: `word, place = luchtrav.raise_word(..)`. What the caller hands over is never changed. Lines
-are bytes, in and out.
+dicts, iterators and strings are a TypeError. Words and readings come back as lists, a Tableau and a Pair as tuples, which hash; one Tableau stands for
+letters and marks wherever these are taken, one Pair for letters, marks and entries. pair_of_word gives a word's Pair: its `tableau`, and the `entries` of
+its recording ribbon. With both go letter counts, that of the letter a at place a - 1 of 64, which nobody need write: a Tableau or a Pair that comes back
+has them, and those that are made from letters count these. A move gives two things, what it made and the place that it changed:
+`word, place = luchtrav.raise_word(..)`. What the caller hands over is never changed. Lines are bytes, in and out.
 
 A refusal of the kernel is the exception Refusal, a ValueError, with a number and a place. Places count from 0; the checks run in rising number,
 except that 14 comes first, and 17, 15 and 16 directly after 6. MEANINGS has the numbers too:
@@ -30,10 +30,10 @@ except that 14 comes first, and 17, 15 and 16 directly after 6. MEANINGS has the
     16  number not below the size of the class
     17  count that is not how often its letter occurs
 
-4 to 8 have the first such place, 17 the letter minus 1, 12 the place 1024, 14 that of the byte or the line's length, all others 0. Of two words or
-tableaux the first is searched first, and places in the second count on from the first's length, those of counts from 64; 2 judges each by itself, but the
-cells of a product's factors together. A letter to be inserted has the number of cells as its place. Memory for outputs is lent by the binding, so that 13
-does not arise. 17 arises only from counts that were stored and given to a Tableau, a Pair or a counted check.
+4 to 8 have the first such place, 17 the letter minus 1, 12 the place 1024, 14 that of the byte or the line's length, all others 0. Of two words,
+tableaux or texts the first is searched first, and places in the second count on from the first's length, those of counts from 64; 2 judges each by
+itself, but the cells of a product's factors together. A letter to be inserted has the number of cells as its place. Memory for outputs is lent by the
+binding, so that 13 does not arise. 17 arises only from counts that were stored and given to a Tableau, a Pair or a counted check.
 
 A letter that fits no byte is handed on as 0, a mark as 255, an entry that does not fit 16 bits as 0, a count as 65,535, a rank, index or inserted letter
 that fits no size_t as 0: so the kernel refuses them (4, 6, 7, 17, 1, 9, 4) at their place. A place that fits no size_t is one without a cell, and the
@@ -41,7 +41,7 @@ number of a word that does not fit 64 bits is refused with 16. What is no intege
 """
 from .classes import class_number, class_size, class_word
 from .lines import (
-    answer, read_recording_line, read_tableau_line, read_word_line, tableau_line_of_word, write_junction_line, write_recording_line,
+    answer, convert_lines, read_pair_line, read_tableau_line, read_word_line, tableau_line_of_word, write_junction_line, write_pair_line,
     write_refusal_line, write_tableau_line, write_word_line,
 )
 from .pairs import check_counted_pair, check_pair, insert_letter, word_of_pair
@@ -53,8 +53,7 @@ from .tableaux import (
 from .two_tableaux import compare_weights_of_tableaux, product, same_class_of_tableaux
 from .values import Cell, Junctions, MovedTableau, MovedWord, Pair, Tableau
 from .words import (
-    check_word, compare_weights, junctions, lower_count_word, lower_word, raise_count_word, raise_word, recording_of_word, same_class,
-    tableau_of_word,
+    check_word, compare_weights, junctions, lower_count_word, lower_word, pair_of_word, raise_count_word, raise_word, same_class,
 )
 
 __version__ = _version_in(_HEADER)
@@ -62,8 +61,8 @@ __version__ = _version_in(_HEADER)
 __all__ = [
     "Cell", "Junctions", "MEANINGS", "MovedTableau", "MovedWord", "Pair", "Refusal", "Tableau", "answer", "cell_at", "check_counted_pair",
     "check_counted_tableau", "check_pair", "check_tableau", "check_word", "class_number", "class_size", "class_word", "column_reading",
-    "compare_weights", "compare_weights_of_tableaux", "insert_letter", "junctions", "look", "lower_count_tableau", "lower_count_word", "lower_tableau",
-    "lower_word", "product", "raise_count_tableau", "raise_count_word", "raise_tableau", "raise_word", "read_recording_line", "read_tableau_line",
-    "read_word_line", "recording_of_word", "same_class", "same_class_of_tableaux", "tableau_line_of_word", "tableau_of_word", "word_of_pair",
-    "write_junction_line", "write_recording_line", "write_refusal_line", "write_tableau_line", "write_word_line",
+    "compare_weights", "compare_weights_of_tableaux", "convert_lines", "insert_letter", "junctions", "look", "lower_count_tableau", "lower_count_word",
+    "lower_tableau", "lower_word", "pair_of_word", "product", "raise_count_tableau", "raise_count_word", "raise_tableau", "raise_word", "read_pair_line",
+    "read_tableau_line", "read_word_line", "same_class", "same_class_of_tableaux", "tableau_line_of_word", "word_of_pair", "write_junction_line",
+    "write_pair_line", "write_refusal_line", "write_tableau_line", "write_word_line",
 ]

@@ -18,7 +18,7 @@ def class_size(rank: int, letters: Integers, marks: Integers) -> int: ...
 def class_size(rank: int, letters: Letters, marks: Optional[Integers] = None) -> int:
     """How many words have the tableau, given as letters and marks or as a Tableau. The empty tableau has one word, the empty one. Refuses 1 to 6, 17, 15.
 
-    >>> luchtrav.class_size(4, luchtrav.tableau_of_word(4, [4, 2, 1, 3, 2, 3]))
+    >>> luchtrav.class_size(4, luchtrav.pair_of_word(4, [4, 2, 1, 3, 2, 3]).tableau)
     61
     """
     parts = parts_of(letters, marks)

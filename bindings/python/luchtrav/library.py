@@ -11,7 +11,7 @@ from .refusal import Refusal
 from .replies import Cell, Class, Count, Done, Junction, Line, Move, Order, Value
 
 LETTERS = 1024
-LINE_BYTES = 8192
+LINE_BYTES = 16384
 ANSWER_BYTES = 16384
 
 # A number, one of 64 bits whatever the machine, a buffer: its address and the number of its elements, and letter counts: their address.
@@ -22,8 +22,7 @@ C: List[Any] = [c_void_p]
 
 FUNCTIONS: Dict[str, Tuple[Any, List[Any]]] = {
     "check_word": (Done, N + B),
-    "tableau_of_word": (Count, N + B + B + B + C),
-    "recording_of_word": (Count, N + B + B),
+    "pair_of_word": (Count, N + B + B + B + B + C),
     "junctions": (Junction, N + B),
     "raise_word": (Move, N + N + B),
     "lower_word": (Move, N + N + B),
@@ -53,12 +52,13 @@ FUNCTIONS: Dict[str, Tuple[Any, List[Any]]] = {
     "tableau_line_of_word": (Count, N + B + B),
     "write_word_line": (Count, N + B + B),
     "write_tableau_line": (Count, N + B + B + B),
-    "write_recording_line": (Count, B + B),
+    "write_pair_line": (Count, N + B + B + B + B),
     "write_junction_line": (Count, N + B + B),
     "write_refusal_line": (Count, N + N + B),
     "read_word_line": (Line, B + B),
     "read_tableau_line": (Line, B + B + B + C),
-    "read_recording_line": (Count, B + B),
+    "read_pair_line": (Line, B + B + B + B + C),
+    "convert_lines": (Count, B + B + B),
     "answer": (Count, B + B),
 }
 

@@ -1,15 +1,16 @@
-"""Lines read and written, as bytes: W lines of words, T lines of tableaux, N lines of recording ribbons; J and E lines are only written."""
+"""Lines read and written, as bytes: W lines of words, T lines of tableaux, P lines of pairs; J and E lines are only written, and an N line is read only
+beside its T line, by the converter of former lines."""
 from __future__ import annotations
 
 from array import array
 from typing import List, Optional, Tuple, Union, overload
 
-from . import replies
+from . import pairs, replies
 from .buffers import Integers
 from .lending import Text, as_entries, as_letters, as_marks, as_number, as_text, as_told, counts_room, room
 from .library import ANSWER_BYTES, LETTERS, LINE_BYTES, Given, ask
 from .tableaux import Letters, parts_of
-from .values import Tableau, tableau_in
+from .values import Pair, Tableau, pair_in, tableau_in
 
 
 def written(
@@ -41,9 +42,23 @@ def write_tableau_line(rank: int, letters: Letters, marks: Optional[Integers] = 
     return written("write_tableau_line", as_number(rank), as_letters(letters), as_marks(marks), letters=(letters,), marks=(marks,))
 
 
-def write_recording_line(entries: Integers) -> bytes:
-    """The N line of a recording ribbon alone. Refuses 2 7."""
-    return written("write_recording_line", as_entries(entries), entries=(entries,))
+@overload
+def write_pair_line(rank: int, pair: Pair, /) -> bytes: ...
+@overload
+def write_pair_line(rank: int, tableau: Tableau, entries: Integers, /) -> bytes: ...
+@overload
+def write_pair_line(rank: int, tableau: Tableau, /, *, entries: Integers) -> bytes: ...
+@overload
+def write_pair_line(rank: int, letters: Integers, marks: Integers, entries: Integers) -> bytes: ...
+def write_pair_line(rank: int, letters: pairs.Letters, marks: Optional[Integers] = None, entries: Optional[Integers] = None) -> bytes:
+    """The P line of letters, marks and entries, of a Tableau and entries, or of a Pair; counts are not looked at. Refuses 1 to 8.
+
+    >>> luchtrav.write_pair_line(4, luchtrav.pair_of_word(4, [4, 3, 2, 3]))
+    b'P,4,4,2,d,3,r,3,d,4,3,2,4,1\\n'
+    """
+    letters, marks, entries, _ = pairs.parts_of(letters, marks, entries)
+    parts = as_letters(letters), as_marks(marks), as_entries(entries)
+    return written("write_pair_line", as_number(rank), *parts, letters=(letters,), marks=(marks,), entries=(entries,))
 
 
 def write_junction_line(rank: int, word: Integers) -> bytes:
@@ -70,13 +85,25 @@ def read_tableau_line(text: Text) -> Tuple[int, Tableau]:
     return said.rank, tableau_in(letters[: said.count], marks[: said.count], counts)
 
 
-def read_recording_line(text: Text) -> List[int]:
-    """The entries of a whole N line, line feed included, judged alone. Refuses 14 2 7."""
-    entries = room("H", LETTERS)
-    said: replies.Count = ask("read_recording_line", as_text(text), entries)
-    return entries[: said.count].tolist()
+def read_pair_line(text: Text) -> Tuple[int, Pair]:
+    """Rank and pair of a whole P line, line feed included. Refuses 14 1 2 4 5 6 7 8."""
+    letters, marks, entries, counts = room("B", LETTERS), room("B", LETTERS), room("H", LETTERS), counts_room()
+    said: replies.Line = ask("read_pair_line", as_text(text), letters, marks, entries, counts)
+    return said.rank, pair_in(letters[: said.count], marks[: said.count], entries[: said.count], counts)
+
+
+def convert_lines(tableau_text: Text, recording_text: Text) -> bytes:
+    """The P line of what versions before 0.8 stored in two lines: a whole T line and the whole N line of the same pair, line feeds included. Refuses 14 of
+    the T line, 14 of the N line, whose places count on from the T line's length, then 1, 2 of the cells or of the entries, 3 where these are not equally
+    many, 4 to 8.
+
+    >>> luchtrav.convert_lines(b"T,4,4,2,d,3,r,3,d,4\\n", b"N,4,3,2,4,1\\n")
+    b'P,4,4,2,d,3,r,3,d,4,3,2,4,1\\n'
+    """
+    return written("convert_lines", as_text(tableau_text), as_text(recording_text))
 
 
 def answer(text: Text) -> bytes:
-    """What the program `ribbon` prints for its whole input: the T, N, W and J lines of the word in a W line, or one E line. Refuses nothing."""
+    """What the program `ribbon` prints for its whole input: the P line of the word in a W line, the W line of its column reading and its J line, or one
+    E line. Refuses nothing."""
     return written("answer", as_text(text), size=ANSWER_BYTES)

@@ -95,7 +95,7 @@ def raise_tableau(rank: int, index: int, letters: Letters, marks: Optional[Integ
     change, nor do the caller's letters. In a word with this tableau raise_word changes the letter whose place, plus 1, is the recording entry
     of that cell. Refuses 1 to 6, 17, 9, 10 where index + 1 stands directly below index, 11 where there is no index + 1.
 
-    >>> luchtrav.raise_tableau(3, 2, luchtrav.tableau_of_word(3, [1, 3, 1]))
+    >>> luchtrav.raise_tableau(3, 2, luchtrav.pair_of_word(3, [1, 3, 1]).tableau)
     MovedTableau(tableau=Tableau(letters=(1, 1, 2), marks=(0, 0, 1)), place=2)
     """
     return moved("raise_tableau", rank, index, letters, marks)
@@ -110,7 +110,7 @@ def lower_tableau(rank: int, index: int, letters: Letters, marks: Optional[Integ
     change, nor do the caller's letters. In a word with this tableau lower_word changes the letter whose place, plus 1, is the recording entry
     of that cell. Refuses 1 to 6, 17, 9, 10 where index + 1 stands directly below index, 11 where there is no index.
 
-    >>> luchtrav.lower_tableau(3, 1, luchtrav.tableau_of_word(3, [3, 1, 1, 3]))
+    >>> luchtrav.lower_tableau(3, 1, luchtrav.pair_of_word(3, [3, 1, 1, 3]).tableau)
     MovedTableau(tableau=Tableau(letters=(1, 2, 3, 3), marks=(0, 0, 1, 0)), place=1)
     """
     return moved("lower_tableau", rank, index, letters, marks)

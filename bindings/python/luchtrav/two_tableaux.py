@@ -48,7 +48,7 @@ def product(rank: int, first: object, second: object, *more: object) -> Tableau:
     stand for two. Refuses 1 to 6, 17, over both tableaux; 2 where they have more than 1,024 cells together. Places in the second count on from the first's
     length, those of counts from 64.
 
-    >>> luchtrav.product(3, luchtrav.tableau_of_word(3, [3, 1]), luchtrav.tableau_of_word(3, [2]))
+    >>> luchtrav.product(3, luchtrav.pair_of_word(3, [3, 1]).tableau, luchtrav.pair_of_word(3, [2]).tableau)
     Tableau(letters=(1, 2, 3), marks=(0, 0, 1))
     """
     one, other = factors_in(first, second, *more)
@@ -64,7 +64,7 @@ def same_class_of_tableaux(first_rank: int, first: Factor, second_rank: int, sec
     marks and counts. Each is a Tableau or another pair of letters and marks. Refuses 1 to 6, 17, over both; places in the second count on from the
     first's length, those of counts from 64.
 
-    >>> luchtrav.same_class_of_tableaux(2, luchtrav.tableau_of_word(2, [1, 2]), 2, luchtrav.tableau_of_word(2, [2, 1]))
+    >>> luchtrav.same_class_of_tableaux(2, luchtrav.pair_of_word(2, [1, 2]).tableau, 2, luchtrav.pair_of_word(2, [2, 1]).tableau)
     False
     """
     one, other = parts_in(first), parts_in(second)
@@ -77,7 +77,7 @@ def compare_weights_of_tableaux(first_rank: int, first: Factor, second_rank: int
     """The first tableau's weight against the second's, 'equal', 'lower', 'higher' or 'neither': what compare_weights says of their column readings,
     found from counts. Tableaux and refusals as for same_class_of_tableaux.
 
-    >>> luchtrav.compare_weights_of_tableaux(2, luchtrav.tableau_of_word(2, [1, 2]), 2, luchtrav.tableau_of_word(2, [2, 1]))
+    >>> luchtrav.compare_weights_of_tableaux(2, luchtrav.pair_of_word(2, [1, 2]).tableau, 2, luchtrav.pair_of_word(2, [2, 1]).tableau)
     'equal'
     """
     one, other = parts_in(first), parts_in(second)

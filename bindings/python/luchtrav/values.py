@@ -76,7 +76,7 @@ class PairFields(NamedTuple):
 
 
 class Pair(PairFields):
-    """A tableau with its recording ribbon's entries beside it, made and held likewise; check_counted_pair checks it."""
+    """A tableau with its recording ribbon's entries beside it, made and held likewise; `tableau` is the tableau alone. check_counted_pair checks it."""
 
     _counts: Optional[Tuple[int, ...]]
 

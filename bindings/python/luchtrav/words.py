@@ -1,13 +1,13 @@
 """Operations on words. A word is a sequence or a buffer of integers 1 to rank, bytes among them."""
 from __future__ import annotations
 
-from typing import List, Literal, Tuple
+from typing import Literal, Tuple
 
 from . import replies
 from .buffers import Integers
 from .lending import as_letters, as_number, counts_room, room
 from .library import ask
-from .values import Junctions, MovedWord, Tableau, tableau_in
+from .values import Junctions, MovedWord, Pair, pair_in
 
 Order = Literal["equal", "lower", "higher", "neither"]
 ORDERS: Tuple[Order, ...] = ("equal", "lower", "higher", "neither")
@@ -18,20 +18,20 @@ def check_word(rank: int, word: Integers) -> None:
     ask("check_word", as_number(rank), as_letters(word), letters=(word,))
 
 
-def tableau_of_word(rank: int, word: Integers) -> Tableau:
-    """The quasi-ribbon tableau of a word by Krob-Thibon insertion. Refuses 1 2 4."""
-    taken = as_letters(word)
-    letters, marks, counts = room("B", len(taken)), room("B", len(taken)), counts_room()
-    ask("tableau_of_word", as_number(rank), taken, letters, marks, counts, letters=(word,))
-    return tableau_in(letters, marks, counts)
+def pair_of_word(rank: int, word: Integers) -> Pair:
+    """The pair of a word: its quasi-ribbon tableau by Krob-Thibon insertion, which is the pair's `tableau`, and its recording ribbon, the pair's
+    `entries`. word_of_pair is the way back. Refuses 1 2 4.
 
-
-def recording_of_word(rank: int, word: Integers) -> List[int]:
-    """The entries of a word's recording ribbon. Refuses 1 2 4."""
+    >>> luchtrav.pair_of_word(4, [4, 3, 2, 3])
+    Pair(letters=(2, 3, 3, 4), marks=(0, 1, 0, 1), entries=(3, 2, 4, 1))
+    >>> luchtrav.pair_of_word(4, [4, 3, 2, 3]).tableau
+    Tableau(letters=(2, 3, 3, 4), marks=(0, 1, 0, 1))
+    """
     taken = as_letters(word)
-    entries = room("H", len(taken))
-    ask("recording_of_word", as_number(rank), taken, entries, letters=(word,))
-    return entries.tolist()
+    cells = len(taken)
+    letters, marks, entries, counts = room("B", cells), room("B", cells), room("H", cells), counts_room()
+    ask("pair_of_word", as_number(rank), taken, letters, marks, entries, counts, letters=(word,))
+    return pair_in(letters, marks, entries, counts)
 
 
 def junctions(rank: int, word: Integers) -> Junctions:

@@ -1,23 +1,26 @@
-// The C interface to lines: written, read, and the program's answer. Each function is one of the kernel's, its answer as a struct of numbers.
+// The C interface to lines: written, read, former ones turned into a P line, and the program's answer. Each function is one of the kernel's, its answer as a struct of numbers.
+use conversions::former::convert_lines;
 use lines::tableau::tableau_line_of_word;
 use outputs::answer::answer;
-use readers::recording::read_recording_line;
+use readers::pair::read_pair_line;
 use readers::tableau::read_tableau_line;
 use readers::word::read_word_line;
 use structs::counts::count_written;
-use structs::readings::count_recording;
+use structs::readings::pair_line_reply;
 use structs::readings::tableau_line_reply;
 use structs::readings::word_line_reply;
 use structs::replies::CountReply;
 use structs::replies::LineReply;
 use writers::line::write_junction_line;
-use writers::line::write_recording_line;
+use writers::line::write_pair_line;
 use writers::line::write_returned_line;
 use writers::line::write_tableau_line;
 use writers::line::write_word_line;
 ghost use mathlib.Core.Path.{_≡_};
-ghost use Rattle.hypoplactic.specs.LineOperations.{eLineRun, jLineRun, nLineRun, tLineRun, tableauLineRun, wLineRun};
-ghost use Rattle.hypoplactic.specs.LineReadings.{answerRun, readNRun, readTRun, readWRun};
+ghost use Rattle.former_lines.specs.Conversion.{convertRun};
+ghost use Rattle.hypoplactic.specs.Insertion.{pairWith};
+ghost use Rattle.hypoplactic.specs.LineOperations.{eLineRun, jLineRun, pLineRun, tLineRun, tableauLineRun, wLineRun};
+ghost use Rattle.hypoplactic.specs.LineReadings.{answerRun, readPRun, readTRun, readWRun};
 ghost use Rattle.structs.specs.Replies.{countOf, lineOf, replied};
 
 // The tableau line of a word.
@@ -53,12 +56,21 @@ pub extern "C" fn luchtrav_write_tableau_line(
     count_written(write_tableau_line(rank, letters, marks, out))
 }
 
-// The N line of a recording ribbon.
+// The P line of a pair.
 #[no_mangle]
-pub extern "C" fn luchtrav_write_recording_line(entries: &[u16], out: &mut [u8]) -> CountReply
-    ensures { λ r. ⌜ (r, now (out .exit)) ≡ replied countOf (nLineRun (now (entries .entry)) (now (out .entry))) ⌝ }
+pub extern "C" fn luchtrav_write_pair_line(
+    rank: usize,
+    letters: &[u8],
+    marks: &[u8],
+    entries: &[u16],
+    out: &mut [u8],
+) -> CountReply
+    ensures { λ r. ⌜
+        (r, now (out .exit))
+        ≡ replied countOf (pLineRun rank (now (letters .entry)) (now (marks .entry)) (now (entries .entry)) (now (out .entry)))
+        ⌝ }
 {
-    count_written(write_recording_line(entries, out))
+    count_written(write_pair_line(rank, letters, marks, entries, out))
 }
 
 // The J line of a word.
@@ -109,12 +121,39 @@ pub extern "C" fn luchtrav_read_tableau_line(
     tableau_line_reply(read_tableau_line(text, letters, marks, counts))
 }
 
-// An N line, into lent entries.
+// A P line, into lent letters, marks, entries and counts.
 #[no_mangle]
-pub extern "C" fn luchtrav_read_recording_line(text: &[u8], entries: &mut [u16]) -> CountReply
-    ensures { λ r. ⌜ (r, now (entries .exit)) ≡ replied countOf (readNRun (now (text .entry)) (now (entries .entry))) ⌝ }
+pub extern "C" fn luchtrav_read_pair_line(
+    text: &[u8],
+    letters: &mut [u8],
+    marks: &mut [u8],
+    entries: &mut [u16],
+    counts: &mut [u16; 64],
+) -> LineReply
+    ensures { λ r. ⌜
+        (r, (pairWith (now (letters .exit)) (now (marks .exit)) (now (entries .exit)), now (counts .exit)))
+        ≡ replied lineOf
+        (readPRun
+        (now (text .entry))
+        (pairWith (now (letters .entry)) (now (marks .entry)) (now (entries .entry)))
+        (now (counts .entry)))
+        ⌝ }
 {
-    count_recording(read_recording_line(text, entries))
+    pair_line_reply(read_pair_line(text, letters, marks, entries, counts))
+}
+
+// The P line of a former T line and N line.
+#[no_mangle]
+pub extern "C" fn luchtrav_convert_lines(
+    tableau_text: &[u8],
+    recording_text: &[u8],
+    out: &mut [u8],
+) -> CountReply
+    ensures { λ r. ⌜
+        (r, now (out .exit)) ≡ replied countOf (convertRun (now («tableau_text» .entry)) (now («recording_text» .entry)) (now (out .entry)))
+        ⌝ }
+{
+    count_written(convert_lines(tableau_text, recording_text, out))
 }
 
 // What the program prints for a text.

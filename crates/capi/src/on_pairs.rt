@@ -10,6 +10,7 @@ use structs::replies::DoneReply;
 use validity::counted::check_counted_pair;
 use validity::tableau::check_pair;
 ghost use mathlib.Core.Path.{_≡_};
+ghost use Rattle.hypoplactic.specs.Insertion.{pairWith};
 ghost use Rattle.hypoplactic.specs.Judgements.{countedPairJudgements, pairJudgements};
 ghost use Rattle.hypoplactic.specs.Replies.{first, passed};
 ghost use Rattle.hypoplactic.specs.TableauOperations.{insertRun, wordRun};
@@ -58,13 +59,13 @@ pub extern "C" fn luchtrav_insert_letter(
     counts: &mut [u16; 64],
 ) -> CountReply
     ensures { λ r. ⌜
-        (r, (record { letters = now (letters .exit); marks = now (marks .exit); recording = now (entries .exit) }, now (counts .exit)))
+        (r, (pairWith (now (letters .exit)) (now (marks .exit)) (now (entries .exit)), now (counts .exit)))
         ≡ replied countOf
         (insertRun
         rank
         used
         letter
-        (record { letters = now (letters .entry); marks = now (marks .entry); recording = now (entries .entry) })
+        (pairWith (now (letters .entry)) (now (marks .entry)) (now (entries .entry)))
         (now (counts .entry)))
         ⌝ }
 {

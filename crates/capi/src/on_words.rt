@@ -1,4 +1,4 @@
-// The C interface to words: checks, tableau, recording ribbon, junction set, moves, classes and weights. Each function is one of the kernel's, its answer as a
+// The C interface to words: checks, pair, junction set, moves, classes and weights. Each function is one of the kernel's, its answer as a
 // struct of numbers.
 use acceptance::word::check_word;
 use classes::two_words::same_class;
@@ -6,8 +6,7 @@ use operators::moves::lower_count_word;
 use operators::moves::lower_word;
 use operators::moves::raise_count_word;
 use operators::moves::raise_word;
-use ribbons::recording::recording_of_word;
-use ribbons::tableau::tableau_of_word;
+use ribbons::pair::pair_of_word;
 use structs::converters::class_reply;
 use structs::converters::junction_reply;
 use structs::converters::move_reply;
@@ -24,10 +23,11 @@ use structs::replies::OrderReply;
 use weights::two_words::compare_weights;
 use words::junctions::junctions;
 ghost use mathlib.Core.Path.{_≡_};
+ghost use Rattle.hypoplactic.specs.Insertion.{pairWith};
 ghost use Rattle.hypoplactic.specs.Judgements.{wordJudgements};
 ghost use Rattle.hypoplactic.specs.Moves.{lowering, raising};
 ghost use Rattle.hypoplactic.specs.Replies.{first, passed};
-ghost use Rattle.hypoplactic.specs.TableauOperations.{recordingRun, tableauRun};
+ghost use Rattle.hypoplactic.specs.TableauOperations.{pairRun};
 ghost use Rattle.hypoplactic.specs.WordOperations.{junctionSays, moveWordRun, repeatWordSays, sameClassSays, weightsSays};
 ghost use Rattle.structs.specs.Replies.{classOf, countOf, doneOf, junctionOf, moveOf, orderOf, replied};
 
@@ -39,33 +39,27 @@ pub extern "C" fn luchtrav_check_word(rank: usize, word: &[u8]) -> DoneReply
     done_verdict(check_word(rank, word))
 }
 
-// The quasi-ribbon tableau of a word, into lent letters, marks and counts.
+// The quasi-ribbon tableau and the recording ribbon of a word, into lent letters, marks, entries and counts.
 #[no_mangle]
-pub extern "C" fn luchtrav_tableau_of_word(
+pub extern "C" fn luchtrav_pair_of_word(
     rank: usize,
     word: &[u8],
     letters: &mut [u8],
     marks: &mut [u8],
+    entries: &mut [u16],
     counts: &mut [u16; 64],
 ) -> CountReply
     ensures { λ r. ⌜
-        (r, (now (letters .exit), (now (marks .exit), now (counts .exit))))
-        ≡ replied countOf (tableauRun rank (now (word .entry)) (now (letters .entry)) (now (marks .entry)) (now (counts .entry)))
+        (r, (pairWith (now (letters .exit)) (now (marks .exit)) (now (entries .exit)), now (counts .exit)))
+        ≡ replied countOf
+        (pairRun
+        rank
+        (now (word .entry))
+        (pairWith (now (letters .entry)) (now (marks .entry)) (now (entries .entry)))
+        (now (counts .entry)))
         ⌝ }
 {
-    count_written(tableau_of_word(rank, word, letters, marks, counts))
-}
-
-// The recording ribbon of a word, into lent entries.
-#[no_mangle]
-pub extern "C" fn luchtrav_recording_of_word(
-    rank: usize,
-    word: &[u8],
-    entries: &mut [u16],
-) -> CountReply
-    ensures { λ r. ⌜ (r, now (entries .exit)) ≡ replied countOf (recordingRun rank (now (word .entry)) (now (entries .entry))) ⌝ }
-{
-    count_written(recording_of_word(rank, word, entries))
+    count_written(pair_of_word(rank, word, letters, marks, entries, counts))
 }
 
 // The junction set of a word, and its rows.
