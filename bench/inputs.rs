@@ -4,7 +4,9 @@ use crate::plain::checks::Tableau;
 use crate::plain::classes::class_number;
 use crate::plain::insertion;
 use crate::plain::tableaux::column_reading;
-use crate::plain::writers::{write_recording_line, write_tableau_line, write_word_line};
+use crate::plain::writers::{
+    lay_recording_line, write_pair_line, write_tableau_line, write_word_line,
+};
 
 /// Xorshift, 64 bits.
 struct Draws(u64);
@@ -41,10 +43,15 @@ impl Pair {
         let mut marks = vec![0; word.len()];
         let mut entries = vec![0; word.len()];
         let mut counts = [0; 64];
-        let tableau =
-            insertion::tableau_of_word(rank, &word, &mut letters, &mut marks, &mut counts);
-        let recording = insertion::recording_of_word(rank, &word, &mut entries);
-        assert!(tableau.is_ok() && recording.is_ok(), "drawn word refused");
+        let made = insertion::pair_of_word(
+            rank,
+            &word,
+            &mut letters,
+            &mut marks,
+            &mut entries,
+            &mut counts,
+        );
+        assert!(made.is_ok(), "drawn word refused");
         Pair {
             word,
             letters,
@@ -87,12 +94,14 @@ pub struct Input {
     pub number: u64,
     pub word_line: Vec<u8>,
     pub tableau_line: Vec<u8>,
+    pub pair_line: Vec<u8>,
+    /// The N line of before, for the converter.
     pub recording_line: Vec<u8>,
 }
 
 /// What a writer of a line writes.
 fn line(write: impl Fn(&mut [u8]) -> Option<usize>) -> Vec<u8> {
-    let mut bytes = vec![0; 8192];
+    let mut bytes = vec![0; 16_384];
     let count = write(&mut bytes).expect("a line of a drawn word");
     bytes.truncate(count);
     bytes
@@ -133,7 +142,8 @@ impl Input {
             number: class_number(rank, &word).unwrap_or(0),
             word_line: line(|out| write_word_line(rank, &word, out).ok()),
             tableau_line: line(|out| write_tableau_line(rank, &letters, &marks, out).ok()),
-            recording_line: line(|out| write_recording_line(&entries, out).ok()),
+            pair_line: line(|out| write_pair_line(rank, &letters, &marks, &entries, out).ok()),
+            recording_line: line(|out| Some(lay_recording_line(&entries, out))),
             word,
             letters,
             marks,

@@ -133,7 +133,7 @@ impl From<Cell> for Reply {
 
 extern "C" {
     pub fn luchtrav_check_word(rank: usize, word: *const u8, word_count: usize) -> Done;
-    pub fn luchtrav_tableau_of_word(
+    pub fn luchtrav_pair_of_word(
         rank: usize,
         word: *const u8,
         word_count: usize,
@@ -141,14 +141,9 @@ extern "C" {
         letters_count: usize,
         marks: *mut u8,
         marks_count: usize,
-        counts: *mut u16,
-    ) -> Count;
-    pub fn luchtrav_recording_of_word(
-        rank: usize,
-        word: *const u8,
-        word_count: usize,
         entries: *mut u16,
         entries_count: usize,
+        counts: *mut u16,
     ) -> Count;
     pub fn luchtrav_junctions(rank: usize, word: *const u8, word_count: usize) -> Junction;
     pub fn luchtrav_raise_word(rank: usize, index: usize, word: *mut u8, word_count: usize)
@@ -391,7 +386,12 @@ extern "C" {
         out: *mut u8,
         out_count: usize,
     ) -> Count;
-    pub fn luchtrav_write_recording_line(
+    pub fn luchtrav_write_pair_line(
+        rank: usize,
+        letters: *const u8,
+        letters_count: usize,
+        marks: *const u8,
+        marks_count: usize,
         entries: *const u16,
         entries_count: usize,
         out: *mut u8,
@@ -425,11 +425,24 @@ extern "C" {
         marks_count: usize,
         counts: *mut u16,
     ) -> Line;
-    pub fn luchtrav_read_recording_line(
+    pub fn luchtrav_read_pair_line(
         text: *const u8,
         text_count: usize,
+        letters: *mut u8,
+        letters_count: usize,
+        marks: *mut u8,
+        marks_count: usize,
         entries: *mut u16,
         entries_count: usize,
+        counts: *mut u16,
+    ) -> Line;
+    pub fn luchtrav_convert_lines(
+        tableau_text: *const u8,
+        tableau_text_count: usize,
+        recording_text: *const u8,
+        recording_text_count: usize,
+        out: *mut u8,
+        out_count: usize,
     ) -> Count;
     pub fn luchtrav_answer(
         text: *const u8,

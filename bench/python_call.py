@@ -48,8 +48,21 @@ def buffers(*values):
     return [create_string_buffer(value, len(value)) for value in values]
 
 
+def plain_pair(word):
+    """The pair by insertion letter by letter (Algorithm 4.2). Nothing is checked."""
+    letters, marks, entries = [], [], []
+    for place, letter in enumerate(word, 1):
+        at = bisect_right(letters, letter)
+        letters.insert(at, letter)
+        marks.insert(at, 0)
+        entries.insert(at, place)
+        if at + 1 < len(marks):
+            marks[at + 1] = 1
+    return letters, marks, entries
+
+
 def plain_tableau(word):
-    """The tableau by insertion letter by letter (Algorithm 4.2). Nothing is checked."""
+    """The tableau alone, likewise."""
     letters, marks = [], []
     for letter in word:
         at = bisect_right(letters, letter)
@@ -72,7 +85,7 @@ def ways(operation, words, call, plain, bare_call):
     expected = plain(*lists)
     for given in (lists, words, wide):
         came = call(*given)
-        assert came == (expected if isinstance(expected, bool) else luchtrav.Tableau(*expected))
+        assert came == (expected if isinstance(expected, bool) else luchtrav.Pair(*expected))
     assert bare_call().number == 0
     calls = [
         lambda: call(*lists),
@@ -84,17 +97,17 @@ def ways(operation, words, call, plain, bare_call):
     return operation, len(words[0]), calls
 
 
-def tableau_ways(word):
-    letters = len(word)
-    first, cells, marks, counts = buffers(word, word, word, bytes(128))
+def pair_ways(word):
+    n = len(word)
+    first, letters, marks, entries, counts = buffers(word, word, word, word + word, bytes(128))
     buffer = [c_void_p, c_size_t]
-    function = bare("tableau_of_word", [c_size_t, *buffer, *buffer, *buffer, c_void_p])
+    function = bare("pair_of_word", [c_size_t, *buffer, *buffer, *buffer, *buffer, c_void_p])
     return ways(
-        "tableau_of_word",
+        "pair_of_word",
         [word],
-        lambda given: luchtrav.tableau_of_word(RANK, given),
-        plain_tableau,
-        lambda: function(RANK, first, letters, cells, letters, marks, letters, counts),
+        lambda given: luchtrav.pair_of_word(RANK, given),
+        plain_pair,
+        lambda: function(RANK, first, n, letters, n, marks, n, entries, n, counts),
     )
 
 
@@ -116,9 +129,9 @@ def operations():
     draws = random.Random(1)
     for letters in LETTERS:
         word = bytes(draws.randint(1, RANK) for _ in range(letters))
-        tableau = luchtrav.tableau_of_word(RANK, word)
+        tableau = luchtrav.pair_of_word(RANK, word).tableau
         other = bytes(luchtrav.column_reading(RANK, tableau))
-        yield tableau_ways(word)
+        yield pair_ways(word)
         yield class_ways(word, other)
 
 

@@ -167,6 +167,25 @@ def print_insertion(counts):
     table(["operation", "rank", *head], rows)
 
 
+def print_apart(counts):
+    """The two ribbons of a word in one call of the kernel, in one of plain Rust, and by two calls of plain Rust, each for one of them."""
+    rows = [
+        [
+            f"`{operation}`",
+            rank,
+            *cells(counts.costs(operation, rank, "kernel")),
+            *cells(counts.costs(operation, rank, "plain")),
+            *cells(counts.costs(operation, rank, "apart")),
+        ]
+        for operation in counts.operations
+        for rank in RANKS
+        if counts.has(operation, "apart")
+    ]
+    print("## The pair in one call, and its two ribbons apart\n")
+    head = [*sizes("kernel"), *sizes("Rust"), *sizes("Rust, two calls")]
+    table(["operation", "rank", *head], rows)
+
+
 def print_growth(counts):
     """Where the kernel's instructions do not grow as the letters do."""
     rows = []
@@ -210,6 +229,7 @@ def print_all(counts):
     print_costs(counts)
     print_classes(counts)
     print_insertion(counts)
+    print_apart(counts)
     print_growth(counts)
     print_large(counts)
 

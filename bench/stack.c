@@ -12,15 +12,16 @@
 enum { RANK = LUCHTRAV_RANKS, L = LUCHTRAV_LETTERS, H = L / 2, F = LUCHTRAV_COUNTED, C = LUCHTRAV_COUNTS };
 enum { STACK = 1 << 18, PAINT = 0xA5, SAID = 40000 };
 
-/* A word with its pair, its lines, a word and a tableau of equal letters for moves, a pair with one cell left for
- * insertion, and the tableaux of the word's two halves; the first letters of the word, as many as a class is counted
- * of, with their tableau. The counts of each tableau are named after its letters. */
+/* A word with its pair, its lines, the N line of before among them, a word and a tableau of equal letters for moves, a
+ * pair with one cell left for insertion, and the tableaux of the word's two halves; the first letters of the word, as
+ * many as a class is counted of, with their tableau. The counts of each tableau are named after its letters. */
 static uint8_t word[L], letters[L], marks[L], twos[L], same[L], level[L], first[L], steps[L];
 static uint8_t front[H], front_marks[H], back[H], back_marks[H], few[F], few_marks[F];
 static uint16_t entries[L], places[L];
 static uint16_t counts[C], counts_same[C], counts_first[C], counts_front[C], counts_back[C], counts_few[C], counted[C];
-static uint8_t w_line[LUCHTRAV_LINE_BYTES], t_line[LUCHTRAV_LINE_BYTES], n_line[LUCHTRAV_LINE_BYTES];
-static size_t w_count, t_count, n_count;
+static uint8_t w_line[LUCHTRAV_LINE_BYTES], t_line[LUCHTRAV_LINE_BYTES], p_line[LUCHTRAV_LINE_BYTES];
+static char n_line[LUCHTRAV_LINE_BYTES];
+static size_t w_count, t_count, p_count, n_count;
 static uint8_t bytes[LUCHTRAV_ANSWER_BYTES], more[L];
 static uint16_t wide[L];
 static size_t refused;
@@ -30,16 +31,17 @@ static void prepare(void) {
     memset(twos, 2, L);
     memset(same, 2, L);
     counts_same[1] = L;
-    luchtrav_tableau_of_word(RANK, word, L, letters, L, marks, L, counts);
-    luchtrav_recording_of_word(RANK, word, L, entries, L);
-    luchtrav_tableau_of_word(RANK, word, L - 1, first, L, steps, L, counts_first);
-    luchtrav_recording_of_word(RANK, word, L - 1, places, L);
-    luchtrav_tableau_of_word(RANK, word, H, front, H, front_marks, H, counts_front);
-    luchtrav_tableau_of_word(RANK, word + H, H, back, H, back_marks, H, counts_back);
-    luchtrav_tableau_of_word(RANK, word, F, few, F, few_marks, F, counts_few);
+    luchtrav_pair_of_word(RANK, word, L, letters, L, marks, L, entries, L, counts);
+    luchtrav_pair_of_word(RANK, word, L - 1, first, L, steps, L, places, L, counts_first);
+    luchtrav_pair_of_word(RANK, word, H, front, H, front_marks, H, wide, L, counts_front);
+    luchtrav_pair_of_word(RANK, word + H, H, back, H, back_marks, H, wide, L, counts_back);
+    luchtrav_pair_of_word(RANK, word, F, few, F, few_marks, F, wide, L, counts_few);
     w_count = luchtrav_write_word_line(RANK, word, L, w_line, sizeof w_line).count;
     t_count = luchtrav_write_tableau_line(RANK, letters, L, marks, L, t_line, sizeof t_line).count;
-    n_count = luchtrav_write_recording_line(entries, L, n_line, sizeof n_line).count;
+    p_count = luchtrav_write_pair_line(RANK, letters, L, marks, L, entries, L, p_line, sizeof p_line).count;
+    n_count = (size_t)sprintf(n_line, "N,%d", L);
+    for (size_t i = 0; i < L; i++) n_count += (size_t)sprintf(n_line + n_count, ",%d", entries[i]);
+    n_count += (size_t)sprintf(n_line + n_count, "\n");
 }
 
 #define WORD RANK, word, L
@@ -50,8 +52,7 @@ static void prepare(void) {
 #define MOVED same, L, level, L, counts_same
 #define OUT bytes, sizeof bytes
 #define CALLS(call) \
-    call(check_word, WORD) call(tableau_of_word, WORD, bytes, L, more, L, counted) \
-    call(recording_of_word, WORD, wide, L) \
+    call(check_word, WORD) call(pair_of_word, WORD, bytes, L, more, L, wide, L, counted) \
     call(junctions, WORD) call(raise_word, RANK, 1, twos, L) call(lower_word, RANK, 2, twos, L) \
     call(raise_count_word, RANK, 1, word, L) call(lower_count_word, RANK, 1, word, L) \
     call(same_class, WORD, WORD) call(compare_weights, WORD, WORD) \
@@ -67,10 +68,11 @@ static void prepare(void) {
     call(insert_letter, RANK, L - 1, 1, first, L, steps, L, places, L, counts_first) \
     call(word_of_pair, TABLEAU, entries, L, counts, OUT) call(tableau_line_of_word, WORD, OUT) \
     call(write_word_line, WORD, OUT) call(write_tableau_line, TABLEAU, OUT) \
-    call(write_recording_line, entries, L, OUT) call(write_junction_line, WORD, OUT) \
+    call(write_pair_line, TABLEAU, entries, L, OUT) call(write_junction_line, WORD, OUT) \
     call(write_refusal_line, 14, 4096, OUT) call(read_word_line, w_line, w_count, more, L) \
     call(read_tableau_line, t_line, t_count, bytes, L, more, L, counted) \
-    call(read_recording_line, n_line, n_count, wide, L) call(answer, w_line, w_count, OUT)
+    call(read_pair_line, p_line, p_count, bytes, L, more, L, wide, L, counted) \
+    call(convert_lines, t_line, t_count, (const uint8_t *)n_line, n_count, OUT) call(answer, w_line, w_count, OUT)
 
 #define DEFINE(name, ...) \
     static void name(void) { refused = luchtrav_##name(__VA_ARGS__).number; }

@@ -1,10 +1,10 @@
-//! Lines: written, read, and the answer of the program.
+//! Lines: written, read, converted, and the answer of the program.
 
 use super::{count, operation, said, Operation, Unit};
 use crate::kernel::*;
 use crate::plain::{lines, readers, writers};
 
-pub const OPERATIONS: [Operation; 10] = [
+pub const OPERATIONS: [Operation; 11] = [
     operation(
         "tableau_line_of_word",
         |i, m| call!(luchtrav_tableau_line_of_word, i.rank, [i.word], [mut m.text]),
@@ -28,9 +28,26 @@ pub const OPERATIONS: [Operation; 10] = [
         },
     ),
     operation(
-        "write_recording_line",
-        |i, m| call!(luchtrav_write_recording_line, [i.entries], [mut m.text]),
-        |i, m| count(writers::write_recording_line(&i.entries, &mut m.text)),
+        "write_pair_line",
+        |i, m| {
+            call!(
+                luchtrav_write_pair_line,
+                i.rank,
+                [i.letters],
+                [i.marks],
+                [i.entries],
+                [mut m.text]
+            )
+        },
+        |i, m| {
+            count(writers::write_pair_line(
+                i.rank,
+                &i.letters,
+                &i.marks,
+                &i.entries,
+                &mut m.text,
+            ))
+        },
     ),
     operation(
         "write_junction_line",
@@ -79,12 +96,45 @@ pub const OPERATIONS: [Operation; 10] = [
         },
     ),
     operation(
-        "read_recording_line",
-        |i, m| call!(luchtrav_read_recording_line, [i.recording_line], [mut m.entries]),
+        "read_pair_line",
         |i, m| {
-            count(readers::read_recording_line(
+            call!(
+                luchtrav_read_pair_line,
+                [i.pair_line],
+                [mut m.letters],
+                [mut m.marks],
+                [mut m.entries],
+                m.counts.as_mut_ptr()
+            )
+        },
+        |i, m| {
+            said(
+                readers::read_pair_line(
+                    &i.pair_line,
+                    &mut m.letters,
+                    &mut m.marks,
+                    &mut m.entries,
+                    &mut m.counts,
+                ),
+                |(rank, count)| [rank, count],
+            )
+        },
+    ),
+    operation(
+        "convert_lines",
+        |i, m| {
+            call!(
+                luchtrav_convert_lines,
+                [i.tableau_line],
+                [i.recording_line],
+                [mut m.text]
+            )
+        },
+        |i, m| {
+            count(readers::convert_lines(
+                &i.tableau_line,
                 &i.recording_line,
-                &mut m.entries,
+                &mut m.text,
             ))
         },
     ),

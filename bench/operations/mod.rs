@@ -68,6 +68,7 @@ pub struct Operation {
     pub kernel: Call,
     pub plain: Call,
     pub insertion: Option<Call>,
+    pub apart: Option<Call>,
 }
 
 /// The reply of a plain version.
@@ -113,6 +114,7 @@ const fn operation(name: &'static str, kernel: Call, plain: Call) -> Operation {
         kernel,
         plain,
         insertion: None,
+        apart: None,
     }
 }
 

@@ -1,13 +1,13 @@
-//! Words: ribbons, junctions, moves, repeat counts, classes and weights.
+//! Words: pair, junctions, moves, repeat counts, classes and weights.
 
 use super::{changed, count, done, operation, said, Operation, Unit};
 use crate::inputs::Lent;
 use crate::kernel::*;
 use crate::plain::checks::check_word;
 use crate::plain::words::Side::{Lowering, Raising};
-use crate::plain::{insertion, words};
+use crate::plain::{apart, insertion, words};
 
-pub const OPERATIONS: [Operation; 11] = [
+pub const OPERATIONS: [Operation; 10] = [
     operation(
         "check_word",
         |i, _| call!(luchtrav_check_word, i.rank, [i.word]),
@@ -15,49 +15,48 @@ pub const OPERATIONS: [Operation; 11] = [
     ),
     Operation {
         insertion: Some(|i, m| {
-            count(insertion::tableau_of_word(
+            count(insertion::pair_of_word(
+                i.rank,
+                &i.word,
+                &mut m.letters,
+                &mut m.marks,
+                &mut m.entries,
+                &mut m.counts,
+            ))
+        }),
+        apart: Some(|i, m| {
+            let made = apart::tableau_of_word(
                 i.rank,
                 &i.word,
                 &mut m.letters,
                 &mut m.marks,
                 &mut m.counts,
-            ))
+            );
+            count(made.and_then(|_| apart::recording_of_word(i.rank, &i.word, &mut m.entries)))
         }),
         ..operation(
-            "tableau_of_word",
+            "pair_of_word",
             |i, m| {
                 call!(
-                    luchtrav_tableau_of_word,
+                    luchtrav_pair_of_word,
                     i.rank,
                     [i.word],
                     [mut m.letters],
                     [mut m.marks],
+                    [mut m.entries],
                     m.counts.as_mut_ptr()
                 )
             },
             |i, m| {
-                count(words::tableau_of_word(
+                count(words::pair_of_word(
                     i.rank,
                     &i.word,
                     &mut m.letters,
                     &mut m.marks,
+                    &mut m.entries,
                     &mut m.counts,
                 ))
             },
-        )
-    },
-    Operation {
-        insertion: Some(|i, m| {
-            count(insertion::recording_of_word(
-                i.rank,
-                &i.word,
-                &mut m.entries,
-            ))
-        }),
-        ..operation(
-            "recording_of_word",
-            |i, m| call!(luchtrav_recording_of_word, i.rank, [i.word], [mut m.entries]),
-            |i, m| count(words::recording_of_word(i.rank, &i.word, &mut m.entries)),
         )
     },
     operation(

@@ -2,7 +2,7 @@
 //! the kernel counts them.
 
 use super::checks::{check_counted_tableau, check_room, check_word, refuse_if, Answer, Tableau};
-use super::words::lay_tableau;
+use super::words::lay_pair;
 
 const MOST: usize = 20;
 
@@ -123,8 +123,8 @@ pub fn class_word(rank: usize, tableau: Tableau, number: u64, word: &mut [u8]) -
 pub fn class_number(rank: usize, word: &[u8]) -> Answer<u64> {
     check_word(rank, word)?;
     check_small(word.len())?;
-    let (mut letters, mut marks) = ([0; MOST], [0; MOST]);
-    lay_tableau(rank, word, &mut letters, &mut marks);
+    let (mut letters, mut marks, mut entries) = ([0; MOST], [0; MOST], [0; MOST]);
+    lay_pair(rank, word, &mut letters, &mut marks, &mut entries);
     let mut ribbon = Ribbon::of(&letters[..word.len()], &marks[..word.len()]);
     let mut number = 0;
     for &letter in word {

@@ -1,6 +1,7 @@
 //! The operations in plain safe Rust: what the kernel is measured against. Each takes the kernel's own steps, but judges an
-//! input once and makes each table once; `insertion` is the textbook way beside them.
+//! input once and makes each table once; `insertion` is the textbook way beside them, `apart` the two ribbons in two calls.
 
+pub mod apart;
 pub mod checks;
 pub mod classes;
 pub mod insertion;

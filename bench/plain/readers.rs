@@ -1,10 +1,12 @@
-//! The readers of W, T and N lines. A line is read into local memory, judged, and only then copied to the caller.
+//! The readers of W, T and P lines, and the converter of a T line and the N line beside it. A line is read into local memory,
+//! judged, and only then copied to the caller.
 
 use super::checks::{
-    check_entries, check_length, check_limits, check_room, check_tableau, check_word, Answer,
-    Refusal,
+    check_length, check_limits, check_pair, check_room, check_tableau, check_word, refuse_if,
+    Answer, Refusal,
 };
 use super::words::letter_counts;
+use super::writers::lay_pair_line;
 
 /// A line, read from the left: its bytes, and the place of the next.
 struct Reader<'a> {
@@ -68,6 +70,24 @@ impl Reader<'_> {
         Ok(mark)
     }
 
+    /// So many cells of a ribbon: letters, and the step before each but the first.
+    fn cells(&mut self, count: usize, letters: &mut [u8], marks: &mut [u8]) -> Answer<()> {
+        for i in 0..count {
+            let mark = if i == 0 { 0 } else { self.step()? };
+            keep(letters, i, narrow(self.field()?));
+            keep(marks, i, mark);
+        }
+        Ok(())
+    }
+
+    /// So many entries.
+    fn entries(&mut self, count: usize, entries: &mut [u16]) -> Answer<()> {
+        for i in 0..count {
+            keep(entries, i, self.field()?);
+        }
+        Ok(())
+    }
+
     /// The line feed, and nothing after it.
     fn end(&mut self) -> Answer<()> {
         self.byte(b'\n')?;
@@ -120,11 +140,7 @@ pub fn read_tableau_line(
     line.byte(b'T')?;
     let rank = usize::from(line.field()?);
     let count = usize::from(line.field()?);
-    for i in 0..count {
-        let mark = if i == 0 { 0 } else { line.step()? };
-        keep(&mut cells, i, narrow(line.field()?));
-        keep(&mut steps, i, mark);
-    }
+    line.cells(count, &mut cells, &mut steps)?;
     line.end()?;
     check_limits(rank, count)?;
     let cells = &cells[..count];
@@ -138,19 +154,71 @@ pub fn read_tableau_line(
     Ok((rank, count))
 }
 
-pub fn read_recording_line(text: &[u8], entries: &mut [u16]) -> Answer<usize> {
+pub fn read_pair_line(
+    text: &[u8],
+    letters: &mut [u8],
+    marks: &mut [u8],
+    entries: &mut [u16],
+    counts: &mut [u16; 64],
+) -> Answer<(usize, usize)> {
     let mut line = Reader { text, at: 0 };
+    let mut cells = [0; 1024];
+    let mut steps = [0; 1024];
     let mut ribbon = [0; 1024];
+    line.byte(b'P')?;
+    let rank = usize::from(line.field()?);
+    let count = usize::from(line.field()?);
+    line.cells(count, &mut cells, &mut steps)?;
+    line.entries(count, &mut ribbon)?;
+    line.end()?;
+    check_limits(rank, count)?;
+    let cells = &cells[..count];
+    let steps = &steps[..count];
+    let ribbon = &ribbon[..count];
+    check_pair(rank, cells, steps, ribbon)?;
+    check_room(count, letters.len())?;
+    check_room(count, marks.len())?;
+    check_room(count, entries.len())?;
+    letters[..count].copy_from_slice(cells);
+    marks[..count].copy_from_slice(steps);
+    entries[..count].copy_from_slice(ribbon);
+    *counts = letter_counts(cells);
+    Ok((rank, count))
+}
+
+/// The entries of an N line, into memory for 1,024; how many it has.
+fn recording_in(text: &[u8], entries: &mut [u16]) -> Answer<usize> {
+    let mut line = Reader { text, at: 0 };
     line.byte(b'N')?;
     let count = usize::from(line.field()?);
-    for i in 0..count {
-        keep(&mut ribbon, i, line.field()?);
-    }
+    line.entries(count, entries)?;
     line.end()?;
-    check_length(count)?;
-    let ribbon = &ribbon[..count];
-    check_entries(ribbon)?;
-    check_room(count, entries.len())?;
-    entries[..count].copy_from_slice(ribbon);
     Ok(count)
+}
+
+pub fn convert_lines(tableau: &[u8], recording: &[u8], out: &mut [u8]) -> Answer<usize> {
+    let mut line = Reader {
+        text: tableau,
+        at: 0,
+    };
+    let mut cells = [0; 1024];
+    let mut steps = [0; 1024];
+    let mut ribbon = [0; 1024];
+    line.byte(b'T')?;
+    let rank = usize::from(line.field()?);
+    let count = usize::from(line.field()?);
+    line.cells(count, &mut cells, &mut steps)?;
+    line.end()?;
+    let entries = recording_in(recording, &mut ribbon).map_err(|broken| Refusal {
+        number: 14,
+        place: tableau.len() + broken.place,
+    })?;
+    check_limits(rank, count)?;
+    check_length(entries)?;
+    refuse_if(entries != count, 3, 0)?;
+    let cells = &cells[..count];
+    let steps = &steps[..count];
+    let ribbon = &ribbon[..count];
+    check_pair(rank, cells, steps, ribbon)?;
+    lay_pair_line(rank, cells, steps, ribbon, out)
 }

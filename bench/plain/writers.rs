@@ -1,6 +1,6 @@
 //! The writers of lines. The bytes needed are counted, the room is judged, and only then a byte is written.
 
-use super::checks::{check_entries, check_length, check_room, check_tableau, check_word, Answer};
+use super::checks::{check_pair, check_room, check_tableau, check_word, Answer};
 use super::words::junctions;
 
 /// The bytes of a comma and a number. Letters have at most two digits, so that no loop counts them.
@@ -67,17 +67,14 @@ pub fn lay_word_line(rank: usize, word: &[u8], out: &mut [u8]) -> Answer<usize> 
     Ok(need)
 }
 
-/// The T line of a valid tableau.
-pub fn lay_tableau_line(
-    rank: usize,
-    letters: &[u8],
-    marks: &[u8],
-    out: &mut [u8],
-) -> Answer<usize> {
-    let steps = 2 * letters.len().saturating_sub(1);
-    let need = 2 + field_size(rank) + field_size(letters.len()) + letters_size(letters) + steps;
-    check_room(need, out.len())?;
-    let mut at = write_head(b'T', rank, letters.len(), out);
+/// The bytes of the cells of a tableau: its letters, and a step before each but the first.
+fn cells_size(letters: &[u8]) -> usize {
+    letters_size(letters) + 2 * letters.len().saturating_sub(1)
+}
+
+/// Writes the cells of a tableau from a place on; the place after them.
+fn write_cells(letters: &[u8], marks: &[u8], out: &mut [u8], from: usize) -> usize {
+    let mut at = from;
     for (i, (&letter, &mark)) in letters.iter().zip(marks).enumerate() {
         if i > 0 {
             out[at] = b',';
@@ -86,22 +83,61 @@ pub fn lay_tableau_line(
         }
         at = write_field(usize::from(letter), out, at);
     }
+    at
+}
+
+/// The T line of a valid tableau.
+pub fn lay_tableau_line(
+    rank: usize,
+    letters: &[u8],
+    marks: &[u8],
+    out: &mut [u8],
+) -> Answer<usize> {
+    let need = 2 + field_size(rank) + field_size(letters.len()) + cells_size(letters);
+    check_room(need, out.len())?;
+    let at = write_head(b'T', rank, letters.len(), out);
+    let at = write_cells(letters, marks, out, at);
     out[at] = b'\n';
     Ok(need)
 }
 
-/// The N line of a valid recording ribbon.
-pub fn lay_recording_line(entries: &[u16], out: &mut [u8]) -> Answer<usize> {
-    let fields = entries.iter().map(|&entry| field_size(usize::from(entry)));
-    let need = 2 + field_size(entries.len()) + fields.sum::<usize>();
+/// The bytes of the fields of entries.
+fn entries_size(entries: &[u16]) -> usize {
+    entries.iter().map(|&x| field_size(usize::from(x))).sum()
+}
+
+/// Writes the fields of entries from a place on; the place after them.
+fn write_entries(entries: &[u16], out: &mut [u8], from: usize) -> usize {
+    entries
+        .iter()
+        .fold(from, |at, &x| write_field(usize::from(x), out, at))
+}
+
+/// The P line of a valid pair.
+pub fn lay_pair_line(
+    rank: usize,
+    letters: &[u8],
+    marks: &[u8],
+    entries: &[u16],
+    out: &mut [u8],
+) -> Answer<usize> {
+    let items = cells_size(letters) + entries_size(entries);
+    let need = 2 + field_size(rank) + field_size(letters.len()) + items;
     check_room(need, out.len())?;
-    out[0] = b'N';
-    let mut at = write_field(entries.len(), out, 1);
-    for &entry in entries {
-        at = write_field(usize::from(entry), out, at);
-    }
+    let at = write_head(b'P', rank, letters.len(), out);
+    let at = write_cells(letters, marks, out, at);
+    let at = write_entries(entries, out, at);
     out[at] = b'\n';
     Ok(need)
+}
+
+/// The N line of before, which stood beside a T line.
+pub fn lay_recording_line(entries: &[u16], out: &mut [u8]) -> usize {
+    out[0] = b'N';
+    let at = write_field(entries.len(), out, 1);
+    let at = write_entries(entries, out, at);
+    out[at] = b'\n';
+    at + 1
 }
 
 /// A line of two numbers.
@@ -128,10 +164,15 @@ pub fn write_tableau_line(
     lay_tableau_line(rank, letters, marks, out)
 }
 
-pub fn write_recording_line(entries: &[u16], out: &mut [u8]) -> Answer<usize> {
-    check_length(entries.len())?;
-    check_entries(entries)?;
-    lay_recording_line(entries, out)
+pub fn write_pair_line(
+    rank: usize,
+    letters: &[u8],
+    marks: &[u8],
+    entries: &[u16],
+    out: &mut [u8],
+) -> Answer<usize> {
+    check_pair(rank, letters, marks, entries)?;
+    lay_pair_line(rank, letters, marks, entries, out)
 }
 
 pub fn write_junction_line(rank: usize, word: &[u8], out: &mut [u8]) -> Answer<usize> {
