@@ -38,7 +38,8 @@ REQUIRED = """
     classes written-classes word-of-pair pair-of-word word-reading read-back class-joined tableau-answer repeat-word starred outputs
     product-of-classes stepped-weights word-moved-at changed-cell move-together class-size class-word class-number class-members
     class-complete class-later number-recording recording-number theorem-8-2 ranks written-ranks counts-held seventeen-exactly
-    class-as-readings weights-as-readings
+    class-as-readings weights-as-readings halves convert-lines convert-program convert-sound convert-broken-only
+    former-program former-halves recording-written
 """.split()
 EDITS = [(edit.stem, re.search(r"^file: (\w+)/", edit.read_text(), re.M).group(1).replace("proofs", "specs")) for edit in CRATES.glob("*/must-fail/*.edit")]
 HEADER = header.functions_of(None)
@@ -142,12 +143,12 @@ def numbers(text):
 
 
 def listed():
-    """The refusals that specs/ of hypoplactic, products, numbering and letter_counts list for definitions: in headers, for a reply with and without memory; in
+    """The refusals that specs/ of hypoplactic, products, numbering, letter_counts and former_lines list for definitions: in headers, for a reply with and without memory; in
     comments above judgements."""
     specs, found, told = CRATES / "hypoplactic/specs", {}, ""
     products, classes = CRATES / "products/specs/Products.antt", CRATES / "numbering/specs/Operations.antt"
-    tableaux = CRATES / "letter_counts/specs/TwoTableaux.antt"
-    for file in (*specs.glob("*Operations.antt"), specs / "LineReadings.antt", products, classes, tableaux):
+    tableaux, former = CRATES / "letter_counts/specs/TwoTableaux.antt", CRATES / "former_lines/specs/Conversion.antt"
+    for file in (*specs.glob("*Operations.antt"), specs / "LineReadings.antt", products, classes, tableaux, former):
         for names, checks in re.findall(rf"^--     (\w+(?:, \w+)*) {{2,}}({NUMBERS})", file.read_text(), re.M):
             found.update((re.sub("(Says|Run)$", end, name), numbers(checks)) for name in names.split(", ") for end in ("Says", "Run"))
     for file in (specs / "Judgements.antt", specs / "Counts.antt", classes):
@@ -155,6 +156,7 @@ def listed():
             told = comment or told
             found[name] = numbers(told)
     found["readTRun"].remove(3)  # a T line has as many letters as marks
+    found["readPRun"].remove(3)  # and a P line as many entries
     return found
 
 
@@ -249,7 +251,7 @@ def check_links():
 
 def cases(*lists):
     """How many computed cases some lists have."""
-    crates = ("hypoplactic", "examples", "products", "changed_places", "ranks", "numbering", "letter_counts")
+    crates = ("hypoplactic", "examples", "products", "changed_places", "ranks", "numbering", "letter_counts", "former_lines")
     text = "".join(file.read_text() for crate in crates for file in CRATES.glob(crate + "/specs/*.antt"))
     bodies = [re.search(rf"^{name} =(.*?)(?=^\S|\Z)", text, re.M | re.S).group(1) for name in lists]
     return sum(len(re.findall(r"^ *(?:∷ )?case\b", body, re.M)) for body in bodies)
@@ -272,6 +274,7 @@ FIGURES = [
     ("# of two ranks", cases("rankCases"), [README, TESTS]),
     ("# of sizes and numbers", cases("numberCases"), [README, TESTS]),
     ("# of two tableaux", cases("tableauxCases"), [README, TESTS]),
+    ("# of former lines", cases("conversionCases"), [README, TESTS]),
     ("# (?:more )?(?:cases|fix)", cases("orderCases", "valueCases", "countCases", "lineCases", "sharedCases"), [README, TESTS]),
 ]
 
