@@ -21,7 +21,7 @@ use borrow.Author.Needs.{needs}
 use Rattle.hypoplactic.specs.Insertion.{Pair, pairWith}
 use Rattle.hypoplactic.specs.Replies.{Said, passed, orElse, first, refuseIf}
 use Rattle.hypoplactic.specs.Counts.{countsJudged}
-use Rattle.hypoplactic.specs.Judgements.{entriesJudged, fullJudged, lengthJudged, lettersFrom, lettersJudged, marksJudged, outside, rankJudged, recordingJudged, risingJudged, roomJudged, usedJudged}
+use Rattle.hypoplactic.specs.Judgements.{entriesJudged, fullJudged, lengthJudged, lettersFrom, lettersJudged, marksJudged, outside, pairRooms, rankJudged, recordingJudged, risingJudged, usedJudged}
 use Rattle.hypoplactic.proofs.Theory.Judgements.{length-judged, used-judged}
 use Rattle.refusals.specs.Chains.{chained}
 use Rattle.refusals.specs.Running.{checksThen, checked-then, stops-there, goes-further, all-passing}
@@ -41,7 +41,7 @@ cellJudgements n used a xs ms rs cs =
 
 -- 12 and 13, from the lengths of the three lists.
 abbrev pub roomJudgements : ℕ → ℕ → ℕ → ℕ → ℕ → List Said
-roomJudgements used need letters marks entries = fullJudged used ∷ roomJudged need letters ∷ roomJudged need marks ∷ roomJudged need entries ∷ []
+roomJudgements used need letters marks entries = fullJudged used ∷ pairRooms need letters marks entries
 
 -- 4 to 8 and 17 of the used cells of a pair and the new letter, and 12 and 13 of its lists.
 abbrev pub usedJudgements : ℕ → ℕ → ℕ → Pair → List ℕ → List Said

@@ -4,9 +4,9 @@ use acceptance::letters::check_letters;
 use counts::shape::check_counted_shape;
 use refusals::answers::Verdict;
 use refusals::chains::check_limits;
+use refusals::chains::check_pair_rooms;
 use refusals::chains::or_else;
 use refusals::numbers::check_full;
-use refusals::numbers::check_room;
 use refusals::numbers::check_used;
 use refusals::numbers::either;
 use refusals::numbers::refuse_if;
@@ -72,10 +72,7 @@ fn check_rooms(used: usize, letters: usize, marks: usize, entries: usize) -> Ver
     ensures { λ r. ⌜ saidVerdict r ≡ first (roomJudgements used (used + 1) letters marks entries) passed ⌝ }
 {
     let need = used + 1;
-    let rooms = or_else(
-        check_room(need, letters),
-        or_else(check_room(need, marks), check_room(need, entries)),
-    );
+    let rooms = check_pair_rooms(need, letters, marks, entries);
     or_else(check_full(used), rooms)
 }
 

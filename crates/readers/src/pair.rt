@@ -7,8 +7,8 @@ use line_items::room::no_marks;
 use refusals::answers::PairLine;
 use refusals::answers::Verdict;
 use refusals::chains::check_limits;
+use refusals::chains::check_pair_rooms;
 use refusals::chains::or_else;
-use refusals::numbers::check_room;
 use refusals::refusal::Refusal;
 use scans::line::Line;
 use scans::pair::scan_pair;
@@ -39,12 +39,8 @@ fn check_pair_read(
         (pairRooms (length (now (cells .entry))) letters marks entries)
         ⌝ }
 {
-    let count = cells.len();
-    let room = or_else(
-        check_room(count, letters),
-        or_else(check_room(count, marks), check_room(count, entries)),
-    );
-    or_else(check_pair(rank, cells, steps, places), room)
+    let rooms = check_pair_rooms(cells.len(), letters, marks, entries);
+    or_else(check_pair(rank, cells, steps, places), rooms)
 }
 
 // Letters, marks and entries, into the beginning of lent memory.

@@ -8,5 +8,4 @@ pub check-rooms-spec : {M : Type 1} → statement M
 check-rooms-spec =
     tie.close
     (tie.spec (λ c. search needs) (λ c κs. search needs) (λ c κs. search needs) (λ c κs. search needs)
-    (λ c κs. search needs) (λ c κs. search needs) (λ c κs. search needs) (λ c κs. search needs)
     (λ c. search chaining))
