@@ -1,5 +1,4 @@
 -- The checks of insertion.
---     pairWith xs ms rs              three lists as a pair
 --     sizeJudgements, cellJudgements, roomJudgements     1 2 3; 4 5 6 17 7 8 of the used cells and the new letter; 12 and 13
 --     usedJudgements, freeJudgements     the same of the lists of a pair
 --     usedChecks, insertChecks       what 4 to 8 and 17, 12 and 13, and what all of them say

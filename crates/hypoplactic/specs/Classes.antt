@@ -57,7 +57,7 @@ pub data MovedTogether (a : ℕ) (u v : List ℕ) : Said × List ℕ → Said ×
   in-both : (p q : ℕ) → p < length u → q < length v → MovedTogether a u v (gives (p ∷ []), set u p a) (gives (q ∷ []), set v q a)
   in-neither : (k : ℕ) → MovedTogether a u v (refused k 0, u) (refused k 0, v)
 
--- What the pair's operation replies and leaves for two words, and lent the same memory: one reply, one shape and one recording ribbon. Letters and counts may differ.
+-- What the pair's operation replies to two words and leaves of one lent memory: one reply, one shape and one recording ribbon. Letters and counts may differ.
 pub record OneRecording (r s : Said × (Pair × List ℕ)) : Type 0 where
   pub reply : r .0 ≡ s .0
   pub marks : r .1 .0 .marks ≡ s .1 .0 .marks

@@ -1,5 +1,4 @@
 -- A pair of a line into lent memory: the reply, and memory, from the verdict of the checks on.
---     pairWith                       three lists as a pair
 --     PairCopied                     letters, marks and entries are copied
 --     pair-refused, pair-passed      a pair, and its letter counts
 --     storing-pairs                  their ruleset
