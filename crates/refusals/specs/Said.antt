@@ -3,7 +3,7 @@
 --     number, place      of a refusal, as the tables of documents 01 and 02 fix them
 --     saidRefusal        a refusal
 --     saidFault k        the first fault that a scan for refusal k finds
---     saidVerdict, saidMove, saidRepeat, saidJunctions, saidNumbered, saidClass, saidWeights, saidWritten, saidInserted, saidCell, saidWordLine, saidTableauLine,
+--     saidVerdict, saidMove, saidRepeat, saidJunctions, saidNumbered, saidClass, saidWeights, saidWritten, saidUsed, saidCell, saidWordLine, saidTableauLine,
 --     saidPairLine
 --                        the answers
 -- That each of them tells all cases apart is proofs/Theory/Apart. Assumes nothing.
@@ -11,7 +11,7 @@ use Prim.Native.Nat.{ℕ}
 use mathlib.Core.List.{[], _∷_}
 use Rattle.hypoplactic.specs.Replies.{Said, gives, refused}
 use Rattle.refusals.specs.declared.refusal.Refusal.{Refusal}
-use Rattle.refusals.specs.declared.refusal.Refusal.the-variants.{Rank, Length, Parts, Letter, Falling, Mark, Entry, Step, Index, Inversion, NoLetter, Full, Room, Line, Large, PastLast, Count}
+use Rattle.refusals.specs.declared.refusal.Refusal.the-variants.{Rank, Length, Parts, Letter, Falling, Mark, Entry, Step, Index, Inversion, NoLetter, Full, Room, Line, Large, PastLast, Count, Empty}
 use Rattle.refusals.specs.declared.answers.Verdict.{Verdict}
 use Rattle.refusals.specs.declared.answers.Verdict.the-variants as verdict
 use Rattle.refusals.specs.declared.answers.Fault.{Fault}
@@ -30,8 +30,8 @@ use Rattle.refusals.specs.declared.answers.Weights.{Weights}
 use Rattle.refusals.specs.declared.answers.Weights.the-variants as weights
 use Rattle.refusals.specs.declared.answers.Written.{Written}
 use Rattle.refusals.specs.declared.answers.Written.the-variants as written
-use Rattle.refusals.specs.declared.answers.Inserted.{Inserted}
-use Rattle.refusals.specs.declared.answers.Inserted.the-variants as inserted
+use Rattle.refusals.specs.declared.answers.Used.{Used}
+use Rattle.refusals.specs.declared.answers.Used.the-variants as used
 use Rattle.refusals.specs.declared.answers.Cell.{Cell}
 use Rattle.refusals.specs.declared.answers.Cell.the-variants as cell
 use Rattle.refusals.specs.declared.answers.WordLine.{WordLine}
@@ -59,6 +59,7 @@ number (Line p) = 14
 number Large = 15
 number PastLast = 16
 number (Count p) = 17
+number Empty = 18
 
 abbrev pub place : Refusal → ℕ
 place Rank = 0
@@ -78,6 +79,7 @@ place (Line p) = p
 place Large = 0
 place PastLast = 0
 place (Count p) = p
+place Empty = 0
 
 abbrev pub saidRefusal : Refusal → Said
 saidRefusal r = refused (number r) (place r)
@@ -129,9 +131,9 @@ saidWritten (written.Elements n) = gives (n ∷ [])
 saidWritten (written.Refused r) = saidRefusal r
 
 -- The new used count.
-abbrev pub saidInserted : Inserted → Said
-saidInserted (inserted.Used n) = gives (n ∷ [])
-saidInserted (inserted.Refused r) = saidRefusal r
+abbrev pub saidUsed : Used → Said
+saidUsed (used.Cells n) = gives (n ∷ [])
+saidUsed (used.Refused r) = saidRefusal r
 
 -- Letter, row and column; no value for "no such cell".
 abbrev pub saidCell : Cell → Said

@@ -60,9 +60,9 @@ pub enum Written {
     Refused(Refusal),
 }
 
-// What insertion answers: the new used count.
-pub enum Inserted {
-    Used(usize),
+// What an operation answers that puts a cell in or takes one out: the new used count.
+pub enum Used {
+    Cells(usize),
     Refused(Refusal),
 }
 

@@ -39,6 +39,8 @@ pub enum Refusal {
     PastLast,
     // 17: the number at this place of the letter counts is not its letter's count.
     Count(usize),
+    // 18: a departure from an empty window.
+    Empty,
 }
 
 // A refusal as number and place, as the documents fix them.
@@ -99,5 +101,9 @@ pub fn number_and_place(refusal: Refusal) -> Returned
             place: 0,
         },
         Refusal::Count(place) => Returned { number: 17, place },
+        Refusal::Empty => Returned {
+            number: 18,
+            place: 0,
+        },
     }
 }

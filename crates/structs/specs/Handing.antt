@@ -10,13 +10,13 @@ use Prim.Native.Nat.{ℕ}
 use mathlib.Core.Path.{_≡_, _∙_}
 use borrow.Author.Needs.{needs}
 use Rattle.hypoplactic.specs.Replies.{Said, refused}
-use Rattle.refusals.specs.Said.{number, place, saidRefusal, saidVerdict, saidMove, saidWritten, saidInserted, saidRepeat, saidClass, saidWeights, saidJunctions, saidNumbered, saidWordLine, saidTableauLine, saidPairLine, saidCell}
+use Rattle.refusals.specs.Said.{number, place, saidRefusal, saidVerdict, saidMove, saidWritten, saidUsed, saidRepeat, saidClass, saidWeights, saidJunctions, saidNumbered, saidWordLine, saidTableauLine, saidPairLine, saidCell}
 use Rattle.refusals.specs.declared.refusal.Refusal.{Refusal}
 use Rattle.refusals.specs.declared.refusal.Refusal.the-variants.{Line}
 use Rattle.refusals.specs.declared.answers.Verdict.{Verdict}
 use Rattle.refusals.specs.declared.answers.Move.{Move}
 use Rattle.refusals.specs.declared.answers.Written.{Written}
-use Rattle.refusals.specs.declared.answers.Inserted.{Inserted}
+use Rattle.refusals.specs.declared.answers.Used.{Used}
 use Rattle.refusals.specs.declared.answers.Repeat.{Repeat}
 use Rattle.refusals.specs.declared.answers.Class.{Class}
 use Rattle.refusals.specs.declared.answers.Weights.{Weights}
@@ -106,8 +106,8 @@ move-case e h = rw e h
 pub written-case : {a b : Written} {r : CountReply} → a ≡ b → r ≡ countOf (saidWritten b) → r ≡ countOf (saidWritten a)
 written-case e h = rw e h
 
-pub inserted-case : {a b : Inserted} {r : CountReply} → a ≡ b → r ≡ countOf (saidInserted b) → r ≡ countOf (saidInserted a)
-inserted-case e h = rw e h
+pub used-case : {a b : Used} {r : CountReply} → a ≡ b → r ≡ countOf (saidUsed b) → r ≡ countOf (saidUsed a)
+used-case e h = rw e h
 
 pub repeat-case : {a b : Repeat} {r : CountReply} → a ≡ b → r ≡ countOf (saidRepeat b) → r ≡ countOf (saidRepeat a)
 repeat-case e h = rw e h
@@ -184,7 +184,7 @@ pub ruleset replying = (
   verdict-case,
   move-case,
   written-case,
-  inserted-case,
+  used-case,
   repeat-case,
   class-case,
   weights-case,

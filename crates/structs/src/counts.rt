@@ -1,14 +1,14 @@
 // Answers with no value, and with one count, as structs of the C interface: checks, elements written, used counts, repeat counts.
 use crate::replies::CountReply;
 use crate::replies::DoneReply;
-use refusals::answers::Inserted;
 use refusals::answers::Repeat;
+use refusals::answers::Used;
 use refusals::answers::Verdict;
 use refusals::answers::Written;
 use refusals::refusal::Refusal;
 use refusals::refusal::number_and_place;
 ghost use mathlib.Core.Path.{_≡_};
-ghost use Rattle.refusals.specs.Said.{saidInserted, saidRefusal, saidRepeat, saidVerdict, saidWritten};
+ghost use Rattle.refusals.specs.Said.{saidUsed, saidRefusal, saidRepeat, saidVerdict, saidWritten};
 ghost use Rattle.structs.specs.Replies.{countOf, doneOf};
 
 // A refusal of a check.
@@ -69,12 +69,12 @@ pub fn count_written(answer: Written) -> CountReply
 }
 
 // The new used count.
-pub fn count_inserted(answer: Inserted) -> CountReply
-    ensures { λ r. ⌜ r ≡ countOf (saidInserted answer) ⌝ }
+pub fn count_used(answer: Used) -> CountReply
+    ensures { λ r. ⌜ r ≡ countOf (saidUsed answer) ⌝ }
 {
     match answer {
-        Inserted::Used(count) => counted(count),
-        Inserted::Refused(refusal) => count_refused(refusal),
+        Used::Cells(count) => counted(count),
+        Used::Refused(refusal) => count_refused(refusal),
     }
 }
 

@@ -3,7 +3,7 @@
 --     refusal-apart                                                     refusals by number and place
 --     fault-apart                                                       the faults that a scan for one refusal finds
 --     verdict-apart, move-apart, repeat-apart, junctions-apart, numbered-apart, class-apart, weights-apart, written-apart,
---     inserted-apart, cell-apart, word-line-apart, tableau-line-apart, pair-line-apart     the answers
+--     used-apart, cell-apart, word-line-apart, tableau-line-apart, pair-line-apart     the answers
 -- Assumes nothing.
 use Prim.Native.Nat.{ℕ, _-_}
 use mathlib.Core.Path.{_≡_, refl, sym, ap, _∙_}
@@ -11,7 +11,7 @@ use mathlib.Core.List.{List, [], _∷_}
 use lib.ListN.{getD}
 use Rattle.hypoplactic.specs.Replies.{Said, gives, refused}
 use Rattle.refusals.specs.declared.refusal.Refusal.{Refusal}
-use Rattle.refusals.specs.declared.refusal.Refusal.the-variants.{Rank, Length, Parts, Letter, Falling, Mark, Entry, Step, Index, Inversion, NoLetter, Full, Room, Line, Large, PastLast, Count}
+use Rattle.refusals.specs.declared.refusal.Refusal.the-variants.{Rank, Length, Parts, Letter, Falling, Mark, Entry, Step, Index, Inversion, NoLetter, Full, Room, Line, Large, PastLast, Count, Empty}
 use Rattle.refusals.specs.declared.answers.Verdict.{Verdict}
 use Rattle.refusals.specs.declared.answers.Verdict.the-variants as verdict
 use Rattle.refusals.specs.declared.answers.Fault.{Fault}
@@ -30,8 +30,8 @@ use Rattle.refusals.specs.declared.answers.Weights.{Weights}
 use Rattle.refusals.specs.declared.answers.Weights.the-variants as weights
 use Rattle.refusals.specs.declared.answers.Written.{Written}
 use Rattle.refusals.specs.declared.answers.Written.the-variants as written
-use Rattle.refusals.specs.declared.answers.Inserted.{Inserted}
-use Rattle.refusals.specs.declared.answers.Inserted.the-variants as inserted
+use Rattle.refusals.specs.declared.answers.Used.{Used}
+use Rattle.refusals.specs.declared.answers.Used.the-variants as used
 use Rattle.refusals.specs.declared.answers.Cell.{Cell}
 use Rattle.refusals.specs.declared.answers.Cell.the-variants as cell
 use Rattle.refusals.specs.declared.answers.WordLine.{WordLine}
@@ -40,7 +40,7 @@ use Rattle.refusals.specs.declared.answers.TableauLine.{TableauLine}
 use Rattle.refusals.specs.declared.answers.TableauLine.the-variants as tableauLine
 use Rattle.refusals.specs.declared.answers.PairLine.{PairLine}
 use Rattle.refusals.specs.declared.answers.PairLine.the-variants as pairLine
-use Rattle.refusals.specs.Said.{number, place, saidRefusal, saidFault, saidVerdict, saidMove, saidRepeat, saidJunctions, saidNumbered, saidClass, saidWeights, saidWritten, saidInserted, saidCell, saidWordLine, saidTableauLine, saidPairLine}
+use Rattle.refusals.specs.Said.{number, place, saidRefusal, saidFault, saidVerdict, saidMove, saidRepeat, saidJunctions, saidNumbered, saidClass, saidWeights, saidWritten, saidUsed, saidCell, saidWordLine, saidTableauLine, saidPairLine}
 
 -- What can be found again is told apart.
 apart : {A : Type 0} (said : A → Said) (back : Said → A) → ((a : A) → back (said a) ≡ a) → (a b : A) → said a ≡ said b → a ≡ b
@@ -52,7 +52,7 @@ apart said back again a b e = sym (again a) ∙ ap back e ∙ again b
 rows : ℕ → List Refusal
 rows p =
     Rank ∷ Length ∷ Parts ∷ Letter p ∷ Falling p ∷ Mark p ∷ Entry p ∷ Step p ∷ Index ∷ Inversion ∷ NoLetter ∷ Full ∷ Room p ∷ Line p
-    ∷ Large ∷ PastLast ∷ Count p ∷ []
+    ∷ Large ∷ PastLast ∷ Count p ∷ Empty ∷ []
 
 row : ℕ → ℕ → Refusal
 row k p = getD (rows p) (k - 1) Rank
@@ -76,6 +76,7 @@ row-of (Line p) = refl
 row-of Large = refl
 row-of PastLast = refl
 row-of (Count p) = refl
+row-of Empty = refl
 
 -- An answer from what it says: from the values that it gives, or from the refusal that it passes on.
 answer : {A : Type 0} → (List ℕ → A) → (Refusal → A) → Said → A
@@ -169,13 +170,13 @@ written-again (written.Refused r) = ap written.Refused (row-of r)
 pub written-apart : (a b : Written) → saidWritten a ≡ saidWritten b → a ≡ b
 written-apart = apart saidWritten (answer (λ vs. written.Elements (getD vs 0 0)) written.Refused) written-again
 
-inserted-again : (a : Inserted) → answer (λ vs. inserted.Used (getD vs 0 0)) inserted.Refused (saidInserted a) ≡ a
+used-again : (a : Used) → answer (λ vs. used.Cells (getD vs 0 0)) used.Refused (saidUsed a) ≡ a
 unfolding answer
-inserted-again (inserted.Used n) = refl
-inserted-again (inserted.Refused r) = ap inserted.Refused (row-of r)
+used-again (used.Cells n) = refl
+used-again (used.Refused r) = ap used.Refused (row-of r)
 
-pub inserted-apart : (a b : Inserted) → saidInserted a ≡ saidInserted b → a ≡ b
-inserted-apart = apart saidInserted (answer (λ vs. inserted.Used (getD vs 0 0)) inserted.Refused) inserted-again
+pub used-apart : (a b : Used) → saidUsed a ≡ saidUsed b → a ≡ b
+used-apart = apart saidUsed (answer (λ vs. used.Cells (getD vs 0 0)) used.Refused) used-again
 
 cellOf : List ℕ → Cell
 cellOf [] = cell.NoSuchCell

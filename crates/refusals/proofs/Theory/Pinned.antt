@@ -14,7 +14,7 @@ use Rattle.hypoplactic.specs.Weights.{equal, lower, higher, neither}
 use Rattle.hypoplactic.specs.Replies.{gives, refused}
 use Rattle.hypoplactic.specs.WordOperations.{comparisonNumber}
 use Rattle.refusals.specs.declared.refusal.Refusal.{Refusal}
-use Rattle.refusals.specs.declared.refusal.Refusal.the-variants.{Rank, Length, Parts, Letter, Falling, Mark, Entry, Step, Index, Inversion, NoLetter, Full, Room, Line, Large, PastLast, Count}
+use Rattle.refusals.specs.declared.refusal.Refusal.the-variants.{Rank, Length, Parts, Letter, Falling, Mark, Entry, Step, Index, Inversion, NoLetter, Full, Room, Line, Large, PastLast, Count, Empty}
 use Rattle.refusals.specs.declared.answers.Verdict.the-variants as verdict
 use Rattle.refusals.specs.declared.answers.Fault.the-variants as fault
 use Rattle.refusals.specs.declared.answers.Move.the-variants as move
@@ -24,20 +24,20 @@ use Rattle.refusals.specs.declared.answers.Numbered.the-variants as numb
 use Rattle.refusals.specs.declared.answers.Class.the-variants as class
 use Rattle.refusals.specs.declared.answers.Weights.the-variants as weights
 use Rattle.refusals.specs.declared.answers.Written.the-variants as written
-use Rattle.refusals.specs.declared.answers.Inserted.the-variants as inserted
+use Rattle.refusals.specs.declared.answers.Used.the-variants as used
 use Rattle.refusals.specs.declared.answers.Cell.the-variants as cell
 use Rattle.refusals.specs.declared.answers.WordLine.the-variants as wordLine
 use Rattle.refusals.specs.declared.answers.TableauLine.the-variants as tableauLine
 use Rattle.refusals.specs.declared.answers.PairLine.the-variants as pairLine
-use Rattle.refusals.specs.Said.{saidRefusal, saidFault, saidVerdict, saidMove, saidRepeat, saidJunctions, saidNumbered, saidClass, saidWeights, saidWritten, saidInserted, saidCell, saidWordLine, saidTableauLine, saidPairLine}
+use Rattle.refusals.specs.Said.{saidRefusal, saidFault, saidVerdict, saidMove, saidRepeat, saidJunctions, saidNumbered, saidClass, saidWeights, saidWritten, saidUsed, saidCell, saidWordLine, saidTableauLine, saidPairLine}
 
 -- The rows of the tables.
 pub refusal-table : (p : ℕ)
     → map saidRefusal
     (Rank ∷ Length ∷ Parts ∷ Letter p ∷ Falling p ∷ Mark p ∷ Entry p ∷ Step p ∷ Index ∷ Inversion ∷ NoLetter ∷ Full ∷ Room p ∷ Line p
-    ∷ Large ∷ PastLast ∷ Count p ∷ [])
+    ∷ Large ∷ PastLast ∷ Count p ∷ Empty ∷ [])
     ≡ refused 1 0 ∷ refused 2 0 ∷ refused 3 0 ∷ refused 4 p ∷ refused 5 p ∷ refused 6 p ∷ refused 7 p ∷ refused 8 p ∷ refused 9 0 ∷ refused 10 0
-    ∷ refused 11 0 ∷ refused 12 1024 ∷ refused 13 p ∷ refused 14 p ∷ refused 15 0 ∷ refused 16 0 ∷ refused 17 p ∷ []
+    ∷ refused 11 0 ∷ refused 12 1024 ∷ refused 13 p ∷ refused 14 p ∷ refused 15 0 ∷ refused 16 0 ∷ refused 17 p ∷ refused 18 0 ∷ []
 refusal-table p = refl
 
 -- A fault of a scan for refusal k.
@@ -48,7 +48,7 @@ fault-values k p = refl
 pub answer-values : (a b c : ℕ)
     → saidVerdict verdict.Passed ∷ saidMove (move.Made a) ∷ saidRepeat (repeat.Times a) ∷ saidJunctions (junctions.Found a b)
     ∷ saidNumbered (numbered.Number a)
-    ∷ saidWritten (written.Elements a) ∷ saidInserted (inserted.Used a) ∷ saidCell (cell.Found a b c) ∷ saidCell cell.NoSuchCell
+    ∷ saidWritten (written.Elements a) ∷ saidUsed (used.Cells a) ∷ saidCell (cell.Found a b c) ∷ saidCell cell.NoSuchCell
     ∷ saidWordLine (wordLine.Word a b) ∷ saidTableauLine (tableauLine.Tableau a b) ∷ saidPairLine (pairLine.Pair a b) ∷ []
     ≡ gives [] ∷ gives (a ∷ []) ∷ gives (a ∷ []) ∷ gives (a ∷ b ∷ []) ∷ gives (a ∷ []) ∷ gives (a ∷ []) ∷ gives (a ∷ []) ∷ gives (a ∷ b ∷ c ∷ []) ∷ gives []
     ∷ gives (a ∷ b ∷ []) ∷ gives (a ∷ b ∷ []) ∷ gives (a ∷ b ∷ []) ∷ []
@@ -68,7 +68,7 @@ weights-numbers = refl
 pub passed-on : (r : Refusal)
     → saidVerdict (verdict.Refused r) ∷ saidMove (move.Refused r) ∷ saidRepeat (repeat.Refused r) ∷ saidJunctions (junctions.Refused r)
     ∷ saidNumbered (numbered.Refused r)
-    ∷ saidClass (class.Refused r) ∷ saidWeights (weights.Refused r) ∷ saidWritten (written.Refused r) ∷ saidInserted (inserted.Refused r)
+    ∷ saidClass (class.Refused r) ∷ saidWeights (weights.Refused r) ∷ saidWritten (written.Refused r) ∷ saidUsed (used.Refused r)
     ∷ saidCell (cell.Refused r) ∷ saidWordLine (wordLine.Refused r) ∷ saidTableauLine (tableauLine.Refused r)
     ∷ saidPairLine (pairLine.Refused r) ∷ []
     ≡ replicate 13 (saidRefusal r)

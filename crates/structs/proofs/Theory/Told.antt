@@ -1,24 +1,24 @@
 -- Nothing of an answer is lost at the C interface: a struct, read as the C header says, says what the answer says, so no two answers share a struct. By
 -- refusals' Theory/Apart what is said fixes the answer.
---     refusal-numbers                  a refusal's number is 1 to 17, never 0
---     verdict-told, move-told, written-told, inserted-told, repeat-told, class-told, weights-told, junctions-told, numbered-told,
+--     refusal-numbers                  a refusal's number is 1 to 18, never 0
+--     verdict-told, move-told, written-told, used-told, repeat-told, class-told, weights-told, junctions-told, numbered-told,
 --     word-line-told, tableau-line-told, pair-line-told, cell-told     the answers
 -- Assumes nothing.
 use Prim.Native.Nat.{ℕ, _≤_}
 use mathlib.Core.Path.{_≡_, refl}
 use mathlib.Core.List.{List}
 use native.Mathlib.Omega.{arith}
-use Rattle.refusals.specs.Said.{number, place, saidRefusal, saidVerdict, saidMove, saidWritten, saidInserted, saidRepeat, saidClass, saidWeights, saidJunctions, saidNumbered, saidWordLine, saidTableauLine, saidPairLine, saidCell}
+use Rattle.refusals.specs.Said.{number, place, saidRefusal, saidVerdict, saidMove, saidWritten, saidUsed, saidRepeat, saidClass, saidWeights, saidJunctions, saidNumbered, saidWordLine, saidTableauLine, saidPairLine, saidCell}
 use Rattle.refusals.specs.declared.refusal.Refusal.{Refusal}
-use Rattle.refusals.specs.declared.refusal.Refusal.the-variants.{Rank, Length, Parts, Letter, Falling, Mark, Entry, Step, Index, Inversion, NoLetter, Full, Room, Line, Large, PastLast, Count}
+use Rattle.refusals.specs.declared.refusal.Refusal.the-variants.{Rank, Length, Parts, Letter, Falling, Mark, Entry, Step, Index, Inversion, NoLetter, Full, Room, Line, Large, PastLast, Count, Empty}
 use Rattle.refusals.specs.declared.answers.Verdict.{Verdict}
 use Rattle.refusals.specs.declared.answers.Verdict.the-variants as verdict
 use Rattle.refusals.specs.declared.answers.Move.{Move}
 use Rattle.refusals.specs.declared.answers.Move.the-variants as move
 use Rattle.refusals.specs.declared.answers.Written.{Written}
 use Rattle.refusals.specs.declared.answers.Written.the-variants as written
-use Rattle.refusals.specs.declared.answers.Inserted.{Inserted}
-use Rattle.refusals.specs.declared.answers.Inserted.the-variants as inserted
+use Rattle.refusals.specs.declared.answers.Used.{Used}
+use Rattle.refusals.specs.declared.answers.Used.the-variants as used
 use Rattle.refusals.specs.declared.answers.Repeat.{Repeat}
 use Rattle.refusals.specs.declared.answers.Repeat.the-variants as repeat
 use Rattle.refusals.specs.declared.answers.Class.{Class}
@@ -59,8 +59,9 @@ refused-told (Line p) vs = refl
 refused-told Large vs = refl
 refused-told PastLast vs = refl
 refused-told (Count p) vs = refl
+refused-told Empty vs = refl
 
-pub refusal-numbers : (r : Refusal) → (1 ≤ number r) × (number r ≤ 17)
+pub refusal-numbers : (r : Refusal) → (1 ≤ number r) × (number r ≤ 18)
 refusal-numbers Rank = (omega arith, omega arith)
 refusal-numbers Length = (omega arith, omega arith)
 refusal-numbers Parts = (omega arith, omega arith)
@@ -78,6 +79,7 @@ refusal-numbers (Line p) = (omega arith, omega arith)
 refusal-numbers Large = (omega arith, omega arith)
 refusal-numbers PastLast = (omega arith, omega arith)
 refusal-numbers (Count p) = (omega arith, omega arith)
+refusal-numbers Empty = (omega arith, omega arith)
 
 -- ---- answers
 
@@ -93,9 +95,9 @@ pub written-told : (a : Written) → countTells (countOf (saidWritten a)) ≡ sa
 written-told (written.Elements n) = refl
 written-told (written.Refused r) = refused-told r _
 
-pub inserted-told : (a : Inserted) → countTells (countOf (saidInserted a)) ≡ saidInserted a
-inserted-told (inserted.Used n) = refl
-inserted-told (inserted.Refused r) = refused-told r _
+pub used-told : (a : Used) → countTells (countOf (saidUsed a)) ≡ saidUsed a
+used-told (used.Cells n) = refl
+used-told (used.Refused r) = refused-told r _
 
 pub repeat-told : (a : Repeat) → countTells (countOf (saidRepeat a)) ≡ saidRepeat a
 repeat-told (repeat.Times n) = refl
