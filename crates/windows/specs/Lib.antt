@@ -1,0 +1,4 @@
+pub mod Departures
+pub mod Gaps
+pub mod Windows
+pub mod Cases
