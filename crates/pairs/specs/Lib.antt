@@ -1,2 +1,1 @@
-pub mod Laying
 pub mod Insertion
