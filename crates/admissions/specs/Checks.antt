@@ -2,10 +2,10 @@
 --     sizeJudgements, cellJudgements, roomJudgements     1 2 3; 4 5 6 17 7 8 of the used cells and the new letter; 12 and 13
 --     usedJudgements, freeJudgements     the same of the lists of a pair
 --     usedChecks, insertChecks       what 4 to 8 and 17, 12 and 13, and what all of them say
---     Held                           the used cells are there
+--     Sized                          1, 2 and 3 have passed: the rank is one, and the used cells are there
 --     all-letters                    4 of the used letters and then of the new one, whose place is their number
 --     used-checked                   4 to 8 and 17, 12 and 13 from the verdicts on cells and rooms
---     sizes-refused, sizes-passed, sizes-held     what follows from the verdict on 1, 2 and 3
+--     sizes-refused, sizes-passed, sizes-sized     what follows from the verdict on 1, 2 and 3
 --     checking                       the ruleset of the checks
 -- Assumes nothing.
 use Prim.Native.Nat.{ℕ, suc, _+_, _-_, _≤_}
@@ -21,7 +21,7 @@ use Rattle.hypoplactic.specs.Insertion.{Pair, pairWith}
 use Rattle.hypoplactic.specs.Replies.{Said, passed, orElse, first, refuseIf}
 use Rattle.hypoplactic.specs.Counts.{countsJudged}
 use Rattle.hypoplactic.specs.Judgements.{entriesJudged, fullJudged, lengthJudged, lettersFrom, lettersJudged, marksJudged, outside, pairRooms, rankJudged, recordingJudged, risingJudged, usedJudged}
-use Rattle.hypoplactic.proofs.Theory.Judgements.{length-judged, used-judged}
+use Rattle.hypoplactic.proofs.Theory.Judgements.{length-judged, rank-judged, used-judged}
 use Rattle.refusals.specs.Chains.{chained}
 use Rattle.refusals.specs.Running.{checksThen, checked-then, stops-there, goes-further, all-passing}
 use Rattle.refusals.specs.Said.{saidRefusal, saidVerdict}
@@ -58,8 +58,10 @@ abbrev pub insertChecks : ℕ → ℕ → ℕ → Pair → List ℕ → Said
 insertChecks n used a p cs =
     checksThen (sizeJudgements n used (length (p .letters)) (length (p .marks)) (length (p .recording))) (usedJudgements n used a p cs ++ freeJudgements used p)
 
--- At most 1,024 cells are used, and each of the three lists has them.
-pub record Held (used letters marks entries : ℕ) : Type 0 where
+-- A rank, at most 1,024 used cells, and each of the three lists has them.
+pub record Sized (n used letters marks entries : ℕ) : Type 0 where
+  pub low : 1 ≤ n
+  pub high : n ≤ 64
   pub few : used ≤ 1024
   pub in-letters : used ≤ letters
   pub in-marks : used ≤ marks
@@ -108,11 +110,18 @@ module _ {v : Verdict} (n used a : ℕ) (xs ms rs cs : List ℕ)
   pub sizes-passed : {s : Said} → v ≡ Passed → s ≡ usedChecks n used a (pairWith xs ms rs) cs → s ≡ insertChecks n used a (pairWith xs ms rs) cs
   sizes-passed q h = goes-further _ e _ _ q h
 
--- the used cells being there.
-pub sizes-held : {v : Verdict} (n used x y z : ℕ) → saidVerdict v ≡ first (sizeJudgements n used x y z) passed → v ≡ Passed → Held used x y z
-sizes-held n used x y z e q =
+-- the rank being one, and the used cells being there.
+pub sizes-sized : {v : Verdict} (n used x y z : ℕ) → saidVerdict v ≡ first (sizeJudgements n used x y z) passed → v ≡ Passed → Sized n used x y z
+sizes-sized n used x y z e q =
     let (rank, (short, (held, t))) = all-passing (sizeJudgements n used x y z) e q in
     let all = used-judged used (x ∷ y ∷ z ∷ []) .0 held in
-    record { few = length-judged used .0 short; in-letters = all .0; in-marks = all .1 .0; in-entries = all .1 .1 .0 }
+    record {
+      low = rank-judged n .0 rank .0;
+      high = rank-judged n .0 rank .1;
+      few = length-judged used .0 short;
+      in-letters = all .0;
+      in-marks = all .1 .0;
+      in-entries = all .1 .1 .0;
+    }
 
-pub ruleset checking = (all-letters, used-checked, sizes-refused, sizes-passed, sizes-held, needs)
+pub ruleset checking = (all-letters, used-checked, sizes-refused, sizes-passed, sizes-sized, needs)

@@ -20,10 +20,16 @@ ghost use Rattle.hypoplactic.specs.Insertion.{pairWith};
 ghost use Rattle.hypoplactic.specs.Replies.{first, passed};
 ghost use Rattle.hypoplactic.specs.Judgements.{lettersJudged};
 ghost use Rattle.refusals.specs.Said.{saidVerdict};
-ghost use Rattle.admissions.specs.Checks.{Held, cellJudgements, insertChecks, roomJudgements, sizeJudgements, usedChecks};
+ghost use Rattle.admissions.specs.Checks.{Sized, cellJudgements, insertChecks, roomJudgements, sizeJudgements, usedChecks};
 
 // 1, 2 and 3: what must pass before the used cells can be looked at.
-fn check_sizes(rank: usize, used: usize, letters: usize, marks: usize, entries: usize) -> Verdict
+pub fn check_sizes(
+    rank: usize,
+    used: usize,
+    letters: usize,
+    marks: usize,
+    entries: usize,
+) -> Verdict
     ensures { λ r. ⌜ saidVerdict r ≡ first (sizeJudgements rank used letters marks entries) passed ⌝ }
 {
     or_else(
@@ -86,7 +92,7 @@ fn check_used_cells(
     entries: &[u16],
     counts: &[u16; 64],
 ) -> Verdict
-    requires { ⌜ Held used (length (now letters)) (length (now marks)) (length (now entries)) ⌝ }
+    requires { ⌜ Sized rank used (length (now letters)) (length (now marks)) (length (now entries)) ⌝ }
     ensures { λ r. ⌜
         saidVerdict r
         ≡ usedChecks rank used letter (pairWith (now (letters .entry)) (now (marks .entry)) (now (entries .entry))) (now (counts .entry))

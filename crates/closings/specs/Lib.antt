@@ -1,0 +1,3 @@
+pub mod Oldest
+pub mod Lowering
+pub mod Closings
