@@ -17,6 +17,7 @@ use Rattle.hypoplactic.specs.Moves.{Move}
 use Rattle.hypoplactic.specs.Replies.{Passes, Said, gives, refused}
 use Rattle.hypoplactic.specs.TableauOperations.{insertRun, moveTableauRun, pairRun}
 use Rattle.products.specs.Products.{productRun}
+use Rattle.windows.specs.Departures.{departRun}
 
 -- The last of some values.
 abbrev pub lastOf : List ℕ → ℕ
@@ -24,7 +25,7 @@ lastOf [] = 0
 lastOf (k ∷ []) = k
 lastOf (n ∷ k ∷ ks) = lastOf (k ∷ ks)
 
--- Insertion, the pair of a word and the product give the number of cells alone, a reader of a line the rank before it.
+-- Insertion, a departure, the pair of a word and the product give the number of cells alone, a reader of a line the rank before it.
 abbrev pub cellsGiven : Said → ℕ
 cellsGiven (gives vs) = lastOf vs
 cellsGiven (refused k p) = 0
@@ -45,6 +46,9 @@ pub record CountsHeld : Type 0 where
   -- One letter inserted.
   pub inserted : (n used a : ℕ) (p : Pair) (cs : List ℕ) → length cs ≡ 64 → Passes ((insertRun n used a p cs) .0)
       → HeldBeside (insertRun n used a p cs)
+  -- The oldest letter departed.
+  pub departed : (n used : ℕ) (p : Pair) (cs : List ℕ) → length cs ≡ 64 → Passes ((departRun n used p cs) .0)
+      → HeldBeside (departRun n used p cs)
   -- A move, which leaves all letters that it was lent.
   pub moved : (n : ℕ) (m : Move) (xs ms cs : List ℕ) → length cs ≡ 64 → Passes ((moveTableauRun n m xs ms cs) .0)
       → (moveTableauRun n m xs ms cs) .1 .1 ≡ countsOf ((moveTableauRun n m xs ms cs) .1 .0)

@@ -5,7 +5,8 @@
 --     pair-kept, read-kept, read-pair-kept, insert-kept, move-kept      a refusal leaves the counts, and all lent memory, as they were
 --     seventeen-exactly                                                 17 passes exactly the counts of the letters, and else names the first wrong one
 -- Counts that a call takes are 64 numbers, as lent memory has; those that it only gives may be any. Which of them a move changes is in
--- MovedEntries. That a refused product leaves all outputs as they were is product-refused of products, Theory.ProductReplies. Assumes nothing.
+-- MovedEntries. That a refused product leaves all outputs as they were is product-refused of products, Theory.ProductReplies, and of a refused departure
+-- depart-kept of windows, Theory.Departures. Assumes nothing.
 use Prim.Native.Nat.{ℕ, suc, _+_, _≤_, _<_}
 use native.Mathlib.Omega.{arith}
 use mathlib.Core.Path.{_≡_, refl, sym, ap, ap₂, subst, _∙_}
@@ -13,7 +14,7 @@ use mathlib.Core.Logic.{_↔_, _⊎_, inl, inr}
 use mathlib.Core.Bool.{Bool, true, false, not, true≢false}
 use mathlib.Core.List.{List, [], _∷_, _++_}
 use lib.Dec.{eqb}
-use lib.ListN.{length, getD, take}
+use lib.ListN.{length, drop, getD, take}
 use lib.Seq.{length-take-le}
 use borrow.Author.Tests.{eq-eqb}
 use Rattle.grammar.specs.Reading.{Read, broken, got, readP, readT}
@@ -37,6 +38,9 @@ use Rattle.hypoplactic.proofs.Theory.Placing.{count-placed, length-placed, plac
 use Rattle.products.specs.Products.{factorsJudgements, productLetters, productMarks, productRun, productSays, productWord}
 use Rattle.products.proofs.Theory.ProductContents.{product-cells, product-counts}
 use Rattle.products.proofs.Theory.ProductReplies.{factors-passing, needed}
+use Rattle.windows.specs.Departures.{departRun, windowWord}
+use Rattle.windows.specs.Windows.{leave}
+use Rattle.windows.proofs.Theory.Calls.{accepted-afresh}
 use Rattle.letter_counts.specs.CountsHeld.{CountsHeld, HeldBeside, HeldIn, lastOf}
 use Rattle.letter_counts.proofs.Theory.MovedEntries.{move-passing}
 
@@ -179,6 +183,13 @@ insert-held n used a p cs e q =
     (ap (λ (ds : List ℕ). oneMore ds a) is ∙ put-counts (seat a xs) a xs (low, omega arith)
     ∙ sym (ap countsOf (needed (suc used) (putAt (seat a xs) a xs) (p .letters) cells)))
 
+-- A departure: what is left is the pair of the other letters, inserted afresh.
+depart-held : (n used : ℕ) (p : Pair) (cs : List ℕ) → length cs ≡ 64 → Passes ((departRun n used p cs) .0) → HeldBeside (departRun n used p cs)
+depart-held n used p cs e q =
+    let same = accepted-afresh n leave (record { used = used; pair = p; counts = cs }) e q in
+    subst HeldBeside (sym same)
+    (word-held n (drop 1 (windowWord used p)) p cs (subst (λ (r : Said × (Pair × List ℕ)). Passes (r .0)) same q))
+
 -- A move: the counts left are those of the letters left.
 move-held : (n : ℕ) (m : Move) (xs ms cs : List ℕ) → length cs ≡ 64 → Passes ((moveTableauRun n m xs ms cs) .0)
     → (moveTableauRun n m xs ms cs) .1 .1 ≡ countsOf ((moveTableauRun n m xs ms cs) .1 .0)
@@ -192,7 +203,7 @@ move-held n m xs ms cs e p =
 
 pub counts-held : CountsHeld
 counts-held =
-    record { pair = word-held; inserted = insert-held; moved = move-held; multiplied = product-held; read = read-held; read-pair = read-pair-held }
+    record { pair = word-held; inserted = insert-held; departed = depart-held; moved = move-held; multiplied = product-held; read = read-held; read-pair = read-pair-held }
 
 -- ---- refusals
 

@@ -1,6 +1,6 @@
 -- What the laws of letter counts are for: a tableau that one call has left another takes, and a stored tableau answers for its words. Each law has the claim
 -- that it rests on as a premise or cites it, so that none of them can say less unseen.
---     next-pair, next-inserted, next-moved, next-product, next-read, next-read-pair     from the claim CountsHeld: what each call leaves passes 17
+--     next-pair, next-inserted, next-departed, next-moved, next-product, next-read, next-read-pair     from the claim CountsHeld: what each leaves passes 17
 --     words-by-tableaux             from the law of column readings: the class of two words is that of their tableaux, as it is told from these
 --     weights-by-tableaux           the same of weights
 -- Assumes nothing.
@@ -29,6 +29,7 @@ use Rattle.hypoplactic.proofs.Theory.NormalForm.{word-reading}
 use Rattle.hypoplactic.proofs.Theory.OneClass.{class-joined}
 use Rattle.hypoplactic.proofs.Theory.Results.{same-class-result, weights-result}
 use Rattle.products.specs.Products.{productRun}
+use Rattle.windows.specs.Departures.{departRun}
 use Rattle.letter_counts.specs.CountsHeld.{CountsHeld, cellsGiven}
 use Rattle.letter_counts.specs.TwoTableaux.{sameClassTableauxSays, weightsTableauxSays}
 use Rattle.letter_counts.proofs.Theory.StoredCounts.{one-truth, weights-same, weights-stored}
@@ -51,6 +52,11 @@ module _ (held : CountsHeld) where
       → Passes (countsJudged ((insertRun n used a p cs) .1 .1)
       (take (cellsGiven ((insertRun n used a p cs) .0)) ((insertRun n used a p cs) .1 .0 .letters)))
   next-inserted n used a p cs e q = counts-pass _ _ (held .inserted n used a p cs e q)
+
+  -- and after a departure,
+  pub next-departed : (n used : ℕ) (p : Pair) (cs : List ℕ) → length cs ≡ 64 → Passes ((departRun n used p cs) .0)
+      → Passes (countsJudged ((departRun n used p cs) .1 .1) (take (cellsGiven ((departRun n used p cs) .0)) ((departRun n used p cs) .1 .0 .letters)))
+  next-departed n used p cs e q = counts-pass _ _ (held .departed n used p cs e q)
 
   -- a moved tableau,
   pub next-moved : (n : ℕ) (m : Move) (xs ms cs : List ℕ) → length cs ≡ 64 → Passes ((moveTableauRun n m xs ms cs) .0)
