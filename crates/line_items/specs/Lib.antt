@@ -1,3 +1,4 @@
 pub mod Letters
 pub mod Narrowed
 pub mod Items
+pub mod Limits

@@ -1,12 +1,12 @@
 // The program's whole output for its whole input, as a function on slices.
 use crate::printing::print_word;
 use buffers::copies::copy_bytes;
-use readers::word::read_word_line;
 use refusals::answers::Verdict;
 use refusals::answers::WordLine;
 use refusals::answers::Written;
 use refusals::numbers::check_room;
 use refusals::refusal::Refusal;
+use word_readers::word::read_word_line;
 use writers::line::write_refusal_line;
 ghost use Prim.Native.Nat.{_≤_};
 ghost use mathlib.Core.Path.{_≡_};

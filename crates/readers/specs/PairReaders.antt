@@ -32,7 +32,7 @@ use Rattle.scans.specs.declared.line.Line.{Line}
 use Rattle.scans.specs.declared.line.Line.the-variants as line
 use Rattle.line_items.specs.Items as items
 use Rattle.line_items.specs.Narrowed.{narrowed-run}
-use Rattle.readers.specs.Readers.{limit-part, limit-rank}
+use Rattle.line_items.specs.Limits.{limit-part, limit-rank}
 
 -- A pair whose letters are narrowed to bytes is replied to as the pair.
 pair-narrowed : (out : Pair) (counts : List ℕ) (n : ℕ) (xs ms rs : List ℕ) → n ≤ 64 → pairRead out counts n (map narrowed xs) ms rs ≡ pairRead out counts n xs ms rs

@@ -1,9 +1,8 @@
--- Values of a line into lent memory: the reply, and memory, from the verdict of the checks on.
---     word-refused, word-passed            a word
+-- A tableau of a line into lent memory: the reply, and memory, from the verdict of the checks on.
 --     Copied                               letters and marks are copied
 --     tableau-refused, tableau-passed      a tableau, and its letter counts
---     storing-words, storing-tableaux      their rulesets
--- Pairs are in PairStores. Assumes nothing.
+--     storing-tableaux                     the ruleset
+-- Pairs are in PairStores, words in word_readers. Assumes nothing.
 use Prim.Native.Nat.{ℕ}
 use mathlib.Core.Path.{_≡_}
 use mathlib.Core.List.{List, [], _∷_}
@@ -11,8 +10,8 @@ use native.Mathlib.Omega.{arith}
 use lib.ListN.{length}
 use borrow.Author.Needs.{needs}
 use Rattle.hypoplactic.specs.Words.{Accepted}
-use Rattle.hypoplactic.specs.Judgements.{roomJudged, tableauJudgements, wordJudgements}
-use Rattle.hypoplactic.specs.LineReadings.{tableauRead, wordRead}
+use Rattle.hypoplactic.specs.Judgements.{roomJudged, tableauJudgements}
+use Rattle.hypoplactic.specs.LineReadings.{tableauRead}
 use Rattle.hypoplactic.specs.Replies.{gives}
 use Rattle.hypoplactic.proofs.Theory.Judged.{tableau-passing}
 use Rattle.hypoplactic.proofs.Theory.Judgements.{alike-judged, room-judged}
@@ -24,17 +23,6 @@ use Rattle.refusals.specs.declared.answers.Verdict.{Verdict}
 use Rattle.refusals.specs.declared.answers.Verdict.the-variants.{Passed, Refused}
 use Rattle.words.specs.Given.{countGiven, counts-given}
 use Rattle.words.specs.Tables.{Table}
-
--- The verdict of 1, 2, 4 and 13.
-module _ {v : Verdict} (n : ℕ) (ws old : List ℕ) (e : saidVerdict v ≡ checksThen (wordJudgements n ws) (roomJudged (length ws) (length old) ∷ [])) where
-  pub word-refused : (r : Refusal) → v ≡ Refused r → (saidRefusal r, old) ≡ wordRead old n ws
-  word-refused r q = run-refused _ _ e _ _ old r q
-
-  pub word-passed : (now : List ℕ) → v ≡ Passed → now ≡ copied ws old → (gives (n ∷ length ws ∷ []), now) ≡ wordRead old n ws
-  word-passed now q h =
-      let (checks, (room, t)) = then-passing _ _ e q in run-passed _ _ e _ _ old now q (copied-all ws old now h (room-judged _ _ .0 room))
-
-pub ruleset storing-words = (word-refused, word-passed, needs)
 
 -- Letters and marks are copied into memory that held others.
 pub record Copied (xs ms letters marks xs′ ms′ : List ℕ) : Type 0 where

@@ -1,7 +1,7 @@
--- `readers::word::store_word` meets its contract, by the laws of specs/Stores. Assumes nothing.
-use Rattle.readers.specs.Stores.{storing-words}
-use Rattle.readers.proofs.word.store_word.Statement.{statement}
-use Rattle.readers.proofs.word.store_word.Tie as tie
+-- `word_readers::word::store_word` meets its contract, by the laws of specs/WordReaders. Assumes nothing.
+use Rattle.word_readers.specs.WordReaders.{storing-words}
+use Rattle.word_readers.proofs.word.store_word.Statement.{statement}
+use Rattle.word_readers.proofs.word.store_word.Tie as tie
 
 pub store-word-spec : {M : Type 1} → statement M
 store-word-spec =
