@@ -1,9 +1,9 @@
 /* luchtrav.h: quasi-ribbon words, for C.
  *
  * The kernel takes words over 1..n and answers with quasi-ribbon tableaux and their products, recording ribbons, moves
- * of the quasi-crystal, classes of the hypoplactic monoid with their words by number, and weights. Every function of
- * the library is proved: it ends, reads and writes inside the memory that it is lent and nowhere else, and answers as
- * this page says. (The compiler is trusted.)
+ * of the quasi-crystal, classes of the hypoplactic monoid with their words by number, and weights; it keeps the pair of
+ * the last letters of a stream. Every function of the library is proved: it ends, reads and writes inside the memory
+ * that it is lent and nowhere else, and answers as this page says. (The compiler is trusted.)
  *
  * WORDS, TABLEAUX, RIBBONS
  *   rank      1 to 64. It bounds the letters of words and tableaux and the indices of moves, and is no part of a class.
@@ -18,6 +18,11 @@
  *             names.
  *   recording its entries in ribbon order, 16 bits each: 1 to L, each once, rising at a step right and falling at a
  *             step down. Tableau and recording of one shape are a pair; each pair is that of one word.
+ *   window    the last letters of a stream, by their pair and its counts alone: letters arrive at the end, by
+ *             luchtrav_insert_letter, and the oldest leaves, by luchtrav_remove_oldest. The pair stands in the first
+ *             'used' elements of buffers that may be longer, and after each call it is that of the letters then in the
+ *             window. A window is full at 1,024 letters; who follows the last k, in buffers of k elements or more, lets
+ *             the oldest leave before a letter arrives, once k are there.
  *   line      a text that ends in one line feed, its fields parted by commas, numbers in decimal:
  *                 W,rank,L,letters                      a word
  *                 T,rank,L,letter,step,letter,..        a tableau, steps r (right) and d (down)
@@ -41,7 +46,7 @@
  *   - Buffers of one call must not overlap, unless both are 'const'.
  *   - With each function stands how many elements its outputs need; shorter ones are refused with 13. A result fills
  *     the first elements of a buffer; those after it keep their values, and are not looked at. Of counts that are given
- *     all 64 are written, whatever they held. Insertion and moves change the counts that they take.
+ *     all 64 are written, whatever they held. Insertion, departure and moves change the counts that they take.
  *   - After a refusal every buffer holds what it held before the call.
  *   - 1, 2 and 3 (below) are judged by the numbers of the call, before memory: where one of them refuses, no buffer
  *     is read or written, whatever its pointer and its number. A number of (size_t)-1 is refused like 1,025, and so are
@@ -77,6 +82,7 @@
  *    15 LUCHTRAV_TOO_LARGE      0           more than 20 cells or letters, where a class is counted
  *    16 LUCHTRAV_PAST_LAST      0           number not below the size of the class
  *    17 LUCHTRAV_BAD_COUNT      first such  count that is not how often its letter occurs
+ *    18 LUCHTRAV_EMPTY          0           departure from an empty window
  *
  *   Of two words or two tableaux each check searches the first, then the second, and places in the second count on from
  *   the first's length. 2 judges each by itself, but the cells of a product's factors together. The letter to be
@@ -123,7 +129,7 @@ extern "C" {
 
 /* The version; and the number at the end of the shared library's name, which goes one up whenever a program must be
  * compiled anew to run with the library. */
-#define LUCHTRAV_VERSION "0.8.0"
+#define LUCHTRAV_VERSION "0.9.0"
 #define LUCHTRAV_INTERFACE 3
 
 /* The limits; the last is that of letters or cells where a class is counted. */
@@ -160,7 +166,8 @@ enum luchtrav_refusal {
     LUCHTRAV_BAD_LINE = 14,
     LUCHTRAV_TOO_LARGE = 15,
     LUCHTRAV_PAST_LAST = 16,
-    LUCHTRAV_BAD_COUNT = 17
+    LUCHTRAV_BAD_COUNT = 17,
+    LUCHTRAV_EMPTY = 18
 };
 
 /* What the table says of a number, and "no such number" of one that is not in it; never NULL. It is C of this header
@@ -185,6 +192,7 @@ static inline const char *luchtrav_refusal_text(size_t number) {
     case LUCHTRAV_TOO_LARGE: return "more than 20 cells or letters, where a class is counted";
     case LUCHTRAV_PAST_LAST: return "number not below the size of the class";
     case LUCHTRAV_BAD_COUNT: return "count that is not how often its letter occurs";
+    case LUCHTRAV_EMPTY: return "departure from an empty window";
     default: return "no such number";
     }
 }
@@ -428,10 +436,24 @@ luchtrav_done luchtrav_check_counted_pair(size_t rank, const uint8_t *letters, s
 
 /* One letter into the pair that stands in the first 'used' elements of the three buffers, which may be longer, each
  * by itself; count is the new used count. The counts are those of the used letters: 64 times 0 before the first
- * insertion.
+ * insertion. In a window this is the arrival of a letter.
  * Changes one of the counts: that of the letter is one more. Needs used + 1 elements in each of the three buffers.
  * Refuses 1 2 3 4 5 6 17 7 8 12 13. */
 luchtrav_count luchtrav_insert_letter(size_t rank, size_t used, size_t letter,
+                                      uint8_t *letters, size_t letters_count,
+                                      uint8_t *marks, size_t marks_count,
+                                      uint16_t *entries, size_t entries_count, uint16_t *counts);
+
+/* The oldest letter, which is the one of the cell with the entry 1, leaves the window in the first 'used' elements of
+ * the three buffers, which may be longer, each by itself; count is the new used count. The first elements, so many as
+ * count says, then hold the pair of the letters that stay, as luchtrav_pair_of_word gives it for them; but none of them
+ * is inserted again: the cell goes, the cells after it move one back, each entry is one less, and the step that joins
+ * its neighbours is set anew. The vacated element, the last used one of each buffer, keeps its value, as those after it
+ * do. The counts are those of the used letters, before and after. 18 is judged last: a wrong rank (1) or wrong counts
+ * (17) of an empty window are told first.
+ * Changes one of the counts: that of the letter that leaves is one less. Needs no elements but the used ones.
+ * Refuses 1 2 3 4 5 6 17 7 8 18. */
+luchtrav_count luchtrav_remove_oldest(size_t rank, size_t used,
                                       uint8_t *letters, size_t letters_count,
                                       uint8_t *marks, size_t marks_count,
                                       uint16_t *entries, size_t entries_count, uint16_t *counts);

@@ -1,6 +1,6 @@
 /* What include/luchtrav.h says beside its functions: names and texts of the refusal numbers, the longest lines, the
  * places that moves change, words of two ranks, words of a class by number, letter counts, pairs and their lines, the
- * converter of former lines, NULL.
+ * converter of former lines, windows, NULL.
  *
  * Prints the table of refusals as the names and luchtrav_refusal_text have it, for scripts/packages_c to hold against
  * the table of the header's opening comment. Fails where something else is not as the header says.
@@ -30,7 +30,7 @@ static const struct {
     NAMED(LUCHTRAV_BAD_LETTER), NAMED(LUCHTRAV_FALLS), NAMED(LUCHTRAV_BAD_MARK), NAMED(LUCHTRAV_BAD_ENTRY),
     NAMED(LUCHTRAV_BAD_RECORDING), NAMED(LUCHTRAV_BAD_INDEX), NAMED(LUCHTRAV_INVERSION), NAMED(LUCHTRAV_NO_LETTER),
     NAMED(LUCHTRAV_FULL), NAMED(LUCHTRAV_NO_ROOM), NAMED(LUCHTRAV_BAD_LINE), NAMED(LUCHTRAV_TOO_LARGE),
-    NAMED(LUCHTRAV_PAST_LAST), NAMED(LUCHTRAV_BAD_COUNT),
+    NAMED(LUCHTRAV_PAST_LAST), NAMED(LUCHTRAV_BAD_COUNT), NAMED(LUCHTRAV_EMPTY),
 };
 
 static void texts(void) {
@@ -311,6 +311,48 @@ static void pair_lines(void) {
     FORMER(LUCHTRAV_BAD_RECORDING, 2, tableau, "N,4,4,3,2,1\n");
 }
 
+/* A window with room for three letters, through which 4323 passes; the vacated elements keep their values. Then a
+ * window that is full at 1,024 letters. */
+static void windows(void) {
+    const uint8_t word[] = {4, 3, 2, 3}, cells[] = {2, 3, 3, 9}, steps[] = {0, 1, 0, 9};
+    const uint16_t numbers[] = {2, 1, 3, 9};
+    uint8_t letters[] = {9, 9, 9, 9}, marks[] = {9, 9, 9, 9};
+    uint16_t entries[] = {9, 9, 9, 9}, counts[COUNTS] = {0};
+#define ARRIVES(used, letter) \
+    luchtrav_insert_letter(4, used, letter, letters, 3, marks, 3, entries, 3, counts)
+#define LEAVES(rank, used) luchtrav_remove_oldest(rank, used, letters, 3, marks, 3, entries, 3, counts)
+    wrote("an empty window", LEAVES(4, 0), LUCHTRAV_EMPTY, 0, 0);
+    wrote("an empty window of no rank", LEAVES(65, 0), LUCHTRAV_BAD_RANK, 0, 0);
+    for (size_t i = 0; i < 3; i++) wrote("a letter arrives", ARRIVES(i, word[i]), LUCHTRAV_OK, 0, i + 1);
+    wrote("no room for another", ARRIVES(3, word[3]), LUCHTRAV_NO_ROOM, 4, 0);
+    wrote("more used than there are", LEAVES(4, 4), LUCHTRAV_BAD_PARTS, 0, 0);
+    wrote("the oldest leaves", LEAVES(4, 3), LUCHTRAV_OK, 0, 2);
+    expect("the vacated elements", (size_t)letters[2] + marks[2] + entries[2], 4 + 1 + 1);
+    counted("without 4", counts, "011");
+    wrote("another arrives", ARRIVES(2, word[3]), LUCHTRAV_OK, 0, 3);
+    expect("letters of 323", (size_t)memcmp(letters, cells, sizeof cells), 0);
+    expect("marks of 323", (size_t)memcmp(marks, steps, sizeof steps), 0);
+    expect("entries of 323", (size_t)memcmp(entries, numbers, sizeof numbers), 0);
+    counted("323", counts, "012");
+    counts[5] = 1;
+    wrote("a wrong count", LEAVES(4, 3), LUCHTRAV_BAD_COUNT, 5, 0);
+    counts[5] = 0;
+    for (size_t i = 3; i > 0; i--) wrote("all leave", LEAVES(4, i), LUCHTRAV_OK, 0, i - 1);
+    counted("no letter", counts, "");
+    counts[5] = 1;
+    wrote("a wrong count of an empty window", LEAVES(4, 0), LUCHTRAV_BAD_COUNT, 5, 0);
+
+    static uint8_t ones[L], level[L];
+    static uint16_t rising[L], of_ones[COUNTS] = {L};
+    for (size_t i = 0; i < L; i++) ones[i] = 1, rising[i] = (uint16_t)(i + 1);
+#define FULL ones, L, level, L, rising, L, of_ones
+    wrote("a full window", luchtrav_insert_letter(4, L, 2, FULL), LUCHTRAV_FULL, L, 0);
+    wrote("one leaves it", luchtrav_remove_oldest(4, L, FULL), LUCHTRAV_OK, 0, L - 1);
+    wrote("and one arrives", luchtrav_insert_letter(4, L - 1, 2, FULL), LUCHTRAV_OK, 0, L);
+    expect("the last letter", ones[L - 1], 2);
+    expect("the first entry", rising[0], 1);
+}
+
 /* The factors of a product without memory, their letters and marks as many as told. */
 static size_t product_says(size_t first, size_t first_marks, size_t second, size_t second_marks) {
     static const uint16_t none[COUNTS] = {0};
@@ -339,6 +381,9 @@ static void null(void) {
     expect("parts of the first factor", product_says(2, (size_t)-1, 3, 3), LUCHTRAV_BAD_PARTS);
     expect("parts of the second factor", product_says(2, 2, 3, 2), LUCHTRAV_BAD_PARTS);
     expect("used", luchtrav_insert_letter(4, 4, 1, NULL, 4, NULL, 3, NULL, 4, NULL).number, LUCHTRAV_BAD_PARTS);
+    wrote("an empty window", luchtrav_remove_oldest(4, 0, NULL, 0, NULL, 0, NULL, 0, given), LUCHTRAV_EMPTY, 0, 0);
+    expect("used", luchtrav_remove_oldest(4, 1, NULL, 0, NULL, 1, NULL, 1, NULL).number, LUCHTRAV_BAD_PARTS);
+    expect("many", luchtrav_remove_oldest(4, L + 1, NULL, 0, NULL, 0, NULL, 0, NULL).number, LUCHTRAV_BAD_LENGTH);
     expect("no counts", luchtrav_check_counted_tableau(4, NULL, 4, NULL, 3, NULL).number, LUCHTRAV_BAD_PARTS);
     undefined("no counts to move", luchtrav_raise_tableau(4, 1, NULL, 1025, NULL, 0, NULL), LUCHTRAV_BAD_LENGTH);
     expect("room", luchtrav_answer(NULL, 4097, NULL, 0).place, sizeof "E,14,4096");
@@ -354,6 +399,7 @@ int main(void) {
     two_tableaux();
     pairs();
     pair_lines();
+    windows();
     null();
     return wrong != 0;
 }

@@ -45,7 +45,7 @@ class Case(unittest.TestCase):
         """The refusal that a call must end in."""
         with self.assertRaises(lu.Refusal) as raised:
             function(*arguments)
-        self.assertEqual(raised.exception.function, function.__name__)
+        self.assertEqual(raised.exception.function, function.__qualname__)
         return raised.exception
 
     def refuses(self, number: int, place: int, function: Callable[..., Any], *arguments: Any) -> None:

@@ -31,6 +31,7 @@ class Sequences(Case):
             self.assertEqual(lu.word_of_pair(4, *parts), word)
             self.assertEqual(lu.write_pair_line(4, *parts), b"P,4,4,2,d,3,r,3,d,4,3,2,4,1\n")
             self.assertEqual(lu.insert_letter(4, 1, *parts), lu.Pair([1, 2, 3, 3, 4], [0, 1, 1, 0, 1], [5, 3, 2, 4, 1]))
+            self.assertEqual(lu.remove_oldest(4, *parts), lu.Pair([2, 3, 3], [0, 1, 0], [2, 1, 3]))
             self.assertEqual(lu.product(4, parts[:2], parts[:2]), lu.product(4, TABLEAU, TABLEAU))
             self.assertEqual(lu.product(4, *parts[:2], *parts[:2]), lu.product(4, TABLEAU, TABLEAU))
         self.assertEqual(lu.write_pair_line(4, range(1, 4), [0] * 3, range(1, 4)), b"P,4,3,1,r,2,r,3,1,2,3\n")
@@ -69,6 +70,7 @@ class Sequences(Case):
         lu.raise_word(3, 2, word)
         lu.raise_tableau(4, 1, letters, marks)
         lu.insert_letter(4, 1, letters, marks, entries)
+        lu.remove_oldest(4, letters, marks, entries)
         lu.product(4, letters, marks, letters, marks)
         lent = bytearray(b"\3\1\3\1")
         lu.raise_word(3, 2, lent)
@@ -85,6 +87,7 @@ class Sequences(Case):
                 (lu.check_word, 4, other), (lu.same_class, 4, [1], 4, other), (lu.column_reading, 4, other, [0, 0]), (lu.pair_of_word, 4, other),
                 (lu.class_number, 4, other), (lu.class_size, 4, other, [0, 0]), (lu.class_word, 4, other, [0, 0], 0),
                 (lu.check_pair, 4, other, [0, 0], [1, 2]), (lu.write_pair_line, 4, other, [0, 0], [1, 2]), (lu.Tableau, other, [0, 0]),
+                (lu.insert_letter, 4, 1, other, [0, 0], [1, 2]), (lu.remove_oldest, 4, other, [0, 0], [1, 2]),
                 (lu.Pair, [1, 2], [0, 0], other), (lu.product, 4, ([1], [0]), (other, [0])), (lu.product, 4, ([1], [0]), ([1], other)),
             ]
             for call, *arguments in calls:
@@ -104,6 +107,7 @@ class Numbers(Case):
             self.refuses(6, 1, lu.check_tableau, 4, [1, 2], [0, much])
         for much in (2**16, 2**16 + 1, 2**32 + 1, 2**64 + 1, 10**40, -1, -65535, -(10**40)):
             self.refuses(7, 1, lu.check_pair, 4, [1, 2], [0, 0], [1, much])
+            self.refuses(7, 1, lu.remove_oldest, 4, [1, 2], [0, 0], [1, much])
         for much in (2**64, 2**64 + 1, 10**40, -1, -(2**64) + 1):
             self.refuses(1, 0, lu.check_word, much, [1])
             self.refuses(9, 0, lu.raise_word, 4, much, [1])
@@ -237,6 +241,7 @@ class Values(Case):
         lu.check_pair(4, PAIR)
         self.assertEqual(lu.word_of_pair(4, PAIR), [4, 3, 2, 3])
         self.assertEqual(lu.insert_letter(4, 1, PAIR), lu.insert_letter(4, 1, LETTERS, MARKS, ENTRIES))
+        self.assertEqual(lu.remove_oldest(4, PAIR), lu.remove_oldest(4, LETTERS, MARKS, ENTRIES))
         line = b"P,4,4,2,d,3,r,3,d,4,3,2,4,1\n"
         self.assertEqual(lu.write_pair_line(4, PAIR), line)
         self.refuses(4, 3, lu.check_pair, 3, PAIR)
@@ -249,12 +254,15 @@ class Values(Case):
             self.assertEqual(lu.write_pair_line(4, TABLEAU, entries=entries), line)
             self.assertEqual(lu.insert_letter(4, 1, TABLEAU, entries), lu.insert_letter(4, 1, PAIR))
             self.assertEqual(lu.insert_letter(4, 1, TABLEAU, entries=entries), lu.insert_letter(4, 1, PAIR))
+            self.assertEqual(lu.remove_oldest(4, TABLEAU, entries), lu.remove_oldest(4, PAIR))
+            self.assertEqual(lu.remove_oldest(4, TABLEAU, entries=entries), lu.remove_oldest(4, PAIR))
         self.refuses(8, 1, lu.check_pair, 4, TABLEAU, [1, 2, 3, 4])
         for other in ((PAIR, MARKS), (PAIR, MARKS, ENTRIES), (LETTERS, MARKS), (LETTERS,), (TABLEAU,), (TABLEAU, MARKS, ENTRIES), (TABLEAU, TABLEAU)):
             self.assertRaises(TypeError, lu.check_pair, 4, *other)
             self.assertRaises(TypeError, lu.word_of_pair, 4, *other)
             self.assertRaises(TypeError, lu.write_pair_line, 4, *other)
             self.assertRaises(TypeError, lu.insert_letter, 4, 1, *other)
+            self.assertRaises(TypeError, lu.remove_oldest, 4, *other)
         self.assertRaises(TypeError, lu.insert_letter, 4, LETTERS, MARKS, ENTRIES, 1)
 
 

@@ -110,6 +110,7 @@ class Buffers(Case):
             self.assertEqual(lu.raise_word(3, 2, word), lu.MovedWord([2, 1, 3, 1], 0))
             self.assertEqual(lu.raise_tableau(4, 1, letters, marks), lu.MovedTableau(lu.Tableau([1, 3], [0, 1]), 0))
             self.assertEqual(lu.insert_letter(4, 1, letters, marks, entries), lu.Pair([1, 2, 3], [0, 1, 1], [3, 2, 1]))
+            self.assertEqual(lu.remove_oldest(4, letters, marks, entries), lu.Pair([2], [0], [1]))
             self.assertEqual(lu.product(4, letters, marks, letters, marks), lu.Tableau([2, 2, 3, 3], [0, 0, 1, 0]))
             self.assertEqual([part.tobytes() for part in (word, letters, marks, entries)], before)
             word.append(1)  # No buffer is held after the call.

@@ -143,6 +143,7 @@ class Judged(Case):
             (lu.lower_count_tableau, 4, 1, tableau), (lu.class_size, 4, tableau), (lu.class_word, 4, tableau, 0), (lu.check_counted_pair, 4, pair),
             (lu.check_counted_pair, 4, tableau, ENTRIES), (lu.check_counted_pair, 4, *tableau, ENTRIES, tableau.counts), (lu.word_of_pair, 4, pair),
             (lu.word_of_pair, 4, tableau, ENTRIES), (lu.insert_letter, 4, 1, pair), (lu.insert_letter, 4, 1, tableau, ENTRIES),
+            (lu.remove_oldest, 4, pair), (lu.remove_oldest, 4, tableau, ENTRIES),
             (lu.product, 4, tableau, TABLEAU), (lu.product, 4, tableau, LETTERS, MARKS), (lu.same_class_of_tableaux, 4, tableau, 4, TABLEAU),
             (lu.compare_weights_of_tableaux, 4, tableau, 4, TABLEAU),
         ]
@@ -218,6 +219,7 @@ class Judged(Case):
         tableau = lu.Tableau(LETTERS, MARKS, counts)
         lu.raise_tableau(4, 1, tableau)
         lu.insert_letter(4, 1, tableau, ENTRIES)
+        lu.remove_oldest(4, tableau, ENTRIES)
         self.assertEqual((tableau.counts, tuple(counts)), (TABLEAU.counts,) * 2)
 
     def test_no_counts(self) -> None:

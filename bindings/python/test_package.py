@@ -12,7 +12,7 @@ import unittest
 
 from support import HERE, PACKAGES, Case, lu, run_python
 
-from luchtrav import classes, lines, places, tableaux, two_tableaux, words
+from luchtrav import classes, lines, pairs, places, tableaux, two_tableaux, window, words
 from luchtrav.library import FUNCTIONS
 
 
@@ -21,7 +21,7 @@ class Package(Case):
         with open(places.HEADER) as file:
             text = re.sub(r"/\*.*?\*/", "", file.read(), flags=re.S)
         declared = {name: inside.count(",") + 1 for name, inside in re.findall(r"luchtrav_\w+ luchtrav_(\w+)\(([^)]*)\);", text)}
-        self.assertEqual(len(declared), 39)
+        self.assertEqual(len(declared), 40)
         self.assertEqual(declared, {name: len(parameters) for name, (_, parameters) in FUNCTIONS.items()})
         offered = {name for name in lu.__all__ if name[0].islower()}
         self.assertEqual(set(declared), offered)
@@ -32,11 +32,12 @@ class Package(Case):
     def test_order_of_parameters(self) -> None:
         """As in C: what is no memory first, in the same order."""
         self.assertEqual(list(inspect.signature(lu.insert_letter).parameters), ["rank", "letter", "letters", "marks", "entries"])
+        self.assertEqual(list(inspect.signature(lu.remove_oldest).parameters), ["rank", "letters", "marks", "entries"])
         self.assertEqual(list(inspect.signature(lu.product).parameters)[:3], ["rank", "first", "second"])
 
     def test_examples(self) -> None:
         """Those that docstrings have."""
-        for module, count in ((words, 5), (lines, 2), (tableaux, 3), (two_tableaux, 3), (classes, 3)):
+        for module, count in ((words, 5), (lines, 2), (tableaux, 3), (two_tableaux, 3), (classes, 3), (pairs, 1), (window, 5)):
             failed, tried = doctest.testmod(module, extraglobs={"luchtrav": lu})
             self.assertEqual((failed, tried), (0, count))
 

@@ -33,6 +33,7 @@ class Numbers(Case):
         self.refuses(14, 3, lu.read_tableau_line, b"T,04")
         self.refuses(15, 0, lu.class_number, 4, [1] * 21)
         self.refuses(16, 0, lu.class_word, 4, [2, 3, 3, 4], [0, 1, 0, 1], 5)
+        self.refuses(18, 0, lu.remove_oldest, 4, [], [], [])
 
     def test_insertion(self) -> None:
         self.refuses(4, 2, lu.insert_letter, 4, 5, [1, 2], [0, 0], [1, 2])
@@ -97,6 +98,9 @@ class Exceptions(Case):
             (None, lu.check_word, (65, [1, 9])),
             (None, lu.raise_word, (4, 4, [1])),
             (None, lu.insert_letter, (4, 1, [1], [0], [])),
+            (9, lu.remove_oldest, (4, [1, 9], [0, 0], [1, 2])),
+            (1, lu.remove_oldest, (4, lu.Pair(*shape, [2, 1]))),
+            (None, lu.remove_oldest, (4, lu.Pair([], [], []))),
             (None, lu.read_word_line, (b"W,4,1,5\n",)),
             (None, lu.read_pair_line, (b"P,4,1,5,1\n",)),
             (None, lu.convert_lines, (b"T,4,1,5\n", b"N,1,1\n")),
@@ -147,7 +151,7 @@ class Meanings(Case):
         """MEANINGS, the docstring that help(luchtrav) shows, and the header have the same texts."""
         with open(HEADER) as file:
             header = texts_in(re.sub(r"/\*.*?\*/", "", file.read(), flags=re.S))
-        self.assertEqual(sorted(lu.MEANINGS), list(range(1, 18)))
+        self.assertEqual(sorted(lu.MEANINGS), list(range(1, 19)))
         self.assertEqual({0: "success", **lu.MEANINGS}, header)
         shown = {int(number): text for number, text in re.findall(r"^ {4,5}(\d+)  (.*)$", str(lu.__doc__), re.M)}
         self.assertEqual(shown, lu.MEANINGS)

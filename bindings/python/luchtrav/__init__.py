@@ -7,7 +7,8 @@ dicts, iterators and strings are a TypeError. Words and readings come back as li
 letters and marks wherever these are taken, one Pair for letters, marks and entries. pair_of_word gives a word's Pair: its `tableau`, and the `entries` of
 its recording ribbon. With both go letter counts, that of the letter a at place a - 1 of 64, which nobody need write: a Tableau or a Pair that comes back
 has them, and those that are made from letters count these. A move gives two things, what it made and the place that it changed:
-`word, place = luchtrav.raise_word(..)`. What the caller hands over is never changed. Lines are bytes, in and out.
+`word, place = luchtrav.raise_word(..)`. What the caller hands over is never changed. Lines are bytes, in and out. A Window follows the last letters of a
+stream, and is the one thing here that changes: its push lets a letter arrive, its pop lets the oldest leave.
 
 A refusal of the kernel is the exception Refusal, a ValueError, with a number and a place. Places count from 0; the checks run in rising number,
 except that 14 comes first, and 17, 15 and 16 directly after 6. MEANINGS has the numbers too:
@@ -29,11 +30,13 @@ except that 14 comes first, and 17, 15 and 16 directly after 6. MEANINGS has the
     15  more than 20 cells or letters, where a class is counted
     16  number not below the size of the class
     17  count that is not how often its letter occurs
+    18  departure from an empty window
 
 4 to 8 have the first such place, 17 the letter minus 1, 12 the place 1024, 14 that of the byte or the line's length, all others 0. Of two words,
 tableaux or texts the first is searched first, and places in the second count on from the first's length, those of counts from 64; 2 judges each by
 itself, but the cells of a product's factors together. A letter to be inserted has the number of cells as its place. Memory for outputs is lent by the
-binding, so that 13 does not arise. 17 arises only from counts that were stored and given to a Tableau, a Pair or a counted check.
+binding, so that 13 arises only where a letter is pushed into a full Window of a size below 1,024, with that size plus 1 as its place. 17 arises only from
+counts that were stored and given to a Tableau, a Pair or a counted check.
 
 A letter that fits no byte is handed on as 0, a mark as 255, an entry that does not fit 16 bits as 0, a count as 65,535, a rank, index or inserted letter
 that fits no size_t as 0: so the kernel refuses them (4, 6, 7, 17, 1, 9, 4) at their place. A place that fits no size_t is one without a cell, and the
@@ -44,7 +47,7 @@ from .lines import (
     answer, convert_lines, read_pair_line, read_tableau_line, read_word_line, tableau_line_of_word, write_junction_line, write_pair_line,
     write_refusal_line, write_tableau_line, write_word_line,
 )
-from .pairs import check_counted_pair, check_pair, insert_letter, word_of_pair
+from .pairs import check_counted_pair, check_pair, insert_letter, remove_oldest, word_of_pair
 from .places import HEADER as _HEADER, version_in as _version_in
 from .refusal import MEANINGS, Refusal
 from .tableaux import (
@@ -52,6 +55,7 @@ from .tableaux import (
 )
 from .two_tableaux import compare_weights_of_tableaux, product, same_class_of_tableaux
 from .values import Cell, Junctions, MovedTableau, MovedWord, Pair, Tableau
+from .window import Window
 from .words import (
     check_word, compare_weights, junctions, lower_count_word, lower_word, pair_of_word, raise_count_word, raise_word, same_class,
 )
@@ -59,10 +63,10 @@ from .words import (
 __version__ = _version_in(_HEADER)
 
 __all__ = [
-    "Cell", "Junctions", "MEANINGS", "MovedTableau", "MovedWord", "Pair", "Refusal", "Tableau", "answer", "cell_at", "check_counted_pair",
+    "Cell", "Junctions", "MEANINGS", "MovedTableau", "MovedWord", "Pair", "Refusal", "Tableau", "Window", "answer", "cell_at", "check_counted_pair",
     "check_counted_tableau", "check_pair", "check_tableau", "check_word", "class_number", "class_size", "class_word", "column_reading",
     "compare_weights", "compare_weights_of_tableaux", "convert_lines", "insert_letter", "junctions", "look", "lower_count_tableau", "lower_count_word",
     "lower_tableau", "lower_word", "pair_of_word", "product", "raise_count_tableau", "raise_count_word", "raise_tableau", "raise_word", "read_pair_line",
-    "read_tableau_line", "read_word_line", "same_class", "same_class_of_tableaux", "tableau_line_of_word", "word_of_pair", "write_junction_line",
-    "write_pair_line", "write_refusal_line", "write_tableau_line", "write_word_line",
+    "read_tableau_line", "read_word_line", "remove_oldest", "same_class", "same_class_of_tableaux", "tableau_line_of_word", "word_of_pair",
+    "write_junction_line", "write_pair_line", "write_refusal_line", "write_tableau_line", "write_word_line",
 ]

@@ -48,6 +48,7 @@ FUNCTIONS: Dict[str, Tuple[Any, List[Any]]] = {
     "check_pair": (Done, N + B + B + B),
     "check_counted_pair": (Done, N + B + B + B + C),
     "insert_letter": (Count, N + N + N + B + B + B + C),
+    "remove_oldest": (Count, N + N + B + B + B + C),
     "word_of_pair": (Count, N + B + B + B + C + B),
     "tableau_line_of_word": (Count, N + B + B),
     "write_word_line": (Count, N + B + B),

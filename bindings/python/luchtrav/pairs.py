@@ -1,6 +1,7 @@
 """Operations on pairs: a tableau's letters and marks with the entries of a recording ribbon beside them; a Tableau and the entries; or one Pair."""
 from __future__ import annotations
 
+from array import array
 from typing import List, Optional, Tuple, Union, overload
 
 from .buffers import Integers
@@ -67,6 +68,15 @@ def check_counted_pair(
     ask("check_counted_pair", as_number(rank), *parts, letters=(letters,), marks=(marks,), entries=(entries,), counts=(stored,))
 
 
+def used_cells(name: str, rank: int, parts: Tuple[array[int], ...]) -> int:
+    """How many cells a pair has that is lent for a letter to arrive or to leave. There the library takes longer parts, whose last elements are no cells;
+    here they refuse as those of any other pair."""
+    used = len(parts[0])
+    if any(len(part) != used for part in parts):
+        ask("check_pair", as_number(rank), *parts, caller=name)
+    return used
+
+
 @overload
 def insert_letter(rank: int, letter: int, pair: Pair, /) -> Pair: ...
 @overload
@@ -82,14 +92,37 @@ def insert_letter(rank: int, letter: int, letters: Letters, marks: Optional[Inte
     letters, marks, entries, stored = parts_of(letters, marks, entries)
     parts = as_letters(letters), as_marks(marks), as_entries(entries)
     counts = as_counts(stored, parts[0])
-    used = len(parts[0])
-    if any(len(part) != used for part in parts):
-        # The library's insertion takes longer parts, whose last elements are no cells; here they refuse as those of any other pair.
-        ask("check_pair", as_number(rank), *parts, caller="insert_letter")
+    used = used_cells("insert_letter", rank, parts)
     for part in parts:
         part.append(0)
     numbers, given = (as_number(rank), used, as_number(letter)), (letters, [letter])
     ask("insert_letter", *numbers, *parts, counts, letters=given, marks=(marks,), entries=(entries,), counts=(stored,))
+    return pair_in(*parts, counts)
+
+
+@overload
+def remove_oldest(rank: int, pair: Pair, /) -> Pair: ...
+@overload
+def remove_oldest(rank: int, tableau: Tableau, entries: Integers, /) -> Pair: ...
+@overload
+def remove_oldest(rank: int, tableau: Tableau, /, *, entries: Integers) -> Pair: ...
+@overload
+def remove_oldest(rank: int, letters: Integers, marks: Integers, entries: Integers) -> Pair: ...
+def remove_oldest(rank: int, letters: Letters, marks: Optional[Integers] = None, entries: Optional[Integers] = None) -> Pair:
+    """The pair, given as letters, marks and entries, as a Tableau and entries or as a Pair, without the oldest letter, which has the entry 1: the pair of its
+    word without the first letter; what the caller gave stays. Its three parts must be equally long. A Window keeps a pair in memory of its own, for many such
+    calls. Refuses 1 to 6, 17, 7, 8, and 18 where there is no letter.
+
+    >>> luchtrav.remove_oldest(4, luchtrav.pair_of_word(4, [4, 3, 2, 3])) == luchtrav.pair_of_word(4, [3, 2, 3])
+    True
+    """
+    letters, marks, entries, stored = parts_of(letters, marks, entries)
+    parts = as_letters(letters), as_marks(marks), as_entries(entries)
+    counts = as_counts(stored, parts[0])
+    used = used_cells("remove_oldest", rank, parts)
+    ask("remove_oldest", as_number(rank), used, *parts, counts, letters=(letters,), marks=(marks,), entries=(entries,), counts=(stored,))
+    for part in parts:
+        part.pop()
     return pair_in(*parts, counts)
 
 

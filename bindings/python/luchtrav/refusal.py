@@ -20,6 +20,7 @@ MEANINGS: Dict[int, str] = {
     15: "more than 20 cells or letters, where a class is counted",
     16: "number not below the size of the class",
     17: "count that is not how often its letter occurs",
+    18: "departure from an empty window",
 }
 
 

@@ -1,8 +1,9 @@
-// The C interface to pairs of a tableau and a recording ribbon: checks, one letter inserted, the way back. Each function is one of the kernel's, its answer as a
-// struct of numbers.
+// The C interface to pairs of a tableau and a recording ribbon: checks, one letter inserted, the oldest one removed, the way back. Each function is one of the
+// kernel's, its answer as a struct of numbers.
+use departures::departure::remove_oldest;
 use inverses::way_back::word_of_pair;
 use pairs::insertion::insert_letter;
-use structs::counts::count_inserted;
+use structs::counts::count_used;
 use structs::counts::count_written;
 use structs::counts::done_verdict;
 use structs::replies::CountReply;
@@ -15,6 +16,7 @@ ghost use Rattle.hypoplactic.specs.Judgements.{countedPairJudgements, pairJudge
 ghost use Rattle.hypoplactic.specs.Replies.{first, passed};
 ghost use Rattle.hypoplactic.specs.TableauOperations.{insertRun, wordRun};
 ghost use Rattle.structs.specs.Replies.{countOf, doneOf, replied};
+ghost use Rattle.windows.specs.Departures.{departRun};
 
 // 1 to 8 of a pair.
 #[no_mangle]
@@ -69,7 +71,26 @@ pub extern "C" fn luchtrav_insert_letter(
         (now (counts .entry)))
         ⌝ }
 {
-    count_inserted(insert_letter(rank, used, letter, letters, marks, entries, counts))
+    count_used(insert_letter(rank, used, letter, letters, marks, entries, counts))
+}
+
+// The oldest letter leaves the window in the first cells of three lent lists, and the lent counts.
+#[no_mangle]
+pub extern "C" fn luchtrav_remove_oldest(
+    rank: usize,
+    used: usize,
+    letters: &mut [u8],
+    marks: &mut [u8],
+    entries: &mut [u16],
+    counts: &mut [u16; 64],
+) -> CountReply
+    ensures { λ r. ⌜
+        (r, (pairWith (now (letters .exit)) (now (marks .exit)) (now (entries .exit)), now (counts .exit)))
+        ≡ replied countOf
+        (departRun rank used (pairWith (now (letters .entry)) (now (marks .entry)) (now (entries .entry))) (now (counts .entry)))
+        ⌝ }
+{
+    count_used(remove_oldest(rank, used, letters, marks, entries, counts))
 }
 
 // The word of a pair, into a lent word.
