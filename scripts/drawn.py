@@ -25,6 +25,7 @@ from lent_memory import Memory
 from replies import FEW, few_names, few_value, plain_reply
 
 PART = 10000
+NUMBERS = range(19)
 TRACE = (lambda call: print(call, flush=True)) if "--trace" in sys.argv else None
 
 
@@ -111,10 +112,10 @@ def all_parts(arguments):
 
 def table(came, functions):
     """How often each function replied each number; a point where the number is none of the function's."""
-    lines = ["%-27s" % "function" + "".join("%7d" % number for number in range(18))]
+    lines = ["%-27s" % "function" + "".join("%7d" % number for number in NUMBERS)]
     for name, function in functions.items():
         listed = [0] + function.refusals
-        lines.append("%-27s" % name + "".join("%7s" % (came[name, number] if number in listed else ".") for number in range(18)))
+        lines.append("%-27s" % name + "".join("%7s" % (came[name, number] if number in listed else ".") for number in NUMBERS))
     for name, (field, values) in FEW.items():
         lines.append("%s: %s" % (name, ", ".join("%s %d %d times" % (field, value, came[name, "value", value]) for value in values)))
     return "\n".join(lines)

@@ -54,7 +54,7 @@ def break_one_length(draw, input):
 
 
 def break_parts(draw, input):
-    """One part of a tableau or pair shorter or longer than the others; in insertion, a used count above one of them; a mark given to another factor."""
+    """One part of a tableau or pair shorter or longer than the others; of used cells, a used count above one of them; a mark given to another factor."""
     name = draw.one_of(lists_of(input, [*TABLEAUX, "entries"]))
     values = input[name]
     if "first_marks" in input and input["first_marks"] and draw.below(4) == 0:
@@ -164,6 +164,11 @@ def break_full(draw, input):
     input["used"] = 1024
 
 
+def break_empty(draw, input):
+    """A window without a letter, whatever its lists hold."""
+    input["used"] = 0
+
+
 def break_counts(draw, letters, counts, input):
     """Counts that are not those of the letters: one of them wrong, often the first, the last or a letter's; one of a letter counted as of another; those of
     more letters, a new one or cells that are not in use; none; or any."""
@@ -188,7 +193,7 @@ def break_counts(draw, letters, counts, input):
 BREAKS = {
     "rank": break_rank, "length": break_length, "one length": break_one_length, "parts": break_parts, "letter": break_letter,
     "falling letter": break_rising, "mark": break_mark, "both factors": break_both, "entry": break_entry, "step": break_step, "index": break_index,
-    "many cells": break_many, "number past the last": break_number, "full": break_full,
+    "many cells": break_many, "number past the last": break_number, "full": break_full, "empty": break_empty,
 }
 
 # ---- breaks of a text

@@ -38,6 +38,9 @@ HUGE = [1025, 1026, 4097, 65536 + 4, 10**8, 2**31, 2**32 + 4, 2**62 + 3, 2**63, 
 PATIENCE = 900
 
 
+# The functions of a window, which take so many used cells of longer buffers.
+WINDOWS = ("insert_letter", "remove_oldest")
+
 # The kinds of inputs.
 KINDS = AS_LENT, CLAIMED, HIDDEN = "as lent", "claimed", "hidden"
 
@@ -101,10 +104,10 @@ def edge_input(draw, function, kind):
 
 
 def answerable(function, arguments, number):
-    """Whether no element is needed that is not there: insertion may read its used cells and its counts once 1, 2 and 3 have passed, a look at a cell its
-    marks and letter."""
-    if function.name == "insert_letter" and number not in (1, 2, 3):
-        *cells, counts = arguments[3:]
+    """Whether no element is needed that is not there: arrival and departure may read the used cells and the counts once 1, 2 and 3 have passed, a look at a
+    cell its marks and letter."""
+    if function.name in WINDOWS and number not in (1, 2, 3):
+        *cells, counts = arguments[-4:]
         return all(len(memory_of(buffer)) >= arguments[1] for buffer in cells) and not isinstance(counts, Claimed)
     if function.name == "cell_at":
         return arguments[2] >= count_of(arguments[0])
@@ -118,11 +121,11 @@ def copied(argument):
 
 
 def wanted(function):
-    """The replies that must come: 1, 2 and 3 where inputs are claimed or hidden; 0 where an output is claimed, insertion's cells, or a cell to look for."""
+    """The replies that must come: 1, 2 and 3 where inputs are claimed or hidden; 0 where an output is claimed, a window's cells, or a cell to look for."""
     in_place = function.name.startswith(("raise", "lower"))
     inputs = [p for p in function.parameters if p.size and not p.name.endswith("text") and (in_place or not p.lent)]
     outputs = [p for p in function.parameters if p.lent and not in_place]
-    by_numbers = [number for number in function.refusals if number <= 3 and (inputs or function.name == "insert_letter")]
+    by_numbers = [number for number in function.refusals if number <= 3 and (inputs or function.name in WINDOWS)]
     given = [(CLAIMED, 0)] if outputs or function.name == "cell_at" else []
     return given + [(kind, number) for kind in (CLAIMED, HIDDEN) for number in by_numbers]
 

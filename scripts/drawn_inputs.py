@@ -93,6 +93,11 @@ def draw_insertion(draw):
     return {"used": len(input["letters"]), "letter": 1 + draw.below(input["rank"]), **input}
 
 
+def draw_window(draw):
+    input = draw_pair(draw)
+    return {"used": len(input["letters"]), **input}
+
+
 def draw_refusal(draw):
     return {"number": draw.one_of((draw.below(15), draw.below(15), draw.one_of(FAR))), "place": draw.place(draw.one_of((12, 1024, 99999)))}
 
@@ -172,6 +177,7 @@ INPUTS = {
     "check_pair": (draw_pair, PAIR),
     "check_counted_pair": (draw_pair, PAIR + ["counts", "counts"]),
     "insert_letter": (draw_insertion, PAIR + ["counts", "counts", "full", "room"]),
+    "remove_oldest": (draw_window, PAIR + ["counts", "counts", "empty"]),
     "word_of_pair": (draw_pair, PAIR + ["counts", "counts", "room"]),
     "tableau_line_of_word": (draw_word, WORD + ["room"]),
     "write_word_line": (draw_word, WORD + ["room"]),
@@ -234,11 +240,12 @@ def with_outputs(draw, function, arguments, short):
 
 
 def with_cells_beyond(draw, function, input, short):
-    """In insertion: the three buffers go on after the used cells, each by itself."""
-    counts = [longer(draw, 1) for _ in range(3)]
+    """The three buffers go on after the used cells, each by itself: in insertion by one at least, unless short."""
+    needed = 1 if function.name == "insert_letter" else 0
+    counts = [longer(draw, needed) for _ in range(3)]
     if short:
         counts[draw.below(3)] = 0
-    for parameter, count in zip(function.parameters[3:6], counts):
+    for parameter, count in zip(function.parameters[-4:-1], counts):
         if len(input[parameter.name]) >= input["used"]:
             input[parameter.name] += output(draw, parameter, count)
 
@@ -276,7 +283,7 @@ def drawn_input(draw, function):
             if name in TEXT_BREAKS:
                 TEXT_BREAKS[name](draw, draw.one_of(list(texts.values())))
         input = {name: list(text) for name, text in texts.items()}
-    if function.name == "insert_letter":
+    if "used" in input:
         with_cells_beyond(draw, function, input, "room" in chosen)
     with_counts(draw, function, input, [name for name in chosen if name in ("counts", "both counts")])
     arguments = [input.get(parameter.name) for parameter in function.parameters]

@@ -4,8 +4,8 @@
     python3 scripts/expected.py check    makes them in memory and says whether what stands in the repository is the same (exit status 1 if not), and halves
     python3 scripts/expected.py halves   whether the program's P lines are its former T and N lines (crates/cases/former), and all else as it was
 
-The output comes from the plain Python beside this file (meaning.py, lines.py, class_numbers.py), which follows the documents and their open points and calls no code of
-the kernel. No file of Rattle is made here.
+The output comes from the plain Python beside this file (meaning.py, lines.py, class_numbers.py, windows.py), which follows the documents and their open
+points and calls no code of the kernel. No file of Rattle is made here.
 """
 import os
 import sys

@@ -10,6 +10,7 @@ import re
 import class_numbers
 import lines
 import meaning
+import windows
 from meaning import Refused
 
 # What an operation takes: n a number, l a list, c letter counts, t a text, L a list that is lent, C lent counts, O a lent list that is printed as a text.
@@ -23,6 +24,7 @@ OPERATIONS = {
     "compare_weights": ("nnll", meaning.compare_weights),
     "pair_of_word": ("nlLLLC", meaning.pair_of_word),
     "insert_letter": ("nnnLLLC", meaning.insert_letter),
+    "remove_oldest": ("nnLLLC", windows.remove_oldest),
     "word_of_pair": ("nlllcL", meaning.word_of_pair),
     "column_reading": ("nllcL", meaning.column_reading),
     "look_once": ("nnll", meaning.look_once),

@@ -5,6 +5,7 @@ from class_table import CLASS_CALLS
 from counts_table import COUNT_CALLS
 from line_table import TABLEAU_LINES, WORD_LINES
 from pair_table import PAIR_CALLS
+from window_table import WINDOW_CALLS
 
 WORDS = """
 junctions 4 4,3,2,3
@@ -454,7 +455,7 @@ no_such_operation 1 2 3
 
 TABLES = {
     "word_operations": (WORDS, COMPARISONS, WORD_LINES, *CLASS_CALLS, NO_WORDS),
-    "ribbon_operations": (INSERTIONS, TABLEAUX, PRODUCTS, TABLEAU_LINES, *PAIR_CALLS, *COUNT_CALLS, NO_RIBBONS),
+    "ribbon_operations": (INSERTIONS, TABLEAUX, PRODUCTS, TABLEAU_LINES, *PAIR_CALLS, *COUNT_CALLS, *WINDOW_CALLS, NO_RIBBONS),
 }
 
 

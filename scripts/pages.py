@@ -27,7 +27,7 @@ SUFFIXES = (".antt", ".rt", ".py", ".md", ".h", ".txt")
 MADE = r"target/|PREFIX/|luchtrav/native/"  # built or installed
 # Programs, and what only they use: no promise of theirs has a row.
 PROGRAMS = {
-    "ribbon", "cases", "word_operations", "ribbon_operations", "brute", "brute_moves", "notation", "plain_words",
+    "ribbon", "cases", "word_operations", "ribbon_operations", "brute", "brute_moves", "brute_windows", "notation", "plain_words",
 }
 # How a name stands in a text; a function with its contract, if it has one; a theorem with its type; how a definition is declared.
 STANDS = r"(?<![\w-])NAME(?![\w-])"
@@ -39,7 +39,8 @@ REQUIRED = """
     product-of-classes stepped-weights word-moved-at changed-cell move-together class-size class-word class-number class-members
     class-complete class-later number-recording recording-number theorem-8-2 ranks written-ranks counts-held seventeen-exactly
     class-as-readings weights-as-readings halves convert-lines convert-program convert-sound convert-broken-only
-    former-program former-halves recording-written
+    former-program former-halves recording-written window-after window-accepted accepted-afresh judged-holds departure-afresh
+    arrival-afresh departure-said arrival-said full-until-left departs judged-as-insertion
 """.split()
 EDITS = [(edit.stem, re.search(r"^file: (\w+)/", edit.read_text(), re.M).group(1).replace("proofs", "specs")) for edit in CRATES.glob("*/must-fail/*.edit")]
 HEADER = header.functions_of(None)
@@ -143,12 +144,13 @@ def numbers(text):
 
 
 def listed():
-    """The refusals that specs/ of hypoplactic, products, numbering, letter_counts and former_lines list for definitions: in headers, for a reply with and without memory; in
-    comments above judgements."""
+    """The refusals that specs/ of hypoplactic, products, numbering, letter_counts, former_lines and windows list for definitions: in headers, for a reply with
+    and without memory; in comments above judgements."""
     specs, found, told = CRATES / "hypoplactic/specs", {}, ""
     products, classes = CRATES / "products/specs/Products.antt", CRATES / "numbering/specs/Operations.antt"
     tableaux, former = CRATES / "letter_counts/specs/TwoTableaux.antt", CRATES / "former_lines/specs/Conversion.antt"
-    for file in (*specs.glob("*Operations.antt"), specs / "LineReadings.antt", products, classes, tableaux, former):
+    windows = CRATES / "windows/specs/Departures.antt"
+    for file in (*specs.glob("*Operations.antt"), specs / "LineReadings.antt", products, classes, tableaux, former, windows):
         for names, checks in re.findall(rf"^--     (\w+(?:, \w+)*) {{2,}}({NUMBERS})", file.read_text(), re.M):
             found.update((re.sub("(Says|Run)$", end, name), numbers(checks)) for name in names.split(", ") for end in ("Says", "Run"))
     for file in (specs / "Judgements.antt", specs / "Counts.antt", classes):
@@ -251,7 +253,7 @@ def check_links():
 
 def cases(*lists):
     """How many computed cases some lists have."""
-    crates = ("hypoplactic", "examples", "products", "changed_places", "ranks", "numbering", "letter_counts", "former_lines")
+    crates = ("hypoplactic", "examples", "products", "changed_places", "ranks", "numbering", "letter_counts", "former_lines", "windows")
     text = "".join(file.read_text() for crate in crates for file in CRATES.glob(crate + "/specs/*.antt"))
     bodies = [re.search(rf"^{name} =(.*?)(?=^\S|\Z)", text, re.M | re.S).group(1) for name in lists]
     return sum(len(re.findall(r"^ *(?:∷ )?case\b", body, re.M)) for body in bodies)
@@ -275,6 +277,7 @@ FIGURES = [
     ("# of sizes and numbers", cases("numberCases"), [README, TESTS]),
     ("# of two tableaux", cases("tableauxCases"), [README, TESTS]),
     ("# of former lines", cases("conversionCases"), [README, TESTS]),
+    ("# of windows", cases("departureCases", "departureRefusals", "streamCases"), [README, TESTS]),
     ("# (?:more )?(?:cases|fix)", cases("orderCases", "valueCases", "countCases", "lineCases", "sharedCases"), [README, TESTS]),
 ]
 

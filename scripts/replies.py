@@ -1,10 +1,11 @@
-"""What each function of include/luchtrav.h replies, by the plain Python (meaning.py, lines.py, class_numbers.py).
+"""What each function of include/luchtrav.h replies, by the plain Python (meaning.py, lines.py, class_numbers.py, windows.py).
 
 Arguments come as the header has them, buffers as lists; those that are lent for writing are changed in place.
 """
 import class_numbers
 import lines
 import meaning
+import windows
 from meaning import Refused
 
 # By function: the operation on lists that gives the values of its reply.
@@ -36,6 +37,7 @@ OPERATIONS = {
     "check_pair": meaning.check_pair,
     "check_counted_pair": meaning.check_counted_pair,
     "insert_letter": meaning.insert_letter,
+    "remove_oldest": windows.remove_oldest,
     "word_of_pair": meaning.word_of_pair,
     "tableau_line_of_word": lines.tableau_line_of_word,
     "write_word_line": lines.write_word_line,

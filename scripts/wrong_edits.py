@@ -1,7 +1,8 @@
 """The edits of wrong_kernels.py: what goes wrong, the module, and the text that is exchanged, which stands there once.
 
 Those of EDGES leave every reply and every byte as they must be where buffers are as long as they say: they only touch memory that they need not, or were
-not lent. RIGHT changes nothing. Edits of letter counts are in wrong_counts.py, those of pairs and of their lines in wrong_pairs.py.
+not lent. RIGHT changes nothing. Edits of letter counts are in wrong_counts.py, those of pairs and of their lines in wrong_pairs.py, those of
+windows in wrong_windows.py.
 """
 
 

@@ -17,6 +17,7 @@ import header
 import wrong_counts
 import wrong_edits
 import wrong_pairs
+import wrong_windows
 from drawn import called
 from drawn_edges import apart, calls
 from drawn_inputs import drawn_input
@@ -24,13 +25,13 @@ from drawn_values import Draw
 from fenced_memory import python_length
 from lent_memory import Memory, packed, unpacked
 
-EDITS = wrong_edits.EDITS + wrong_counts.EDITS + wrong_pairs.EDITS
-EDGES = wrong_edits.EDGES + wrong_counts.EDGES + wrong_pairs.EDGES
-RIGHT = wrong_edits.RIGHT + wrong_counts.RIGHT + wrong_pairs.RIGHT
+EDITS = wrong_edits.EDITS + wrong_counts.EDITS + wrong_pairs.EDITS + wrong_windows.EDITS
+EDGES = wrong_edits.EDGES + wrong_counts.EDGES + wrong_pairs.EDGES + wrong_windows.EDGES
+RIGHT = wrong_edits.RIGHT + wrong_counts.RIGHT + wrong_pairs.RIGHT + wrong_windows.RIGHT
 MOST = 1000000
 MOST_RIGHT = 100000
 MOST_EDGES = 300
-MODULES = ("meaning", "lines", "class_numbers", "replies")
+MODULES = ("meaning", "lines", "class_numbers", "windows", "replies")
 
 
 def edited(module, old, new):

@@ -10,8 +10,8 @@ use columns::reading::column_reading;
 use inverses::way_back::word_of_pair;
 use pairs::insertion::insert_letter;
 use plain_words::one_if;
-use refusals::answers::Inserted;
 use refusals::answers::Junctions;
+use refusals::answers::Used;
 use refusals::answers::Written;
 use ribbons::pair::pair_of_word;
 use words::junctions::junctions;
@@ -39,12 +39,12 @@ pub(crate) fn wrong_written(reply: Written, length: usize) -> usize
 }
 
 // 1 for a refusal and for a used count that is not the one given, else 0.
-fn wrong_used(reply: Inserted, used: usize) -> usize
+fn wrong_used(reply: Used, used: usize) -> usize
     ensures { λ r. ⌜ r ≤ 1 ⌝ }
 {
     match reply {
-        Inserted::Used(count) => one_if(count != used),
-        Inserted::Refused(_) => 1,
+        Used::Cells(count) => one_if(count != used),
+        Used::Refused(_) => 1,
     }
 }
 

@@ -6,7 +6,7 @@ ghost use Prim.Native.Nat.{_-_, _<_, _≤_};
 pub(crate) const DRAWN: usize = 2752;
 
 // The next state: a multiplication modulo the prime 2147483647. A state is never 0.
-fn next(state: u64) -> u64
+pub fn next(state: u64) -> u64
     requires { ⌜ state < 2147483647 ⌝ }
     ensures { λ r. ⌜ r < 2147483647 ⌝ }
 {
@@ -75,7 +75,7 @@ fn one_of_three(rank: usize, third: usize) -> usize
 
 // The letter after another, in one of five ways: any letter; one of three letters; never falling; never rising; falling, and from the bottom to the top
 // again.
-fn letter_after(way: usize, rank: usize, before: usize, state: u64) -> usize
+pub fn letter_after(way: usize, rank: usize, before: usize, state: u64) -> usize
     requires { ⌜ (0 < rank) × (rank ≤ 64) × (before ≤ 64) ⌝ }
     ensures { λ r. ⌜ r ≤ 64 ⌝ }
 {
@@ -90,7 +90,7 @@ fn letter_after(way: usize, rank: usize, before: usize, state: u64) -> usize
 }
 
 // The letter before the first.
-fn letter_before(way: usize, rank: usize) -> usize
+pub fn letter_before(way: usize, rank: usize) -> usize
     requires { ⌜ (0 < rank) × (rank ≤ 64) ⌝ }
     ensures { λ r. ⌜ r ≤ 64 ⌝ }
 {

@@ -1,6 +1,7 @@
 // The calls, by the place of an operation in the list of names. Each takes the numbers of a line and its lists, and prints what came of it.
 use columns::reading::column_reading;
 use conversions::former::convert_lines;
+use departures::departure::remove_oldest;
 use inverses::way_back::word_of_pair;
 use notation::answers::print_gives;
 use notation::answers::print_gives_two;
@@ -16,9 +17,9 @@ use pairs::insertion::insert_letter;
 use readers::pair::read_pair_line;
 use readers::tableau::read_tableau_line;
 use refusals::answers::Cell;
-use refusals::answers::Inserted;
 use refusals::answers::PairLine;
 use refusals::answers::TableauLine;
+use refusals::answers::Used;
 use ribbons::pair::pair_of_word;
 use tableaux::moves::lower_count_tableau;
 use tableaux::moves::lower_tableau;
@@ -59,10 +60,10 @@ fn print_pair(answer: PairLine) {
 }
 
 // The new used count.
-fn print_inserted(answer: Inserted) {
+fn print_used(answer: Used) {
     match answer {
-        Inserted::Used(used) => print_gives(used),
-        Inserted::Refused(refusal) => print_refusal(refusal),
+        Used::Cells(used) => print_gives(used),
+        Used::Refused(refusal) => print_refusal(refusal),
     }
 }
 
@@ -125,12 +126,15 @@ fn call_on_parts(
     if operation == 13 {
         let used = number(line, 2);
         let letter = number(line, 3);
-        return print_inserted(insert_letter(rank, used, letter, letters, marks, entries, counts));
+        return print_used(insert_letter(rank, used, letter, letters, marks, entries, counts));
     }
     if operation == 14 {
         return print_written(pair_of_word(rank, a, letters, marks, entries, counts));
     }
-    print_pair(read_pair_line(a, letters, marks, entries, counts))
+    if operation == 15 {
+        return print_pair(read_pair_line(a, letters, marks, entries, counts));
+    }
+    print_used(remove_oldest(rank, number(line, 2), letters, marks, entries, counts))
 }
 
 // Any call. Moves, 10 and 11, change lent letters and counts.

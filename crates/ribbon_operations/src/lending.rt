@@ -59,6 +59,6 @@ fn give(operation: usize, kinds: &[u8], line: &[u8]) {
 // letter counts.
 pub(crate) fn make_call(operation: usize, line: &[u8]) {
     let kinds =
-        b"nnabk nnabk nnab nabk nabkL nabT nabek nabekL nabeT tuT nnLaK nnLaK tLMK nnnLMEK naLMEK tLMEK";
+        b"nnabk nnabk nnab nabk nabkL nabT nabek nabekL nabeT tuT nnLaK nnLaK tLMK nnnLMEK naLMEK tLMEK nnLMEK";
     give(operation, field(kinds, operation), line);
 }

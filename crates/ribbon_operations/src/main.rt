@@ -12,11 +12,11 @@ use notation::printing::print;
 use notation::source::read_argument;
 use two_tableaux::call_on_two;
 
-// The place of a line's operation in the order of the calls, those on two tableaux last; 19 where there is no such operation.
+// The place of a line's operation in the order of the calls, those on two tableaux last; 20 where there is no such operation.
 fn operation_of(line: &[u8]) -> usize {
     let names =
-        b"raise_count_tableau lower_count_tableau look_once check_counted_tableau column_reading write_tableau_line check_counted_pair word_of_pair write_pair_line convert_lines raise_tableau lower_tableau read_tableau_line insert_letter pair_of_word read_pair_line product same_class_of_tableaux compare_weights_of_tableaux";
-    field_of(names, field(line, 0), 19)
+        b"raise_count_tableau lower_count_tableau look_once check_counted_tableau column_reading write_tableau_line check_counted_pair word_of_pair write_pair_line convert_lines raise_tableau lower_tableau read_tableau_line insert_letter pair_of_word read_pair_line remove_oldest product same_class_of_tableaux compare_weights_of_tableaux";
+    field_of(names, field(line, 0), 20)
 }
 
 // A line, and what came of its call.
@@ -24,12 +24,12 @@ fn answer_line(line: &[u8]) {
     let operation = operation_of(line);
     print(line);
     print(b" = ");
-    if operation < 16 {
+    if operation < 17 {
         make_call(operation, line);
         return print(b"\n");
     }
-    if operation < 19 {
-        call_on_two(operation - 16, line);
+    if operation < 20 {
+        call_on_two(operation - 17, line);
         return print(b"\n");
     }
     print(b"unknown\n");
