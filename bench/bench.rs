@@ -1,5 +1,5 @@
-//! Instructions of the kernel, of plain Rust, of plain insertion and of the two ribbons apart, one call at a time, for
-//! `bench/run.py` to print.
+//! Instructions of the kernel, of plain Rust, of plain insertion, of the two ribbons apart and of a window made afresh, one
+//! call at a time, for `bench/run.py` to print.
 //!
 //! Run under callgrind it leaves one count for each call. Before that it holds every call of the kernel to the plain
 //! versions, in the reply and in all lent memory, and stops where they differ. With an operation, a rank and a number of
@@ -65,6 +65,7 @@ fn count_operation(operation: &Operation, input: &Input) {
     let mut calls = vec![("plain", operation.plain)];
     calls.extend(operation.insertion.map(|call| ("insertion", call)));
     calls.extend(operation.apart.map(|call| ("apart", call)));
+    calls.extend(operation.afresh.map(|call| ("afresh", call)));
     for &(what, call) in &calls {
         agree(operation, input, what, call);
     }

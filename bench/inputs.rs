@@ -90,6 +90,10 @@ pub struct Input {
     pub raising: Pair,
     /// Lowering is defined at 1 and changes the first letter, likewise.
     pub lowering: Pair,
+    /// A window whose oldest letter has the first cell, so that every cell moves when it leaves.
+    pub first_leaves: Pair,
+    /// A window whose oldest letter has the last cell, so that all are searched for it.
+    pub last_leaves: Pair,
     /// The number of the word in its class, where it has at most 20 letters; else 0.
     pub number: u64,
     pub word_line: Vec<u8>,
@@ -130,6 +134,10 @@ impl Input {
         raised[count - 1] = rank as u8;
         let mut lowered = draws.word(count, 3, rank);
         lowered[0] = 1;
+        let mut small = draws.word(count, 1, rank);
+        small[0] = 1;
+        let mut large = draws.word(count, 1, rank - 1);
+        large[0] = rank as u8;
         Input {
             rank,
             count,
@@ -139,6 +147,8 @@ impl Input {
             back: Pair::new(rank, word[count / 2..].to_vec()),
             raising: Pair::new(rank, raised),
             lowering: Pair::new(rank, lowered),
+            first_leaves: Pair::new(rank, small),
+            last_leaves: Pair::new(rank, large),
             number: class_number(rank, &word).unwrap_or(0),
             word_line: line(|out| write_word_line(rank, &word, out).ok()),
             tableau_line: line(|out| write_tableau_line(rank, &letters, &marks, out).ok()),

@@ -351,6 +351,17 @@ extern "C" {
         entries_count: usize,
         counts: *mut u16,
     ) -> Count;
+    pub fn luchtrav_remove_oldest(
+        rank: usize,
+        used: usize,
+        letters: *mut u8,
+        letters_count: usize,
+        marks: *mut u8,
+        marks_count: usize,
+        entries: *mut u16,
+        entries_count: usize,
+        counts: *mut u16,
+    ) -> Count;
     pub fn luchtrav_word_of_pair(
         rank: usize,
         letters: *const u8,

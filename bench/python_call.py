@@ -1,5 +1,6 @@
 #!/usr/bin/env python3
-"""What a call from Python costs, in microseconds, as Markdown: the binding, plain Python, the bare call through ctypes, the call from Rust.
+"""What a call from Python costs, in microseconds, as Markdown: the binding, plain Python, the bare call through ctypes, the call from Rust; and what it costs
+that a letter passes through a window.
 
     bench/python_call.py
 
@@ -124,11 +125,30 @@ def class_ways(word, other):
     )
 
 
+def passing_ways(word):
+    """A letter passes through a full window: the oldest leaves and arrives again; and the pair of the last letters made anew each time."""
+    window, letters = luchtrav.Window(RANK, len(word)), list(word)
+    for letter in letters:
+        window.push(letter)
+    calls = [
+        lambda: window.push(window.pop()),
+        lambda: luchtrav.pair_of_word(RANK, word),
+        lambda: plain_pair(letters),
+    ]
+    calls[0]()
+    assert window.pair == luchtrav.pair_of_word(RANK, word[1:] + word[:1])
+    return len(word), calls
+
+
+def drawn_word(draws, letters):
+    return bytes(draws.randint(1, RANK) for _ in range(letters))
+
+
 def operations():
     """What is measured: a drawn word, and beside it another of its class."""
     draws = random.Random(1)
     for letters in LETTERS:
-        word = bytes(draws.randint(1, RANK) for _ in range(letters))
+        word = drawn_word(draws, letters)
         tableau = luchtrav.pair_of_word(RANK, word).tableau
         other = bytes(luchtrav.column_reading(RANK, tableau))
         yield pair_ways(word)
@@ -156,8 +176,7 @@ def from_rust(program, operation, letters):
     return min(int(nanoseconds) for nanoseconds in told) / 1000
 
 
-def main():
-    program = build()
+def print_calls(program):
     measured = list(operations())
     spent = iter(microseconds([call for *_, calls in measured for call in calls]))
     rows = []
@@ -168,6 +187,19 @@ def main():
         rows.append([f"`{operation}`", f"{letters:,}", *cells])
     ways_by_name = ["lists", "bytes", "64-bit integers", "plain Python", "bare ctypes call", "Rust"]
     table(["operation", "letters", *ways_by_name], rows)
+
+
+def print_passing():
+    measured = [passing_ways(drawn_word(random.Random(2), letters)) for letters in LETTERS]
+    spent = iter(microseconds([call for _, calls in measured for call in calls]))
+    rows = [[f"{letters:,}", *[f"{next(spent):.2f}" for _ in calls]] for letters, calls in measured]
+    table(["letters", "pop and push", "`pair_of_word`", "plain Python"], rows)
+
+
+def main():
+    program = build()
+    print_calls(program)
+    print_passing()
 
 
 if __name__ == "__main__":

@@ -139,8 +139,9 @@ def print_costs(counts):
     print_ratios(counts, counts.operations, LETTERS, 2)
     print(
         "`same_class` and `compare_weights`: for each letter of both words, or cell of both tableaux; `same_class:64` has"
-        " the second word at rank 64. `product`: for each cell of both factors together. `insert_letter`: for each cell of"
-        " the pair before the insertion. `write_refusal_line`: for the whole call.\n"
+        " the second word at rank 64. `product`: for each cell of both factors together. `insert_letter` and"
+        " `remove_oldest`: for each cell of the pair before the call; `remove_oldest` takes the first cell out,"
+        " `remove_oldest:last` the last. `write_refusal_line`: for the whole call.\n"
     )
 
 
@@ -167,23 +168,40 @@ def print_insertion(counts):
     table(["operation", "rank", *head], rows)
 
 
-def print_apart(counts):
-    """The two ribbons of a word in one call of the kernel, in one of plain Rust, and by two calls of plain Rust, each for one of them."""
+def print_beside(counts, other, title, *columns):
+    """The operations that have figures of another way to do the same; a column is its heading and what gives the figures of an operation at a rank."""
     rows = [
-        [
-            f"`{operation}`",
-            rank,
-            *cells(counts.costs(operation, rank, "kernel")),
-            *cells(counts.costs(operation, rank, "plain")),
-            *cells(counts.costs(operation, rank, "apart")),
-        ]
+        [f"`{operation}`", rank, *(cell for _, figures in columns for cell in cells(figures(operation, rank)))]
         for operation in counts.operations
         for rank in RANKS
-        if counts.has(operation, "apart")
+        if counts.has(operation, other)
     ]
-    print("## The pair in one call, and its two ribbons apart\n")
-    head = [*sizes("kernel"), *sizes("Rust"), *sizes("Rust, two calls")]
-    table(["operation", "rank", *head], rows)
+    print(f"## {title}\n")
+    table(["operation", "rank", *(size for heading, _ in columns for size in sizes(heading))], rows)
+
+
+def print_apart(counts):
+    """The two ribbons of a word in one call of the kernel, in one of plain Rust, and by two calls of plain Rust, each for one of them."""
+    print_beside(
+        counts,
+        "apart",
+        "The pair in one call, and its two ribbons apart",
+        ("kernel", lambda operation, rank: counts.costs(operation, rank, "kernel")),
+        ("Rust", lambda operation, rank: counts.costs(operation, rank, "plain")),
+        ("Rust, two calls", lambda operation, rank: counts.costs(operation, rank, "apart")),
+    )
+
+
+def print_afresh(counts):
+    """A departure, and the same by the way back to the word and the pair of its other letters."""
+    print_beside(
+        counts,
+        "afresh",
+        "A departure, and the window made afresh",
+        ("kernel", lambda operation, rank: counts.costs(operation, rank, "kernel")),
+        ("two calls", lambda operation, rank: counts.costs(operation, rank, "afresh")),
+        ("ratio to kernel", lambda operation, rank: counts.ratios(operation, rank, "afresh", "kernel")),
+    )
 
 
 def print_growth(counts):
@@ -230,6 +248,7 @@ def print_all(counts):
     print_classes(counts)
     print_insertion(counts)
     print_apart(counts)
+    print_afresh(counts)
     print_growth(counts)
     print_large(counts)
 

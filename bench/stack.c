@@ -13,8 +13,9 @@ enum { RANK = LUCHTRAV_RANKS, L = LUCHTRAV_LETTERS, H = L / 2, F = LUCHTRAV_COUN
 enum { STACK = 1 << 18, PAINT = 0xA5, SAID = 40000 };
 
 /* A word with its pair, its lines, the N line of before among them, a word and a tableau of equal letters for moves, a
- * pair with one cell left for insertion, and the tableaux of the word's two halves; the first letters of the word, as
- * many as a class is counted of, with their tableau. The counts of each tableau are named after its letters. */
+ * pair with one cell left for insertion, after which it is a full window, and the tableaux of the word's two halves;
+ * the first letters of the word, as many as a class is counted of, with their tableau. The counts of each tableau are
+ * named after its letters. */
 static uint8_t word[L], letters[L], marks[L], twos[L], same[L], level[L], first[L], steps[L];
 static uint8_t front[H], front_marks[H], back[H], back_marks[H], few[F], few_marks[F];
 static uint16_t entries[L], places[L];
@@ -66,6 +67,7 @@ static void prepare(void) {
     call(class_size, FEW) call(class_word, FEW, 0, bytes, F) call(class_number, RANK, word, F) \
     call(check_pair, TABLEAU, entries, L) call(check_counted_pair, TABLEAU, entries, L, counts) \
     call(insert_letter, RANK, L - 1, 1, first, L, steps, L, places, L, counts_first) \
+    call(remove_oldest, RANK, L, first, L, steps, L, places, L, counts_first) \
     call(word_of_pair, TABLEAU, entries, L, counts, OUT) call(tableau_line_of_word, WORD, OUT) \
     call(write_word_line, WORD, OUT) call(write_tableau_line, TABLEAU, OUT) \
     call(write_pair_line, TABLEAU, entries, L, OUT) call(write_junction_line, WORD, OUT) \

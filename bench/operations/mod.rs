@@ -69,6 +69,7 @@ pub struct Operation {
     pub plain: Call,
     pub insertion: Option<Call>,
     pub apart: Option<Call>,
+    pub afresh: Option<Call>,
 }
 
 /// The reply of a plain version.
@@ -115,6 +116,7 @@ const fn operation(name: &'static str, kernel: Call, plain: Call) -> Operation {
         plain,
         insertion: None,
         apart: None,
+        afresh: None,
     }
 }
 
