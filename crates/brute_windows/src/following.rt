@@ -3,13 +3,13 @@
 // window after each call, of a larger one after some.
 use crate::comparing::compare;
 use crate::stream::LETTERS;
-use crate::stream::drawn_stream;
 use crate::stream::letters_after;
 use crate::stream::letters_from;
 use crate::window::Window;
 use crate::window::arrive;
 use crate::window::depart;
 use crate::window::empty;
+use plain_words::drawn::drawn_stream;
 ghost use Prim.Native.Nat.{_*_, _+_, _<_, _≤_};
 
 // How many states were compared, and how many differences there were.

@@ -1,29 +1,9 @@
-// A stream of drawn letters, and those of them that are in a window after so many calls.
-use plain_words::drawn::letter_after;
-use plain_words::drawn::letter_before;
-use plain_words::drawn::next;
+// The letters of a stream that are in a window after so many calls.
 ghost use Prim.Native.Nat.{_+_, _-_, _<_, _≤_};
 ghost use mathlib.Core.Path.{_≡_};
 
 // How many letters a stream has.
 pub(crate) const LETTERS: usize = 3000;
-
-// A stream of letters of a rank, in one of five ways.
-pub(crate) fn drawn_stream(rank: usize, way: usize) -> [u8; 3000]
-    requires { ⌜ (0 < rank) × (rank ≤ 64) ⌝ }
-{
-    let mut letters = [0u8; 3000];
-    let mut letter = letter_before(way, rank);
-    let mut state = next(rank as u64 + 20201);
-    let mut i = 0;
-    while i < LETTERS {
-        letter = letter_after(way, rank, letter, state);
-        letters[i] = letter as u8;
-        state = next(state);
-        i += 1;
-    }
-    letters
-}
 
 // Some of a stream's letters: the place of the first of them, and how many they are.
 pub(crate) struct Span {

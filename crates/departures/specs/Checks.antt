@@ -1,5 +1,5 @@
 -- The checks of a departure.
---     cellJudgements                 4 5 6 17 7 8 of the used cells of a pair
+--     windowCells                    4 5 6 17 7 8 of a window
 --     cellChecks, departChecks       what 4 to 8 and 17, and then 18, and what all checks say
 --     cells-checked                  4 to 8 and 17, and 18, from the verdict on the used cells as a stored pair, of which 1, 2 and 3 pass
 --     sizes-refused, sizes-passed    what follows from the verdict on 1, 2 and 3
@@ -10,13 +10,12 @@ use native.Mathlib.Nat.{sub-zero}
 use mathlib.Core.Path.{_≡_, refl, _∙_}
 use mathlib.Core.List.{List, [], _∷_, _++_}
 use lib.Dec.{eqb}
-use lib.ListN.{length, take}
+use lib.ListN.{drop, length, take}
 use lib.Seq.{length-take-le}
 use borrow.Author.Needs.{needs}
 use Rattle.hypoplactic.specs.Insertion.{Pair, pairWith}
 use Rattle.hypoplactic.specs.Replies.{Said, passed, orElse, first, refuseIf}
-use Rattle.hypoplactic.specs.Counts.{countsJudged}
-use Rattle.hypoplactic.specs.Judgements.{alikeJudged, countedPairJudgements, entriesJudged, lengthJudged, lettersJudged, marksJudged, rankJudged, recordingJudged, risingJudged}
+use Rattle.hypoplactic.specs.Judgements.{alikeJudged, countedPairJudgements, lengthJudged, rankJudged}
 use Rattle.hypoplactic.proofs.Theory.Judgements.{alike-judged, length-judged, rank-judged}
 use Rattle.hypoplactic.proofs.Theory.Passing.{Passing, first-past}
 use Rattle.refusals.specs.Running.{checksThen, checked-last, stops-there, goes-further}
@@ -24,31 +23,27 @@ use Rattle.refusals.specs.Said.{saidRefusal, saidVerdict}
 use Rattle.refusals.specs.declared.refusal.Refusal.{Refusal}
 use Rattle.refusals.specs.declared.answers.Verdict.{Verdict}
 use Rattle.refusals.specs.declared.answers.Verdict.the-variants.{Passed, Refused}
-use Rattle.windows.specs.Departures.{emptyJudged}
+use Rattle.windows.specs.Departures.{emptyJudged, windowJudgements}
 use Rattle.admissions.specs.Checks.{Sized, sizeJudgements, sizes-sized}
 
--- 4 to 8 of the used cells of a pair, and 17 of the counts of the used letters.
-abbrev pub cellJudgements : ℕ → ℕ → Pair → List ℕ → List Said
-cellJudgements n used p cs =
-    let xs : List ℕ = take used (p .letters) in
-    let ms : List ℕ = take used (p .marks) in
-    let rs : List ℕ = take used (p .recording) in
-    lettersJudged n xs ∷ risingJudged xs ∷ marksJudged xs ms ∷ countsJudged cs xs ∷ entriesJudged used rs ∷ recordingJudged rs ms ∷ []
+-- What a window is judged by after 1, 2 and 3: 4 to 8 of the used cells, and 17 of the counts of the used letters.
+abbrev pub windowCells : ℕ → ℕ → Pair → List ℕ → List Said
+windowCells n used p cs = drop 3 (windowJudgements n used p cs)
 
 -- What 4 to 8 and 17, and then 18, say.
 abbrev pub cellChecks : ℕ → ℕ → Pair → List ℕ → Said
-cellChecks n used p cs = checksThen (cellJudgements n used p cs) (emptyJudged used ∷ [])
+cellChecks n used p cs = checksThen (windowCells n used p cs) (emptyJudged used ∷ [])
 
 -- What all checks of a departure say.
 unfoldable pub departChecks : ℕ → ℕ → Pair → List ℕ → Said
 departChecks n used p cs =
-    checksThen (sizeJudgements n used (length (p .letters)) (length (p .marks)) (length (p .recording))) (cellJudgements n used p cs ++ (emptyJudged used ∷ []))
+    checksThen (sizeJudgements n used (length (p .letters)) (length (p .marks)) (length (p .recording))) (windowCells n used p cs ++ (emptyJudged used ∷ []))
 
 -- ---- the used cells
 
 -- Of the used cells as a stored pair 1, 2 and 3 refuse nothing, and the rest is judged of them.
 used-counted : (n used : ℕ) (xs ms rs cs : List ℕ) → Sized n used (length xs) (length ms) (length rs)
-    → first (countedPairJudgements n (take used xs) (take used ms) (take used rs) cs) passed ≡ first (cellJudgements n used (pairWith xs ms rs) cs) passed
+    → first (countedPairJudgements n (take used xs) (take used ms) (take used rs) cs) passed ≡ first (windowCells n used (pairWith xs ms rs) cs) passed
 used-counted n used xs ms rs cs h =
     let as-letters : length (take used xs) ≡ used = length-take-le used xs (h .in-letters) in
     let as-marks : length (take used ms) ≡ used = length-take-le used ms (h .in-marks) in
@@ -56,7 +51,7 @@ used-counted n used xs ms rs cs h =
     let js : List Said = rankJudged n ∷ lengthJudged used ∷ alikeJudged used (used ∷ used ∷ []) ∷ [] in
     let pass : Passing js
     = (rank-judged n .1 (h .low, h .high), (length-judged used .1 (h .few), (alike-judged used (used ∷ used ∷ []) .1 (refl, (refl, tt)), tt))) in
-    rw (as-letters, as-marks, as-entries) (first-past js (cellJudgements n used (pairWith xs ms rs) cs) passed pass)
+    rw (as-letters, as-marks, as-entries) (first-past js (windowCells n used (pairWith xs ms rs) cs) passed pass)
 
 -- The cells, then whether there are any.
 pub cells-checked : (t u v : Verdict) (n used : ℕ) (xs ms rs cs : List ℕ) → saidVerdict t ≡ orElse (saidVerdict u) (saidVerdict v)

@@ -1,4 +1,4 @@
-// Words drawn by a repeatable generator, over all ranks from 1 to 64, all lengths up to 1,024 and in five ways.
+// Words drawn by a repeatable generator, over all ranks from 1 to 64, all lengths up to 1,024 and in five ways, and streams of letters, longer than any word.
 use crate::Word;
 ghost use Prim.Native.Nat.{_-_, _<_, _≤_};
 
@@ -6,7 +6,7 @@ ghost use Prim.Native.Nat.{_-_, _<_, _≤_};
 pub(crate) const DRAWN: usize = 2752;
 
 // The next state: a multiplication modulo the prime 2147483647. A state is never 0.
-pub fn next(state: u64) -> u64
+fn next(state: u64) -> u64
     requires { ⌜ state < 2147483647 ⌝ }
     ensures { λ r. ⌜ r < 2147483647 ⌝ }
 {
@@ -75,7 +75,7 @@ fn one_of_three(rank: usize, third: usize) -> usize
 
 // The letter after another, in one of five ways: any letter; one of three letters; never falling; never rising; falling, and from the bottom to the top
 // again.
-pub fn letter_after(way: usize, rank: usize, before: usize, state: u64) -> usize
+fn letter_after(way: usize, rank: usize, before: usize, state: u64) -> usize
     requires { ⌜ (0 < rank) × (rank ≤ 64) × (before ≤ 64) ⌝ }
     ensures { λ r. ⌜ r ≤ 64 ⌝ }
 {
@@ -90,7 +90,7 @@ pub fn letter_after(way: usize, rank: usize, before: usize, state: u64) -> usize
 }
 
 // The letter before the first.
-pub fn letter_before(way: usize, rank: usize) -> usize
+fn letter_before(way: usize, rank: usize) -> usize
     requires { ⌜ (0 < rank) × (rank ≤ 64) ⌝ }
     ensures { λ r. ⌜ r ≤ 64 ⌝ }
 {
@@ -121,4 +121,20 @@ pub(crate) fn drawn_word(k: usize, state: u64) -> Word
         letters,
         state: now,
     }
+}
+
+// A stream of 3,000 letters of a rank, in one of the five ways; a rank that is none is taken modulo 64.
+pub fn drawn_stream(rank: usize, way: usize) -> [u8; 3000] {
+    let top = (rank % 64 + 63) % 64 + 1;
+    let mut letters = [0u8; 3000];
+    let mut letter = letter_before(way, top);
+    let mut state = next(top as u64 + 20201);
+    let mut i = 0;
+    while i < 3000 {
+        letter = letter_after(way, top, letter, state);
+        letters[i] = letter as u8;
+        state = next(state);
+        i += 1;
+    }
+    letters
 }

@@ -1,5 +1,5 @@
-// The words that the programs brute and brute_moves compare with the kernel, and their pairs and tableaux by plain insertion. Nothing here is
-// of the kernel, and no contract says what a word or a pair is: that is compared by running. Contracts give what callers must know to be safe.
+// The words that the programs brute and brute_moves compare with the kernel, the streams of brute_windows, and their pairs and tableaux by plain insertion.
+// Nothing here is of the kernel, and no contract says what a word or a pair is: that is compared by running. Contracts give what callers must know to be safe.
 pub mod comparing;
 pub mod counts;
 pub mod drawn;

@@ -8,3 +8,4 @@ pub mod Calls
 pub mod Windows
 -- ---- cases
 pub mod Cases
+pub mod Instances
