@@ -46,6 +46,10 @@ cut-sum a b = go (le-or-lt (a + b) 1024)
 pub refused-if : (b : Bool) (k p : ℕ) (s : Said) → b ≡ true → refused k p ≡ refuseIf b k p s
 refused-if b k p s e = rw e
 
+-- None where it does not.
+pub passed-if : (b : Bool) (k p : ℕ) (s : Said) → b ≡ false → s ≡ refuseIf b k p s
+passed-if b k p s e = rw e
+
 -- ---- what each check says, from its test
 
 module _ {r : Said} {b : Bool} where

@@ -41,6 +41,10 @@ pub enum Refusal {
     Count(usize),
     // 18: a departure from an empty window.
     Empty,
+    // 19: the letter of the item at this index is not above the one before it, or its count is 0.
+    Item(usize),
+    // 20: the counts of a line's items do not add to its number of cells.
+    Sum,
 }
 
 // A refusal as number and place, as the documents fix them.
@@ -103,6 +107,14 @@ pub fn number_and_place(refusal: Refusal) -> Returned
         Refusal::Count(place) => Returned { number: 17, place },
         Refusal::Empty => Returned {
             number: 18,
+            place: 0,
+        },
+        Refusal::Item(index) => Returned {
+            number: 19,
+            place: index,
+        },
+        Refusal::Sum => Returned {
+            number: 20,
             place: 0,
         },
     }

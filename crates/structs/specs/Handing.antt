@@ -3,7 +3,8 @@
 --     done-said, ..       the same said, the same replied
 --     done-refused, ..    a refusal told by its number and place
 --     verdict-case, ..    an answer by its case
---     refusedWord, ..     the refusal that a reader's answer passes on; word-refused-told, ..: that it is what the answer says
+--     refusedWord, ..     the refusal that a reader's answer passes on; word-passes, ..: the one that a refused answer has; word-refused-told, ..: that
+--                         it is what the answer says
 --     replying            the ruleset of all of them
 -- Assumes nothing.
 use Prim.Native.Nat.{ℕ}
@@ -151,6 +152,15 @@ abbrev pub refusedPair : PairLine → Refusal
 refusedPair (pairLine.Pair n l) = Line 0
 refusedPair (pairLine.Refused q) = q
 
+pub word-passes : {a : WordLine} {q : Refusal} → a ≡ wordLine.Refused q → q ≡ refusedWord a
+word-passes e = rw e
+
+pub tableau-passes : {a : TableauLine} {q : Refusal} → a ≡ tableauLine.Refused q → q ≡ refusedTableau a
+tableau-passes e = rw e
+
+pub pair-passes : {a : PairLine} {q : Refusal} → a ≡ pairLine.Refused q → q ≡ refusedPair a
+pair-passes e = rw e
+
 pub word-refused-told : {a : WordLine} {q p : Refusal} {r : LineReply} → a ≡ wordLine.Refused q → p ≡ refusedWord a
     → r ≡ lineOf (saidRefusal p) → r ≡ lineOf (saidWordLine a)
 word-refused-told e f h = rw e (h ∙ rw (f, e))
@@ -194,6 +204,9 @@ pub ruleset replying = (
   tableau-line-case,
   pair-line-case,
   cell-case,
+  word-passes,
+  tableau-passes,
+  pair-passes,
   word-refused-told,
   tableau-refused-told,
   pair-refused-told,
