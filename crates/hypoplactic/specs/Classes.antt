@@ -2,10 +2,11 @@
 -- it holds at every rank of any two words accepted at it.
 --     Faithful line move u v    lines and moves tell of u and v what the rewriting rules tell
 --     FaithfulLines             the demand: Faithful of tableau lines and of moves on words. Theorem `classes`, proofs/Theory/Classes.antt
---     FaithfullyWritten n u v   the same of what the operations reply and leave in lent memory
+--     FaithfullyWritten line run n u v
+--                               the same of what the operations reply and leave in lent memory, run being the one that writes the line of a word
 --     MovedTogether a u v r s   there, of a move's replies r and s: made in both, each at its own place, or refused in both with one number
 --     OneRecording r s          there, of two replies of the pair's operation: one reply, one shape, one recording ribbon
---     FaithfulWriting           the demand over what is written. Theorem `written-classes`, proofs/Theory/WrittenClasses.antt
+--     FaithfulWriting           the demand over what is written of tableau lines. Theorem `written-classes`, proofs/Theory/WrittenClasses.antt
 -- FaithfulLines is the one to read first: it has neither buffers nor replies. FaithfulWriting speaks of the very definitions that the contracts of the
 -- tableau line, of the moves on words and of the pair of a word cite, and so of the programs. Words of two ranks: crate ranks. Assumes nothing.
 use mathlib.Core.Path.{_≡_}
@@ -43,9 +44,9 @@ elements (gives []) memory = []
 elements (gives (k ∷ vs)) memory = take k memory
 elements (refused k p) memory = []
 
--- The bytes of a word's tableau line as they stand in lent memory.
-abbrev pub lineBytes : ℕ → List ℕ → List ℕ → List ℕ
-lineBytes n w out = elements ((tableauLineRun n w out) .0) ((tableauLineRun n w out) .1)
+-- The bytes of a word's line as the operation that writes it leaves them in lent memory.
+abbrev pub lineBytes : (ℕ → List ℕ → List ℕ → Said × List ℕ) → ℕ → List ℕ → List ℕ → List ℕ
+lineBytes run n w out = elements ((run n w out) .0) ((run n w out) .1)
 
 -- The lent word after a move.
 abbrev pub moveLeft : ℕ → Move → List ℕ → List ℕ
@@ -63,18 +64,19 @@ pub record OneRecording (r s : Said × (Pair × List ℕ)) : Type 0 where
   pub marks : r .1 .0 .marks ≡ s .1 .0 .marks
   pub entries : r .1 .0 .recording ≡ s .1 .0 .recording
 
-pub record FaithfullyWritten (n : ℕ) (u v : List ℕ) : Type 0 where
+pub record FaithfullyWritten (line : ℕ → List ℕ → List ℕ) (run : ℕ → List ℕ → List ℕ → Said × List ℕ)
+    (n : ℕ) (u v : List ℕ) : Type 0 where
   -- 1. With buffers long enough, the bytes written are equal exactly when a chain joins the words.
-  pub shared : (out out′ : List ℕ) → length (tableauLine n u) ≤ length out → length (tableauLine n v) ≤ length out′
-      → (lineBytes n u out ≡ lineBytes n v out′) ↔ Joined u v
+  pub shared : (out out′ : List ℕ) → length (line n u) ≤ length out → length (line n v) ≤ length out′
+      → (lineBytes run n u out ≡ lineBytes run n v out′) ↔ Joined u v
   -- 2. If a chain joins them, each move is made in both, each at its own place, or refused in both with one number,
   pub together : Joined u v → (m : Move) → MovedTogether (given (m .side) (m .index)) u v (moveWordRun n m u) (moveWordRun n m v)
   -- and the bytes written for the words that it leaves are equal.
-  pub results : Joined u v → (m : Move) (out out′ : List ℕ) → length (tableauLine n (moveLeft n m u)) ≤ length out
-      → length (tableauLine n (moveLeft n m v)) ≤ length out′ → lineBytes n (moveLeft n m u) out ≡ lineBytes n (moveLeft n m v) out′
+  pub results : Joined u v → (m : Move) (out out′ : List ℕ) → length (line n (moveLeft n m u)) ≤ length out
+      → length (line n (moveLeft n m v)) ≤ length out′ → lineBytes run n (moveLeft n m u) out ≡ lineBytes run n (moveLeft n m v) out′
   -- 3. A move keeps what the pair's operation replies and writes of marks and entries, whatever memory it is lent.
   pub recordings : (m : Move) (p : Pair) (cs : List ℕ) → OneRecording (pairRun n (moveLeft n m u) p cs) (pairRun n u p cs)
 
 -- Demand 3 over what is written: at every rank, of any two words accepted at it.
 abbrev pub FaithfulWriting : Type 0
-FaithfulWriting = (n : ℕ) (u v : List ℕ) → Accepted n u → Accepted n v → FaithfullyWritten n u v
+FaithfulWriting = (n : ℕ) (u v : List ℕ) → Accepted n u → Accepted n v → FaithfullyWritten tableauLine tableauLineRun n u v

@@ -4,8 +4,8 @@
 --     FaithfulAcross line move n m u v    lines and moves tell of u at rank n and of v at rank m what the rewriting rules tell
 --     unrankedLine n w               the tableau line of a word, its rank field left out
 --     FaithfulRanks                  the claim: FaithfulAcross of these lines and of moves on words. Theorem `ranks`, proofs/Theory/Ranks.antt
---     WrittenAcross n m u v          the same of what the operations reply and leave in lent memory
---     WrittenRanks                   the claim over what is written. Theorem `written-ranks`, proofs/Theory/WrittenRanks.antt
+--     WrittenAcross line run n m u v the same of what the operations reply and leave in lent memory, run being the one that writes the line of a word
+--     WrittenRanks                   the claim over what is written of tableau lines. Theorem `written-ranks`, proofs/Theory/WrittenRanks.antt
 -- The rewriting rules name no rank: a chain between u and v is what it was. Of a move that only one of the ranks has nothing is claimed of the two words
 -- together: at the other rank it is refused with 9. Demand 3 itself, of one rank and whole lines, stays where it was. Assumes nothing.
 use mathlib.Core.Path.{_≡_}
@@ -19,9 +19,10 @@ use Rattle.hypoplactic.specs.Insertion.{Pair, recordingOf}
 use Rattle.hypoplactic.specs.Words.{Accepted}
 use Rattle.hypoplactic.specs.Moves.{Move, Defined, given, indexOf, moveWord}
 use Rattle.hypoplactic.specs.Rewriting.{Joined}
+use Rattle.hypoplactic.specs.Replies.{Said}
 use Rattle.hypoplactic.specs.WordOperations.{moveWordRun}
 use Rattle.hypoplactic.specs.TableauOperations.{pairRun}
-use Rattle.hypoplactic.specs.LineOperations.{tableauLine}
+use Rattle.hypoplactic.specs.LineOperations.{tableauLine, tableauLineRun}
 use Rattle.hypoplactic.specs.Classes.{MovedTogether, OneRecording, lineBytes, moveLeft}
 use Rattle.ranks.specs.Unranked.{withoutRank}
 
@@ -48,20 +49,21 @@ unrankedLine n w = withoutRank (tableauLine n w)
 abbrev pub FaithfulRanks : Type 0
 FaithfulRanks = (n m : ℕ) (u v : List ℕ) → Accepted n u → Accepted m v → FaithfulAcross unrankedLine moveWord n m u v
 
-pub record WrittenAcross (n m : ℕ) (u v : List ℕ) : Type 0 where
+pub record WrittenAcross (line : ℕ → List ℕ → List ℕ) (run : ℕ → List ℕ → List ℕ → Said × List ℕ)
+    (n m : ℕ) (u v : List ℕ) : Type 0 where
   -- 1. With buffers long enough, the bytes written are equal without their rank fields exactly when a chain joins the words.
-  pub shared : (out out′ : List ℕ) → length (tableauLine n u) ≤ length out → length (tableauLine m v) ≤ length out′
-      → (withoutRank (lineBytes n u out) ≡ withoutRank (lineBytes m v out′)) ↔ Joined u v
+  pub shared : (out out′ : List ℕ) → length (line n u) ≤ length out → length (line m v) ≤ length out′
+      → (withoutRank (lineBytes run n u out) ≡ withoutRank (lineBytes run m v out′)) ↔ Joined u v
   -- 2. If a chain joins them, each move that both ranks have is made in both, each at its own place, or refused in both with one number,
   pub together : Joined u v → (k : Move) → Has n k → Has m k
       → MovedTogether (given (k .side) (k .index)) u v (moveWordRun n k u) (moveWordRun m k v)
   -- and the bytes written for the words that it leaves are equal without their rank fields.
-  pub results : Joined u v → (k : Move) → Has n k → Has m k → (out out′ : List ℕ) → length (tableauLine n (moveLeft n k u)) ≤ length out
-      → length (tableauLine m (moveLeft m k v)) ≤ length out′
-      → withoutRank (lineBytes n (moveLeft n k u) out) ≡ withoutRank (lineBytes m (moveLeft m k v) out′)
+  pub results : Joined u v → (k : Move) → Has n k → Has m k → (out out′ : List ℕ) → length (line n (moveLeft n k u)) ≤ length out
+      → length (line m (moveLeft m k v)) ≤ length out′
+      → withoutRank (lineBytes run n (moveLeft n k u) out) ≡ withoutRank (lineBytes run m (moveLeft m k v) out′)
   -- 3. A move keeps what the pair's operation replies and writes of marks and entries, whatever memory it is lent.
   pub recordings : (k : Move) (p : Pair) (cs : List ℕ) → OneRecording (pairRun n (moveLeft n k u) p cs) (pairRun n u p cs)
 
 -- The same over what is written.
 abbrev pub WrittenRanks : Type 0
-WrittenRanks = (n m : ℕ) (u v : List ℕ) → Accepted n u → Accepted m v → WrittenAcross n m u v
+WrittenRanks = (n m : ℕ) (u v : List ℕ) → Accepted n u → Accepted m v → WrittenAcross tableauLine tableauLineRun n m u v

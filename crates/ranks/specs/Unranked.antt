@@ -1,6 +1,6 @@
 -- A line with its rank field left out (document 02, N5), as a function on bytes, so that it can be said of what was written.
 --     withoutRank line     the byte of the kind, then what follows the field after it
--- It fits every kind of line that has the rank directly after its kind: W, T and P lines, and later kinds. Of bytes that are no line it gives some bytes; nothing
+-- It fits every kind of line that has the rank directly after its kind: W, T, C and P lines, and later kinds. Of bytes that are no line it gives some bytes; nothing
 -- is asked of them. Assumes nothing.
 use Prim.Native.Nat.{ℕ}
 use mathlib.Core.List.{List, [], _∷_}

@@ -3,7 +3,7 @@
 --     convert-second-broken    after a T line, where N lines break in the second text, the bytes of the first before it
 --     convert-broken-only      nowhere else
 -- Assumes nothing.
-use Prim.Native.Nat.{ℕ, _+_, _<_}
+use Prim.Native.Nat.{ℕ, _+_}
 use native.Mathlib.Omega.{arith}
 use mathlib.Core.Path.{_≡_, refl, sym, ap, subst, _∙_}
 use mathlib.Core.List.{List, [], _∷_, _++_}
@@ -59,7 +59,7 @@ convert-broken-only t r out p h = first-text (readT t) refl h
 
     second-text : (n : ℕ) (xs ms : List ℕ) → IsT t → (s : Read (List ℕ)) → readN r ≡ s
         → (secondRun (length t) r (converted out n xs ms) out s) .0 ≡ refused 14 p → BreaksIn t r p
-    second-text n xs ms is (got rs rest) f e = let z : 14 < 14 = subst Other e (others n xs ms rs) in let no : ⊥ = omega arith in absurd no
+    second-text n xs ms is (got rs rest) f e = absurd (subst Other e (others n xs ms rs) refl)
     second-text n xs ms is (broken rest) f e = inr (is, (_, n-place r rest f, ap placeOf (sym e)))
 
     first-text : (s : Read (ℕ × List ℕ × List ℕ)) → readT t ≡ s

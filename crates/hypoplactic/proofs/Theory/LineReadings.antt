@@ -115,7 +115,7 @@ module _ {A B : Type 0} (Line : List ℕ → Type 0) (get : List ℕ → Read A)
   broken-exactly p = (from (get text) refl, to)
     where
       from : (r : Read A) → get text ≡ r → (readRun text run old r) .0 ≡ refused 14 p → Breaks Line text p
-      from (got a rest) e h = let z : 14 < 14 = subst Other h (others a) in let no : ⊥ = omega arith in absurd no
+      from (got a rest) e h = absurd (subst Other h (others a) refl)
       from (broken rest) e h = subst (Breaks Line text) (ap (λ (s : Said). (shown s) .1) h) (place rest e)
 
       to : Breaks Line text p → (readRun text run old (get text)) .0 ≡ refused 14 p

@@ -20,7 +20,7 @@ unfolding roomRun
 past-checks js bytes out p = rw (first-past js (roomJudged (length bytes) (length out) ∷ []) (gives (length bytes ∷ [])) p)
 
 -- Any writer whose checks refuse nothing, with room for its bytes.
-line-result : (checks : List Said) (bytes out : List ℕ) → Passing checks → length bytes ≤ length out → lineRun checks bytes out ≡ (gives (length bytes ∷ []), written bytes out)
+pub line-result : (checks : List Said) (bytes out : List ℕ) → Passing checks → length bytes ≤ length out → lineRun checks bytes out ≡ (gives (length bytes ∷ []), written bytes out)
 line-result checks bytes out p r = ran-answer checks (roomJudged (length bytes) (length out) ∷ []) (length bytes ∷ []) (written bytes out) out p (room-judged _ _ .1 r, tt)
 
 module _ (n : ℕ) (w : List ℕ) (a : Accepted n w) where

@@ -1,7 +1,8 @@
 -- Demand 3 of the scope over what is written, as one theorem. The statement is `FaithfulWriting` of specs/Classes.antt.
 --     line-bytes          the bytes in a buffer that is long enough are the tableau line
 --     move-left           a move leaves an accepted word accepted
---     written-classes     the theorem
+--     faithfully-written  the core: of any line of words whose bytes are written as they are
+--     written-classes     the theorem, at the tableau line
 --     recording-written   from it, as three equations: a move keeps reply, marks and entries of the pair
 -- The demand itself is `classes` of Classes. Assumes nothing.
 use Prim.Native.Nat.{ℕ, _≤_}
@@ -18,7 +19,7 @@ use Rattle.hypoplactic.specs.Replies.{Said, after, first, gives, refused
 use Rattle.hypoplactic.specs.Judgements.{pairRooms, wordJudgements}
 use Rattle.hypoplactic.specs.WordOperations.{moveWordRun, orSame, undefinedBy}
 use Rattle.hypoplactic.specs.TableauOperations.{pairRun, pairSays}
-use Rattle.hypoplactic.specs.LineOperations.{tableauLine}
+use Rattle.hypoplactic.specs.LineOperations.{tableauLine, tableauLineRun}
 use Rattle.hypoplactic.specs.Classes.{Faithful, FaithfullyWritten, FaithfulWriting, MovedTogether, OneRecording, in-both, in-neither, lineBytes, moveLeft}
 use Rattle.hypoplactic.proofs.Theory.Classes.{classes}
 use Rattle.hypoplactic.proofs.Theory.Closure.{move-accepted}
@@ -33,7 +34,7 @@ use Rattle.hypoplactic.proofs.Theory.Recordings.{descents, marks-of-rec
 use Rattle.hypoplactic.proofs.Theory.Targets.{place-below}
 
 -- The bytes written are the tableau line.
-pub line-bytes : (n : ℕ) (w out : List ℕ) → Accepted n w → length (tableauLine n w) ≤ length out → lineBytes n w out ≡ tableauLine n w
+pub line-bytes : (n : ℕ) (w out : List ℕ) → Accepted n w → length (tableauLine n w) ≤ length out → lineBytes tableauLineRun n w out ≡ tableauLine n w
 line-bytes n w out a l = rw (tableau-line-result n w a out l) (written-needed (tableauLine n w) out)
 
 -- The word that a move leaves: what the move gives, or the word itself,
@@ -73,15 +74,15 @@ recording-same n u v p cs a b e =
       entries = same-left (λ (m : Pair × List ℕ). m .0 .recording) _ _ _ _ (p, cs) reply (ap (λ (l : List ℕ). written l (p .recording)) e);
     }
 
-module _ (n : ℕ) (u v : List ℕ) (a : Accepted n u) (b : Accepted n v) where
-  faith : Faithful (tableauLine n) (moveWord n) u v
-  faith = classes n u v a b
-
+-- A line of words that is faithful, and an operation that writes it as it is.
+module _ (line : ℕ → List ℕ → List ℕ) (run : ℕ → List ℕ → List ℕ → Said × List ℕ) (n : ℕ)
+    (wrote : (w out : List ℕ) → Accepted n w → length (line n w) ≤ length out → lineBytes run n w out ≡ line n w)
+    (u v : List ℕ) (a : Accepted n u) (b : Accepted n v) (faith : Faithful (line n) (moveWord n) u v) where
   -- The lines of the words that a move leaves.
-  left-lines : Joined u v → (m : Move) → tableauLine n (moveLeft n m u) ≡ tableauLine n (moveLeft n m v)
+  left-lines : Joined u v → (m : Move) → line n (moveLeft n m u) ≡ line n (moveLeft n m v)
   left-lines j m = rw (left-word n m u a, left-word n m v b) (go (moveWord n m u) (moveWord n m v) refl refl (faith .together j m))
     where
-      go : (o p : Option (List ℕ)) → moveWord n m u ≡ o → moveWord n m v ≡ p → Defined o ↔ Defined p → tableauLine n (orSame o u) ≡ tableauLine n (orSame p v)
+      go : (o p : Option (List ℕ)) → moveWord n m u ≡ o → moveWord n m v ≡ p → Defined o ↔ Defined p → line n (orSame o u) ≡ line n (orSame p v)
       go none none e f h = faith .shared .1 j
       go none (some v′) e f h = absurd (h .1 tt)
       go (some u′) none e f h = absurd (h .0 tt)
@@ -116,19 +117,19 @@ module _ (n : ℕ) (u v : List ℕ) (a : Accepted n u) (b : Accepted n v) where
       go none e = refl
       go (some u′) e = faith .recordings m u′ e
 
-  faithfully-written : FaithfullyWritten n u v
+  pub faithfully-written : FaithfullyWritten line run n u v
   unfolding moveWordRun
   faithfully-written =
       record {
-        shared = λ out out′ l k. rw (line-bytes n u out a l, line-bytes n v out′ b k) (faith .shared);
+        shared = λ out out′ l k. rw (wrote u out a l, wrote v out′ b k) (faith .shared);
         together = moved-together;
         results = λ j m out out′ l k.
-            line-bytes n (moveLeft n m u) out (move-left n m u a) l ∙ left-lines j m ∙ sym (line-bytes n (moveLeft n m v) out′ (move-left n m v b) k);
+            wrote (moveLeft n m u) out (move-left n m u a) l ∙ left-lines j m ∙ sym (wrote (moveLeft n m v) out′ (move-left n m v b) k);
         recordings = λ m p cs. recording-same n (moveLeft n m u) u p cs (move-left n m u a) a (left-recording m);
       }
 
 pub written-classes : FaithfulWriting
-written-classes n u v a b = faithfully-written n u v a b
+written-classes n u v a b = faithfully-written tableauLine tableauLineRun n (line-bytes n) u v a b (classes n u v a b)
 
 -- What the third sentence is for: of a word and of what a move leaves of it, the recording ribbons as they are written are one, and so are shape and reply.
 pub recording-written : FaithfulWriting → (n : ℕ) (w : List ℕ) (m : Move) (p : Pair) (cs : List ℕ) → Accepted n w

@@ -7,6 +7,7 @@ use mathlib.Core.Path.{sym}
 use mathlib.Core.List.{List}
 use mathlib.Core.Option.{Option}
 use Rattle.hypoplactic.specs.Moves.{Move}
+use Rattle.hypoplactic.specs.Replies.{Said}
 use Rattle.hypoplactic.proofs.Theory.Joining.{joined-sym}
 use Rattle.changed_places.proofs.Theory.TakenApart.{together-turned}
 use Rattle.ranks.specs.Ranks.{FaithfulAcross, WrittenAcross}
@@ -23,8 +24,9 @@ exchanged line move n m u v faith own =
     }
 
 -- and of what is written.
-pub written-exchanged : (n m : ℕ) (u v : List ℕ) → WrittenAcross n m u v → WrittenAcross m m v v → WrittenAcross m n v u
-written-exchanged n m u v faith own =
+pub written-exchanged : (line : ℕ → List ℕ → List ℕ) (run : ℕ → List ℕ → List ℕ → Said × List ℕ) (n m : ℕ) (u v : List ℕ)
+    → WrittenAcross line run n m u v → WrittenAcross line run m m v v → WrittenAcross line run m n v u
+written-exchanged line run n m u v faith own =
     record {
       shared = λ out out′ l r.
           let t = faith .shared out′ out r l in

@@ -14,14 +14,13 @@ use mathlib.Core.List.{List}
 use mathlib.Core.Logic.{_↔_}
 use mathlib.Core.Option.{Option, none, some, Option·none-ne-some}
 use lib.Dec.{ltb}
-use lib.ListN.{length}
 use borrow.Author.Tests.{lt-ltb, ltb-true}
 use Rattle.hypoplactic.specs.Words.{Accepted}
 use Rattle.hypoplactic.specs.Rewriting.{Joined}
 use Rattle.hypoplactic.specs.Replies.{Said, refused}
 use Rattle.hypoplactic.specs.Moves.{Defined, Move, given, indexOf, moveWord}
 use Rattle.hypoplactic.specs.WordOperations.{moveWordRun}
-use Rattle.hypoplactic.specs.LineOperations.{tableauLine}
+use Rattle.hypoplactic.specs.LineOperations.{tableauLine, tableauLineRun}
 use Rattle.hypoplactic.specs.Classes.{Faithful, FaithfullyWritten, MovedTogether, in-neither, lineBytes, moveLeft}
 use Rattle.hypoplactic.proofs.Theory.Limits.{and-both, within-more}
 use Rattle.hypoplactic.proofs.Theory.MoveResults.{move-word-refused}
@@ -94,14 +93,14 @@ ranks-lines all n m u v up most a b =
 module _ (n m : ℕ) (up : n ≤ m) (most : m ≤ 64) where
   -- Lines at the smaller rank are equal exactly where the bytes written at both agree without their rank fields.
   lines-bytes : (x y : List ℕ) → Accepted n x → Accepted n y
-      → (withoutRank (lineBytes n x (tableauLine n x)) ≡ withoutRank (lineBytes m y (tableauLine m y))) ↔ (tableauLine n x ≡ tableauLine n y)
+      → (withoutRank (lineBytes tableauLineRun n x (tableauLine n x)) ≡ withoutRank (lineBytes tableauLineRun m y (tableauLine m y))) ↔ (tableauLine n x ≡ tableauLine n y)
   unfolding unrankedLine tableauLine
   lines-bytes x y a b =
       let unranked : withoutRank (tableauLine m y) ≡ withoutRank (tableauLine n y) = tableau-unranked m n _ _ in
       let there : Accepted m y = accepted-more n m up most y b in
       rw (line-bytes n x (tableauLine n x) a (le-refl _), line-bytes m y (tableauLine m y) there (le-refl _), unranked) (unranked-whole n x y)
 
-  module _ (u v : List ℕ) (a : Accepted n u) (b : Accepted n v) (faith : WrittenAcross n m u v) where
+  module _ (u v : List ℕ) (a : Accepted n u) (b : Accepted n v) (faith : WrittenAcross tableauLine tableauLineRun n m u v) where
     -- The lines of joined words,
     joined-lines : (tableauLine n u ≡ tableauLine n v) ↔ Joined u v
     joined-lines =
@@ -134,7 +133,7 @@ module _ (n m : ℕ) (up : n ≤ m) (most : m ≤ 64) where
           = λ w c. ap (λ (r : Said × List ℕ). tableauLine n (r .1)) (other w c e) in
           stays u a ∙ joined-lines .1 j ∙ sym (stays v b)
 
-    written-smaller : FaithfullyWritten n u v
+    written-smaller : FaithfullyWritten tableauLine tableauLineRun n u v
     written-smaller =
         record {
           shared = λ out out′ l r. rw (line-bytes n u out a l, line-bytes n v out′ b r) joined-lines;
@@ -145,5 +144,5 @@ module _ (n m : ℕ) (up : n ≤ m) (most : m ≤ 64) where
           recordings = faith .recordings;
         }
 
-pub ranks-writing : WrittenRanks → (n m : ℕ) (u v : List ℕ) → n ≤ m → m ≤ 64 → Accepted n u → Accepted n v → FaithfullyWritten n u v
+pub ranks-writing : WrittenRanks → (n m : ℕ) (u v : List ℕ) → n ≤ m → m ≤ 64 → Accepted n u → Accepted n v → FaithfullyWritten tableauLine tableauLineRun n u v
 ranks-writing all n m u v up most a b = written-smaller n m up most u v a b (all n m u v a (accepted-more n m up most v b))
