@@ -10,3 +10,4 @@ pub mod Longest
 pub mod Numbers
 pub mod NumbersExact
 pub mod Sound
+pub mod UntilFeed

@@ -1,5 +1,6 @@
--- The six kinds of lines as bytes, over ranks, letters, marks, entries and numbers.
---     wLine, tLine, pLine, nLine, jLine, eLine
+-- The seven kinds of lines as bytes, over ranks, letters, marks, entries, runs and numbers.
+--     wLine, tLine, cLine, pLine, nLine, jLine, eLine
+--     Run                                         what one item of a C line tells
 -- N lines are written no more: they stand in old files, each beside its T line (document 02, N7).
 -- Fields are parted by commas (44), and a line ends in a line feed (10). Nothing here asks whether the values are a word or a tableau. Assumes nothing.
 use Prim.Native.Nat.{ℕ, zero, suc}
@@ -46,6 +47,24 @@ wLine rank letters = line 87 (field rank ++ (field (length letters) ++ items fie
 -- T, rank, how many letters, the letters in ribbon order with r or d between neighbours.
 unfoldable pub tLine : ℕ → List ℕ → List ℕ → List ℕ
 tLine rank letters marks = line 84 (field rank ++ (field (length letters) ++ items firstCell cell (cells letters marks)))
+
+-- A run: a letter, how often it stands, and the mark of the first of its cells.
+pub record Run : Type 0 where
+  pub letter : ℕ
+  pub times : ℕ
+  pub mark : ℕ
+
+-- The first run: its first cell, then how often its letter stands.
+abbrev pub firstRun : Run → List ℕ
+firstRun r = firstCell (r .letter, r .mark) ++ field (r .times)
+
+-- Another run, likewise, and so with the step before it.
+abbrev pub laterRun : Run → List ℕ
+laterRun r = cell (r .letter, r .mark) ++ field (r .times)
+
+-- C, rank, a number of cells, runs. The number is written as it is: the runs need not have so many cells, nor be so many.
+unfoldable pub cLine : ℕ → ℕ → List Run → List ℕ
+cLine rank size runs = line 67 (field rank ++ (field size ++ items firstRun laterRun runs))
 
 -- P, rank, how many cells, the items of the T line, the recording entries in ribbon order.
 unfoldable pub pLine : ℕ → List ℕ → List ℕ → List ℕ → List ℕ

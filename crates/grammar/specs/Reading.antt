@@ -3,11 +3,14 @@
 --     readNumber          one to four digits, as many as there are; after a leading 0 nothing more
 --     readW, readT, readN a whole line: after exactly L items the line feed, and nothing after it
 --     readP               the same, with L cells and then L entries
+--     readC               the same, but with items up to the line feed, whatever L says
 -- Values are only read here, and judged elsewhere. Assumes nothing.
 use Prim.Native.Nat.{ℕ, zero, suc, _+_, _-_, _*_}
 use mathlib.Core.List.{List, [], _∷_, map}
-use mathlib.Core.Bool.{Bool, cond, _&&_}
+use mathlib.Core.Bool.{Bool, false, cond, _&&_}
 use lib.Dec.{leb, eqb}
+use lib.ListN.{length}
+use Rattle.grammar.specs.Lines.{Run}
 
 -- What a reading gives.
 pub data Read (A : Type 0) : Type 0 where
@@ -38,6 +41,17 @@ module _ {A : Type 0} where
   abbrev pub many : (List ℕ → Read A) → (List ℕ → Read A) → ℕ → List ℕ → Read (List A)
   many first later zero t = got [] t
   many first later (suc n) t = both _∷_ first (λ a. many later later n) t
+
+-- Whether the line feed stands next.
+abbrev pub feedNext : List ℕ → Bool
+feedNext [] = false
+feedNext (b ∷ t) = eqb b 10
+
+module _ {A : Type 0} where
+  -- Items up to the line feed, the first by one reader, the others by another; at most so many as the number says.
+  abbrev pub untilFeed : (List ℕ → Read A) → (List ℕ → Read A) → ℕ → List ℕ → Read (List A)
+  untilFeed first later zero t = got [] t
+  untilFeed first later (suc k) t = cond (feedNext t) (got [] t) (both _∷_ first (λ a u. untilFeed later later k u) t)
 
 -- The end of the text.
 abbrev pub ended : List ℕ → Read Unit
@@ -115,6 +129,18 @@ readW = readLine 87 (ranked (λ n ws. (n, ws)) readField readField)
 -- T: rank, letters and marks.
 unfoldable pub readT : List ℕ → Read (ℕ × List ℕ × List ℕ)
 readT = readLine 84 (ranked (λ n cells. (n, letters cells, marks cells)) readFirst readCell)
+
+-- A run: its first cell, then how often its letter stands.
+abbrev pub readRunBy : (List ℕ → Read (ℕ × ℕ)) → List ℕ → Read Run
+readRunBy cell = both (λ c k. record { letter = c .0; times = k; mark = c .1 }) cell (λ c. readField)
+
+-- Runs up to the line feed. An item takes a byte or breaks, so one item more than there are bytes is never reached.
+unfoldable pub readRuns : List ℕ → Read (List Run)
+readRuns t = untilFeed (readRunBy readFirst) (readRunBy readCell) (suc (length t)) t
+
+-- C: rank, a number of cells, and runs. The number has no part in how many runs are read.
+unfoldable pub readC : List ℕ → Read (ℕ × ℕ × List Run)
+readC = readLine 67 (both (λ n v. (n, v .0, v .1)) readField (λ n. both {C = ℕ × List Run} (λ k rs. (k, rs)) readField (λ k. readRuns)))
 
 -- P: rank, letters, marks and entries. One count tells how many cells and how many entries there are.
 unfoldable pub readP : List ℕ → Read (ℕ × List ℕ × List ℕ × List ℕ)

@@ -1,17 +1,20 @@
--- What a line's definition gives, the grammar reads back: w-complete, t-complete, p-complete, n-complete.
+-- What a line's definition gives, the grammar reads back: w-complete, t-complete, c-complete, p-complete, n-complete.
 -- Assumes nothing.
 use Prim.Native.Nat.{ℕ, zero, suc, _≤_}
-use mathlib.Core.Path.{_≡_, refl, sym, ap, _∙_}
+use mathlib.Core.Path.{_≡_, refl, sym, ap, _∙_, subst}
+use mathlib.Core.Bool.{true}
 use mathlib.Core.List.{List, [], _∷_, _++_, append-assoc}
 use native.Mathlib.Omega.{arith}
 use borrow.Author.Tests.{eq-eqb}
 use lib.ListN.{length}
 use Rattle.grammar.specs.Numbers.{decimal}
-use Rattle.grammar.specs.Lines.{line, field, items, step, firstCell, cell, cells, wLine, tLine, pLine, nLine}
-use Rattle.grammar.specs.Values.{Items, Short, Small, Stepped, Marked}
-use Rattle.grammar.specs.Reading.{Read, got, readField, readStep, readFirst, readCell, letters, marks, readW, readT, readP, readN, both, many, readLine, counted, twice, countedTwice, ranked}
+use Rattle.grammar.specs.Lines.{Run, line, field, items, step, firstCell, cell, cells, firstRun, laterRun, wLine, tLine, cLine, pLine, nLine}
+use Rattle.grammar.specs.Values.{Items, Short, Small, Stepped, Marked, RunWith, CGood}
+use Rattle.grammar.specs.Reading.{Read, got, readField, readStep, readFirst, readCell, readRunBy, readRuns, letters, marks, readW, readT, readC, readP, readN, both, many, feedNext, untilFeed, readLine, counted, twice, countedTwice, ranked}
 use Rattle.grammar.proofs.Theory.Items.{items-open, Cell, First, stepped, cells-length, cells-letters, cells-marks, ribbon-good}
 use Rattle.grammar.proofs.Theory.Numbers.{Ends, number-read}
+use Rattle.grammar.proofs.Theory.UntilFeed.{Past, Settled}
+use Rattle.grammar.proofs.Theory.LinesExact.{runs-same}
 
 -- A reader of items takes what a writer gives of good values where no digit follows, and what is written begins with no digit.
 pub record Complete {A : Type 0} (Good : A → Type 0) (put : A → List ℕ) (get : List ℕ → Read A) : Type 0 where
@@ -24,6 +27,13 @@ many-complete : {A : Type 0} {P Q : A → Type 0} {p q : A → List ℕ} {r s : 
 many-complete f g [] t h e = refl
 many-complete {p} {q} f g (a ∷ l) t h e =
     rw (append-assoc, f .reads a (items q q l ++ t) (h .0) (items-open q q (g .opens) l t e), many-complete g g l t (h .1) e)
+
+-- Items before the line feed are read back, where one more is allowed than there are.
+until-complete : {A : Type 0} {P Q : A → Type 0} {p q : A → List ℕ} {r s : List ℕ → Read A} → Complete P p r → Complete Q q s → Past p → Past q
+    → (l : List A) (t : List ℕ) → Items P Q l → feedNext t ≡ true → Ends t → untilFeed r s (suc (length l)) (items p q l ++ t) ≡ got l t
+until-complete f g c d [] t h x e = rw x
+until-complete {p} {q} f g c d (a ∷ l) t h x e =
+    rw (append-assoc, c a (items q q l ++ t), f .reads a (items q q l ++ t) (h .0) (items-open q q (g .opens) l t e), until-complete g g d d l t (h .1) x e)
 
 field-complete : Complete Short field readField
 field-complete = record { reads = number-read; opens = λ a t. refl }
@@ -85,6 +95,30 @@ cell-complete =
       opens = λ c t. refl;
     }
 
+-- A run: a cell, then how often its letter stands.
+run-complete : (M : ℕ → Type 0) (put : ℕ × ℕ → List ℕ) (get : List ℕ → Read (ℕ × ℕ)) → Complete (λ c. Short (c .0) × M (c .1)) put get
+    → Complete (RunWith M) (λ r. put (r .letter, r .mark) ++ field (r .times)) (readRunBy get)
+run-complete M put get f =
+    record {
+      reads = λ r t h e.
+          rw (append-assoc, f .reads (r .letter, r .mark) (field (r .times) ++ t) (h .0, h .2) refl, number-read (r .times) t (h .1) e);
+      opens = λ r t. rw append-assoc (f .opens (r .letter, r .mark) (field (r .times) ++ t));
+    }
+
+-- Runs before the line feed are read back.
+runs-complete : (rs : List Run) (t : List ℕ) → Items (RunWith (λ m. m ≡ 0)) (RunWith (λ m. m ≤ 1)) rs → feedNext t ≡ true → Ends t
+    → readRuns (items firstRun laterRun rs ++ t) ≡ got rs t
+runs-complete rs t h x e =
+    let text : List ℕ = items firstRun laterRun rs ++ t in
+    let r : untilFeed (readRunBy readFirst) (readRunBy readCell) (suc (length rs)) text ≡ got rs t =
+    until-complete (run-complete (λ m. m ≡ 0) firstCell readFirst first-complete) (run-complete (λ m. m ≤ 1) cell readCell cell-complete)
+    (λ r t. refl) (λ r t. refl) rs t h x e in
+    runs-same (suc (length rs)) text (subst Settled (sym r) x) ∙ r
+
+-- A number and runs.
+abbrev sizedRuns : List ℕ → Read (ℕ × List Run)
+sizedRuns = both {C = ℕ × List Run} (λ k rs. (k, rs)) readField (λ k. readRuns)
+
 -- W: rank and letters are read back from their line.
 pub w-complete : (n : ℕ) (xs : List ℕ) → Short n → Small xs → readW (wLine n xs) ≡ got (n, xs) []
 unfolding wLine readW
@@ -102,6 +136,16 @@ t-complete n xs ms k h m =
     (line-complete 84 (ranked (λ m c. (m, letters c, marks c)) readFirst readCell) (field n ++ (field (length (cells xs ms)) ++ items firstCell cell (cells xs ms))) (n, xs, ms)
     (ranked-complete first-complete cell-complete (λ m c. (m, letters c, marks c)) n (cells xs ms) (10 ∷ []) k (rw e (h .0)) (ribbon-good Short xs ms (h .1) m) refl
     ∙ rw (cells-letters xs ms s, cells-marks xs ms s)))
+
+-- C: rank, number of cells and runs are read back from their line.
+pub c-complete : (n k : ℕ) (rs : List Run) → CGood (n, k, rs) → readC (cLine n k rs) ≡ got (n, k, rs) []
+unfolding cLine readC
+c-complete n k rs h =
+    let body : List ℕ = items firstRun laterRun rs in
+    line-complete 67 (both (λ n v. (n, v .0, v .1)) readField (λ n. sizedRuns)) (field n ++ (field k ++ body)) (n, k, rs)
+    (onward-complete (λ n (v : ℕ × List Run). (n, v .0, v .1)) (λ n. sizedRuns) n (field k ++ body) (10 ∷ []) (k, rs) (h .0) refl
+    (onward-complete {C = ℕ × List Run} (λ k rs. (k, rs)) (λ k. readRuns) k body (10 ∷ []) rs (h .1) (items-open firstRun laterRun (λ r t. refl) rs (10 ∷ []) refl)
+    (runs-complete rs (10 ∷ []) (h .2) refl refl)))
 
 -- P: rank, letters, marks and entries are read back from their line.
 pub p-complete : (n : ℕ) (xs ms rs : List ℕ) → Short n → Small xs → Marked xs ms → length rs ≡ length xs → Items Short Short rs

@@ -1,16 +1,19 @@
--- A line determines its values: w-determined, t-determined, p-determined, n-determined, j-determined, e-determined. They hold of all numbers.
+-- A line determines its values: w-determined, t-determined, c-determined, p-determined, n-determined, j-determined, e-determined.
+-- They hold of all numbers; of runs only the marks are asked.
 -- Assumes nothing.
 use Prim.Native.Nat.{ℕ, zero, suc, _≤_}
 use mathlib.Core.Path.{_≡_, refl, sym, ap, _∙_}
+use mathlib.Core.Bool.{true, true≢false}
 use mathlib.Core.List.{List, [], _∷_, _++_, append-assoc}
 use native.Mathlib.Omega.{arith}
 use lib.ListN.{length, drop, getD}
 use Rattle.grammar.specs.Numbers.{decimal}
-use Rattle.grammar.specs.Lines.{field, items, step, firstCell, cell, cells, wLine, tLine, pLine, nLine, jLine, eLine}
-use Rattle.grammar.specs.Values.{Items, Stepped, Marked}
-use Rattle.grammar.specs.Reading.{letters, marks}
+use Rattle.grammar.specs.Lines.{Run, field, items, step, firstCell, cell, cells, firstRun, laterRun, wLine, tLine, cLine, pLine, nLine, jLine, eLine}
+use Rattle.grammar.specs.Values.{Items, Stepped, Marked, MarkedRuns}
+use Rattle.grammar.specs.Reading.{letters, marks, feedNext}
 use Rattle.grammar.proofs.Theory.Items.{items-open, Cell, First, stepped, cells-length, cells-letters, cells-marks, ribbon-good}
 use Rattle.grammar.proofs.Theory.Numbers.{Ends, decimal-cut}
+use Rattle.grammar.proofs.Theory.UntilFeed.{Past}
 
 -- What a writer gives of good values begins with no digit, and where no digit follows it determines the value and what follows.
 record Cut {A : Type 0} (Good : A → Type 0) (put : A → List ℕ) : Type 0 where
@@ -29,6 +32,19 @@ items-cut {p} {q} f g (a ∷ l) (b ∷ k) s t n x y d e h =
     (sym (append-assoc (p a) (items q q l) s) ∙ h ∙ append-assoc (p b) (items q q k) t) in
     let rest : (l ≡ k) × (s ≡ t) = items-cut g g l k s t (omega arith) (x .1) (y .1) d e (head .1) in
     (cc, rest .1)
+
+-- Items before the line feed determine the list of them, however many there are.
+fed-cut : {A : Type 0} {P Q : A → Type 0} {p q : A → List ℕ} → Cut P p → Cut Q q → Past p → Past q → (l k : List A) (s t : List ℕ)
+    → Items P Q l → Items P Q k → feedNext s ≡ true → feedNext t ≡ true → Ends s → Ends t → items p q l ++ s ≡ items p q k ++ t → l ≡ k
+fed-cut f g c o [] [] s t x y u v d e h = refl
+fed-cut {p} {q} f g c o [] (b ∷ k) s t x y u v d e h = absurd (true≢false (sym u ∙ ap feedNext (h ∙ append-assoc (p b) (items q q k) t) ∙ c b (items q q k ++ t)))
+fed-cut {p} {q} f g c o (a ∷ l) [] s t x y u v d e h = absurd (true≢false (sym v ∙ ap feedNext (sym h ∙ append-assoc (p a) (items q q l) s) ∙ c a (items q q l ++ s)))
+fed-cut {p} {q} f g c o (a ∷ l) (b ∷ k) s t x y u v d e h =
+    let head : (a ≡ b) × (items q q l ++ s ≡ items q q k ++ t) =
+    f .cut a b (items q q l ++ s) (items q q k ++ t) (x .0) (y .0) (items-open q q (g .opens) l s d) (items-open q q (g .opens) k t e)
+    (sym (append-assoc (p a) (items q q l) s) ∙ h ∙ append-assoc (p b) (items q q k) t) in
+    let rest : l ≡ k = fed-cut g g o o l k s t (x .1) (y .1) u v d e (head .1) in
+    λ i. head .0 i ∷ rest i
 
 -- A number's field and what follows it.
 field-cut : (n m : ℕ) (b c s t : List ℕ) → Ends (b ++ s) → Ends (c ++ t) → field n ++ b ++ s ≡ field m ++ c ++ t → (n ≡ m) × (b ++ s ≡ c ++ t)
@@ -92,6 +108,20 @@ cell-cuts =
       opens = λ a t. refl;
     }
 
+-- A run: a cell, then how often its letter stands.
+run-cuts : (M : ℕ → Type 0) (put : ℕ × ℕ → List ℕ) → Cut (λ c. Any (c .0) × M (c .1)) put
+    → Cut (λ (r : Run). M (r .mark)) (λ r. put (r .letter, r .mark) ++ field (r .times))
+run-cuts M put f =
+    record {
+      cut = λ a b s t x y d e h.
+          let r : _≡_ {A = ℕ × ℕ} (a .letter, a .mark) (b .letter, b .mark) × (field (a .times) ++ s ≡ field (b .times) ++ t) =
+          f .cut (a .letter, a .mark) (b .letter, b .mark) (field (a .times) ++ s) (field (b .times) ++ t) (tt, x) (tt, y) refl refl
+          (sym (append-assoc (put (a .letter, a .mark)) (field (a .times)) s) ∙ h ∙ append-assoc (put (b .letter, b .mark)) (field (b .times)) t) in
+          let n : (a .times ≡ b .times) × (s ≡ t) = decimal-cut (a .times) (b .times) s t d e (ap (drop 1) (r .1)) in
+          (λ i. record { letter = r .0 i .0; times = n .0 i; mark = r .0 i .1 }, n .1);
+      opens = λ r t. rw append-assoc (f .opens (r .letter, r .mark) (field (r .times) ++ t));
+    }
+
 -- A number, a count and its items, up to the line feed.
 ranked-cut : {A : Type 0} {P Q : A → Type 0} {p q : A → List ℕ} → Cut P p → Cut Q q → (n m : ℕ) (l k : List A) → Items P Q l → Items P Q k
     → field n ++ (field (length l) ++ items p q l) ++ (10 ∷ []) ≡ field m ++ (field (length k) ++ items p q k) ++ (10 ∷ []) → (n ≡ m) × (l ≡ k)
@@ -125,6 +155,21 @@ t-determined n m xs ys ms ns x y h =
       sym (cells-letters xs ms s) ∙ ap letters (r .1) ∙ cells-letters ys ns z,
       sym (cells-marks xs ms s) ∙ ap marks (r .1) ∙ cells-marks ys ns z,
     )
+
+-- A C line determines rank, number of cells and runs.
+pub c-determined : (n m k j : ℕ) (rs ss : List Run) → MarkedRuns rs → MarkedRuns ss → cLine n k rs ≡ cLine m j ss → (n ≡ m) × (k ≡ j) × (rs ≡ ss)
+unfolding cLine
+c-determined n m k j rs ss x y h =
+    let a : List ℕ = items firstRun laterRun rs in
+    let b : List ℕ = items firstRun laterRun ss in
+    let one : (n ≡ m) × (field k ++ a ++ (10 ∷ []) ≡ field j ++ b ++ (10 ∷ [])) =
+    field-cut n m (field k ++ a) (field j ++ b) (10 ∷ []) (10 ∷ []) refl refl (ap (drop 1) h) in
+    let first : Cut (λ (r : Run). r .mark ≡ 0) firstRun = run-cuts (λ m. m ≡ 0) firstCell first-cuts in
+    let later : Cut (λ (r : Run). r .mark ≤ 1) laterRun = run-cuts (λ m. m ≤ 1) cell cell-cuts in
+    let two : (k ≡ j) × (a ++ (10 ∷ []) ≡ b ++ (10 ∷ [])) =
+    field-cut k j a b (10 ∷ []) (10 ∷ []) (items-open firstRun laterRun (first .opens) rs (10 ∷ []) refl)
+    (items-open firstRun laterRun (first .opens) ss (10 ∷ []) refl) (one .1) in
+    (one .0, two .0, fed-cut first later (λ r t. refl) (λ r t. refl) rs ss (10 ∷ []) (10 ∷ []) x y refl refl refl refl (two .1))
 
 -- A P line determines rank, letters, marks and entries.
 pub p-determined : (n m : ℕ) (xs ys ms ns rs ss : List ℕ) → Marked xs ms → Marked ys ns → length rs ≡ length xs → length ss ≡ length ys

@@ -1,15 +1,17 @@
--- Lines are read exactly: w-exact, t-exact, p-exact, n-exact, from the exactness of numbers and steps.
+-- Lines are read exactly: w-exact, t-exact, c-exact, p-exact, n-exact, from the exactness of numbers and steps.
+--     runs-same     a settled reading of runs is readRuns, however many were allowed
 -- Assumes nothing.
-use Prim.Native.Nat.{ℕ, zero, suc}
+use Prim.Native.Nat.{ℕ, zero, suc, _≤_}
 use mathlib.Core.Path.{_≡_, refl, sym, ap, _∙_}
 use mathlib.Core.List.{List, [], _∷_, _++_, append-nil}
 use lib.ListN.{length, length-map}
-use Rattle.grammar.specs.Lines.{line, field, items, firstCell, cell, cells, wLine, tLine, pLine, nLine}
-use Rattle.grammar.specs.Values.{Items, Short, Small, Marked, WGood, TGood, PGood}
-use Rattle.grammar.specs.Reading.{Read, many, counted, twice, countedTwice, readLine, readFirst, readCell, letters, marks, readW, readT, readP, readN}
+use Rattle.grammar.specs.Lines.{Run, line, field, items, firstCell, cell, cells, firstRun, laterRun, wLine, tLine, cLine, pLine, nLine}
+use Rattle.grammar.specs.Values.{Items, Short, Small, Marked, RunWith, WGood, TGood, CGood, PGood}
+use Rattle.grammar.specs.Reading.{Read, many, untilFeed, counted, twice, countedTwice, readLine, readFirst, readCell, readRunBy, readRuns, letters, marks, readW, readT, readC, readP, readN}
 use Rattle.grammar.proofs.Theory.Items.{Cell, First, cells-of, ribbon-of}
 use Rattle.grammar.proofs.Theory.Exact.{Exact, nothing-exact, ended-exact, after-exact, both-exact}
 use Rattle.grammar.proofs.Theory.NumbersExact.{field-exact, step-exact}
+use Rattle.grammar.proofs.Theory.UntilFeed.{Settled, settled-same, until-feed-exact}
 
 -- So many items.
 many-exact : {A : Type 0} {P Q : A → Type 0} {p q : A → List ℕ} {r s : List ℕ → Read A} → Exact P p r → Exact Q q s
@@ -80,6 +82,41 @@ t-exact =
     let r : Items Short Short (letters cs) × Marked (letters cs) (marks cs) = ribbon-of Short cs (g .1) in
     let e : length (letters cs) ≡ length cs = length-map cs (λ c. c .0) in
     ((h, (rw e (g .0), r .0), r .1), rw (e, cells-of cs))))
+
+-- A run: a cell, then how often its letter stands.
+run-exact : (M : ℕ → Type 0) (put : ℕ × ℕ → List ℕ) {get : List ℕ → Read (ℕ × ℕ)} → Exact (λ c. Short (c .0) × M (c .1)) put get
+    → Exact (RunWith M) (λ r. put (r .letter, r .mark) ++ field (r .times)) (readRunBy get)
+run-exact M put f =
+    both-exact (RunWith M) (λ r. put (r .letter, r .mark) ++ field (r .times)) (λ c k. record { letter = c .0; times = k; mark = c .1 }) f (λ c. field-exact)
+    (λ c k x y. ((x .0, y, x .1), refl))
+
+-- The first run and the others.
+pub first-run-exact : Exact (RunWith (λ m. m ≡ 0)) firstRun (readRunBy readFirst)
+first-run-exact = run-exact (λ m. m ≡ 0) firstCell first-exact
+
+pub later-run-exact : Exact (RunWith (λ m. m ≤ 1)) laterRun (readRunBy readCell)
+later-run-exact = run-exact (λ m. m ≤ 1) cell cell-exact
+
+-- Runs up to the line feed, which no run opens with.
+runs-exact : Exact (Items (RunWith (λ m. m ≡ 0)) (RunWith (λ m. m ≤ 1))) (items firstRun laterRun) readRuns
+unfolding readRuns
+runs-exact = until-feed-exact first-run-exact later-run-exact (λ r t. refl) (λ r t. refl)
+
+-- However many were allowed.
+pub runs-same : (k : ℕ) (t : List ℕ) → Settled (untilFeed (readRunBy readFirst) (readRunBy readCell) k t)
+    → readRuns t ≡ untilFeed (readRunBy readFirst) (readRunBy readCell) k t
+unfolding readRuns
+runs-same = settled-same first-run-exact later-run-exact (λ r t. refl) (λ r t. refl)
+
+-- C lines and their exact reading.
+pub c-exact : Exact CGood (λ v. cLine (v .0) (v .1) (v .2)) readC
+unfolding cLine readC
+c-exact =
+    line-exact 67
+    (both-exact CGood (λ v. field (v .0) ++ (field (v .1) ++ items firstRun laterRun (v .2))) (λ n v. (n, v .0, v .1)) field-exact
+    (λ n. both-exact (λ (v : ℕ × List Run). Short (v .0) × Items (RunWith (λ m. m ≡ 0)) (RunWith (λ m. m ≤ 1)) (v .1))
+    (λ v. field (v .0) ++ items firstRun laterRun (v .1)) (λ k rs. (k, rs)) field-exact (λ k. runs-exact) (λ k rs h g. ((h, g), refl)))
+    (λ n v h g. ((h, g .0, g .1), refl)))
 
 -- P lines and their exact reading.
 pub p-exact : Exact PGood (λ v. pLine (v .0) (v .1) (v .2) (v .3)) readP

@@ -1,5 +1,6 @@
 -- Where the grammar breaks: at the end of the longest beginning of the text that goes on to some line of the kind.
---     w-breaks, t-breaks, p-breaks, n-breaks     a reading is broken with the rest from p on exactly when the kind breaks at p
+--     w-breaks, t-breaks, c-breaks, p-breaks, n-breaks     a reading is broken with the rest from p on exactly when the kind breaks at p
+--     w-place, t-place, c-place, p-place, n-place          a broken reading's kind breaks at the text's length less what is left
 -- Assumes nothing.
 use Prim.Native.Nat.{ℕ, suc, _+_, _-_, _≤_, _<_}
 use mathlib.Core.Path.{_≡_, refl, sym, ap, _∙_, subst}
@@ -9,14 +10,14 @@ use native.Mathlib.Decide.{decLe}
 use native.Mathlib.Omega.{arith}
 use lib.ListN.{length, take, drop, getD, length-append, length-drop, take-append-drop}
 use lib.Seq.{take-at, append-snoc, drop-at, drop-cons, take-suc, take-take}
-use Rattle.grammar.specs.Lines.{wLine, tLine, pLine, nLine}
-use Rattle.grammar.specs.Values.{Small, WGood, TGood, PGood}
-use Rattle.grammar.specs.Breaks.{Breaks, IsW, IsT, IsP, IsN}
-use Rattle.grammar.specs.Reading.{Read, got, broken, readW, readT, readP, readN}
+use Rattle.grammar.specs.Lines.{wLine, tLine, cLine, pLine, nLine}
+use Rattle.grammar.specs.Values.{Small, WGood, TGood, CGood, PGood}
+use Rattle.grammar.specs.Breaks.{Breaks, IsW, IsT, IsC, IsP, IsN}
+use Rattle.grammar.specs.Reading.{Read, got, broken, readW, readT, readC, readP, readN}
 use Rattle.grammar.proofs.Theory.Exact.{Broke, Exact, not-both}
-use Rattle.grammar.proofs.Theory.LinesExact.{w-exact, t-exact, p-exact, n-exact}
-use Rattle.grammar.proofs.Theory.Complete.{w-complete, t-complete, p-complete, n-complete}
-use Rattle.grammar.proofs.Theory.Sound.{w-sound, t-sound, p-sound, n-sound}
+use Rattle.grammar.proofs.Theory.LinesExact.{w-exact, t-exact, c-exact, p-exact, n-exact}
+use Rattle.grammar.proofs.Theory.Complete.{w-complete, t-complete, c-complete, p-complete, n-complete}
+use Rattle.grammar.proofs.Theory.Sound.{w-sound, t-sound, c-sound, p-sound, n-sound}
 
 -- A kind breaks at one place only.
 breaks-once : (Line : List ℕ → Type 0) (text : List ℕ) (p q : ℕ) → Breaks Line text p → Breaks Line text q → p ≤ q
@@ -107,6 +108,14 @@ t-kind =
       takes = λ text v rest h. let r = t-sound text (v .0) (v .1) (v .2) rest h in (v, (r .2, r .3, r .4), r .0);
     }
 
+c-kind : Kind CGood (λ v. cLine (v .0) (v .1) (v .2)) readC
+c-kind =
+    record {
+      exact = c-exact;
+      reads = λ v g. c-complete (v .0) (v .1) (v .2) g;
+      takes = λ text v rest h. let r = c-sound text (v .0) (v .1) (v .2) rest h in (v, r .2, r .0);
+    }
+
 p-kind : Kind PGood (λ v. pLine (v .0) (v .1) (v .2) (v .3)) readP
 p-kind =
     record {
@@ -131,6 +140,10 @@ w-breaks = exactly w-kind
 pub t-breaks : (text : List ℕ) (p : ℕ) → Breaks IsT text p ↔ ((p ≤ length text) × (readT text ≡ broken (drop p text)))
 t-breaks = exactly t-kind
 
+-- So with C lines.
+pub c-breaks : (text : List ℕ) (p : ℕ) → Breaks IsC text p ↔ ((p ≤ length text) × (readC text ≡ broken (drop p text)))
+c-breaks = exactly c-kind
+
 -- So with P lines.
 pub p-breaks : (text : List ℕ) (p : ℕ) → Breaks IsP text p ↔ ((p ≤ length text) × (readP text ≡ broken (drop p text)))
 p-breaks = exactly p-kind
@@ -146,6 +159,10 @@ w-place = place-breaks w-kind
 -- So with T lines.
 pub t-place : (text rest : List ℕ) → readT text ≡ broken rest → Breaks IsT text (length text - length rest)
 t-place = place-breaks t-kind
+
+-- So with C lines.
+pub c-place : (text rest : List ℕ) → readC text ≡ broken rest → Breaks IsC text (length text - length rest)
+c-place = place-breaks c-kind
 
 -- So with P lines.
 pub p-place : (text rest : List ℕ) → readP text ≡ broken rest → Breaks IsP text (length text - length rest)

@@ -1,4 +1,4 @@
--- What the grammar takes is the line of its values, which a line can hold, and nothing is left: w-sound, t-sound, p-sound, n-sound.
+-- What the grammar takes is the line of its values, which a line can hold, and nothing is left: w-sound, t-sound, c-sound, p-sound, n-sound.
 -- Assumes nothing.
 use Prim.Native.Nat.{ℕ}
 use mathlib.Core.Path.{_≡_, refl, sym, ap, _∙_}
@@ -6,11 +6,11 @@ use mathlib.Core.Bool.{Bool, true, false, cond}
 use mathlib.Core.List.{List, [], _∷_, _++_, append-nil}
 use lib.ListN.{length}
 use lib.Dec.{eqb}
-use Rattle.grammar.specs.Lines.{wLine, tLine, pLine, nLine}
-use Rattle.grammar.specs.Values.{Items, Short, Small, Marked}
-use Rattle.grammar.specs.Reading.{Read, got, broken, turned, onward, both, after, ended, readLine, counted, countedTwice, ranked, readField, readFirst, readCell, letters, marks, readW, readT, readP, readN}
+use Rattle.grammar.specs.Lines.{Run, wLine, tLine, cLine, pLine, nLine}
+use Rattle.grammar.specs.Values.{Items, Short, Small, Marked, CGood}
+use Rattle.grammar.specs.Reading.{Read, got, broken, turned, onward, both, after, ended, readLine, counted, countedTwice, ranked, readField, readFirst, readCell, readRuns, letters, marks, readW, readT, readC, readP, readN}
 use Rattle.grammar.proofs.Theory.Exact.{Exact, not-both}
-use Rattle.grammar.proofs.Theory.LinesExact.{w-exact, t-exact, p-exact, n-exact}
+use Rattle.grammar.proofs.Theory.LinesExact.{w-exact, t-exact, c-exact, p-exact, n-exact}
 
 -- A reader that leaves nothing.
 record Last {A : Type 0} (get : List ℕ → Read A) : Type 0 where
@@ -73,6 +73,13 @@ t-sound text n xs ms rest h =
     let r : (text ≡ tLine n xs ms) × (rest ≡ []) × (Short n × Small xs × Marked xs ms) =
     whole-sound t-exact (line-last 84 (ranked (λ n cs. (n, letters cs, marks cs)) readFirst readCell)) text (n, xs, ms) rest h in
     (r .0, r .1, r .2 .0, r .2 .1, r .2 .2)
+
+-- A text taken as a C line is the C line of its values.
+pub c-sound : (text : List ℕ) (n k : ℕ) (rs : List Run) (rest : List ℕ) → readC text ≡ got (n, k, rs) rest → (text ≡ cLine n k rs) × (rest ≡ []) × CGood (n, k, rs)
+unfolding readC
+c-sound text n k rs rest h =
+    whole-sound c-exact (line-last 67 (both (λ n v. (n, v .0, v .1)) readField (λ n. both {C = ℕ × List Run} (λ k rs. (k, rs)) readField (λ k. readRuns))))
+    text (n, k, rs) rest h
 
 -- A text taken as a P line is the P line of its values, with as many entries as letters.
 pub p-sound : (text : List ℕ) (n : ℕ) (xs ms rs rest : List ℕ) → readP text ≡ got (n, xs, ms, rs) rest
