@@ -3,6 +3,7 @@
 --     saidNumber, numberPlace  what a number that was read, or a break, says in the grammar's terms, and its place
 --     Numbered text x r        r says the reading x
 --     number-got, number-not   what it says by its cases
+--     left-within              past the end of the text no more is left than at its end
 --     Digiting                 the loop over further digits: what is left of them gives the whole
 --     numbering                the ruleset of numbers
 -- Single bytes are in Bytes. Assumes nothing.
@@ -180,7 +181,7 @@ module _ (text : List ℕ) (at : ℕ) {d : ℕ} (is : d ≡ digitOf (drop at tex
       record { says = rw here (begun-read (getD text at 0) d (drop (at + 1) text) (rw here at is) h z) ∙ t .says; within = t .within }
 
 -- Past the end of the text no more is left than at its end.
-left-within : (at : ℕ) (text : List ℕ) → drop at text ≡ drop (min at (length text)) text
+pub left-within : (at : ℕ) (text : List ℕ) → drop at text ≡ drop (min at (length text)) text
 left-within at text =
     elim (decLe at (length text)) [
       | yes h ↦ rw (min-eq-left h)

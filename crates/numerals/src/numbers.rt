@@ -75,7 +75,7 @@ fn number_at(text: &[u8], at: usize) -> Number
 }
 
 // A place, or the end of the text where the place is past it.
-fn within(at: usize, size: usize) -> usize
+pub fn within(at: usize, size: usize) -> usize
     ensures { λ r. ⌜ r ≡ min at size ⌝ }
 {
     if at < size { at } else { size }

@@ -18,9 +18,9 @@ use borrow.Author.Needs.{needs}
 use Rattle.grammar.specs.Reading.{Read, broken, got, letters, many, marks, onward, readFirst, turned}
 use Rattle.numerals.specs.Numbers.{Told}
 use Rattle.scans.specs.Kept.{kept, kept-next, length-kept}
-use Rattle.scans.specs.Cells.{Celled, item-first, readItem}
-use Rattle.scans.specs.declared.cells.Cell.{Cell}
-use Rattle.scans.specs.declared.cells.Cell.the-variants as cell
+use Rattle.cell_scans.specs.Cells.{Celled, item-first, readItem}
+use Rattle.cell_scans.specs.declared.cells.Cell.{Cell}
+use Rattle.cell_scans.specs.declared.cells.Cell.the-variants as cell
 use Rattle.scans.specs.declared.cells.Items.{Items}
 use Rattle.scans.specs.declared.cells.Items.the-variants as items
 
@@ -48,7 +48,7 @@ abbrev pub readItems : Bool → ℕ → List ℕ → Read (List (ℕ × ℕ))
 readItems steps = many readFirst (readItem steps)
 
 -- A cell that was read and more after it, or none.
-abbrev pub andMore : Read (ℕ × ℕ) → (List ℕ → List (ℕ × ℕ)) → List (ℕ × ℕ)
+abbrev pub andMore : {A : Type 0} → Read A → (List ℕ → List A) → List A
 andMore (got c t) more = c ∷ more t
 andMore (broken t) more = []
 

@@ -7,7 +7,7 @@ use mathlib.Core.Bool.{Bool, true, false, cond}
 use mathlib.Core.List.{List, [], _∷_}
 use lib.Dec.{eqb}
 use Rattle.grammar.specs.Reading.{Read, after, both, broken, counted, countedTwice, ended, got, letters, many, marks, onward, readCell, readField, readFirst, readLine, readN, readP, readT, readW, turned, twice}
-use Rattle.scans.specs.Cells.{readItem}
+use Rattle.cell_scans.specs.Cells.{readItem}
 use Rattle.scans.specs.Items.{turned-same}
 use Rattle.scans.specs.Heads.{andThen, readCounted, readEnd, readHead, readRank}
 use Rattle.scans.specs.Scans.{readBody, readWhole}

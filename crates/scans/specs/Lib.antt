@@ -1,5 +1,4 @@
 pub mod Kept
-pub mod Cells
 pub mod Items
 pub mod Heads
 pub mod Scans

@@ -1,77 +1,18 @@
 // The items of a line, read as cells: a letter and the mark of the step into it, 0 where the line tells no step.
-use numerals::numbers::Number;
-use numerals::numbers::field_at;
-use numerals::numbers::stands;
+use cell_scans::cells::Cell;
+use cell_scans::cells::item_at;
+use cell_scans::cells::letter_at;
 ghost use Prim.Native.Nat.{_≤_};
 ghost use mathlib.Core.Bool.{true, false};
 ghost use mathlib.Core.List.{[]};
 ghost use mathlib.Core.Path.{_≡_};
 ghost use lib.ListN.{drop, length, set};
-ghost use Rattle.grammar.specs.Reading.{readCell};
-ghost use Rattle.scans.specs.Cells.{Celled, markOf, readItem, readMarked};
 ghost use Rattle.scans.specs.Items.{Gathered};
-
-// A cell and the place after it, or the place of the byte that breaks the grammar.
-pub enum Cell {
-    Read(u16, u8, usize),
-    Broken(usize),
-}
 
 // The place after all cells, or the place of the byte that breaks the grammar.
 pub enum Items {
     Read(usize),
     Broken(usize),
-}
-
-// A comma and a letter, with a mark that is known.
-fn letter_at(text: &[u8], at: usize, mark: u8) -> Cell
-    requires { ⌜ at ≤ length (now text) ⌝ }
-    ensures { λ r. ⌜ Celled (now (text .entry)) (readMarked mark (drop at (now (text .entry)))) r ⌝ }
-{
-    let field = field_at(text, at);
-    match field {
-        Number::Read(letter, next) => Cell::Read(letter, mark, next),
-        Number::Broken(place) => Cell::Broken(place),
-    }
-}
-
-// The mark of the step at a place, or 2 where no step stands there.
-fn mark_at(text: &[u8], at: usize) -> u8
-    ensures { λ r. ⌜ r ≡ markOf (drop at (now (text .entry))) ⌝ }
-{
-    if stands(text, at, b'r') {
-        return 0;
-    }
-    if stands(text, at, b'd') {
-        return 1;
-    }
-    2
-}
-
-// A comma and a step, then a comma and a letter.
-fn step_at(text: &[u8], at: usize) -> Cell
-    requires { ⌜ at ≤ length (now text) ⌝ }
-    ensures { λ r. ⌜ Celled (now (text .entry)) (readCell (drop at (now (text .entry)))) r ⌝ }
-{
-    if stands(text, at, b',') {
-        let mark = mark_at(text, at + 1);
-        if mark < 2 {
-            return letter_at(text, at + 2, mark);
-        }
-        return Cell::Broken(at + 1);
-    }
-    Cell::Broken(at)
-}
-
-// An item of a line, with or without a step before its letter.
-fn item_at(text: &[u8], at: usize, stepped: bool) -> Cell
-    requires { ⌜ at ≤ length (now text) ⌝ }
-    ensures { λ r. ⌜ Celled (now (text .entry)) (readItem stepped (drop at (now (text .entry)))) r ⌝ }
-{
-    if stepped {
-        return step_at(text, at);
-    }
-    letter_at(text, at, 0)
 }
 
 // Keeps a letter where there is room for it.

@@ -50,7 +50,7 @@ fn count_at(text: &[u8], at: usize, rank: u16) -> Line
 }
 
 // The beginning of a line up to its items.
-pub(crate) fn head_at(text: &[u8], kind: u8, ranked: bool) -> Line
+pub fn head_at(text: &[u8], kind: u8, ranked: bool) -> Line
     ensures { λ r. ⌜ Lined (now (text .entry)) (readHead kind ranked (now (text .entry))) r ⌝ }
 {
     if stands(text, 0, kind) {

@@ -5,23 +5,24 @@
 --     saidCell, cellPlace, Celled    what a cell that was read, or a break, says in the grammar's terms, and its place
 --     celling                        the ruleset of one cell
 -- Assumes nothing.
-use Prim.Native.Nat.{ℕ, _+_, _≤_, _<_}
-use mathlib.Core.Path.{_≡_, refl, sym, _∙_}
+use Prim.Native.Nat.{ℕ, _+_, _*_, _^_, _≤_, _<_, min}
+use mathlib.Core.Path.{_≡_, refl, sym, ap, _∙_}
 use mathlib.Core.Bool.{Bool, true, false, cond}
-use mathlib.Core.Logic.{⊎-elim}
 use mathlib.Core.List.{List, [], _∷_}
 use native.Mathlib.Omega.{arith}
 use lib.Dec.{eqb}
-use lib.ListN.{length, drop, drop-of-length-le}
+use lib.ListN.{length, drop}
 use lib.Seq.{drop-drop}
+use mir.Syntax.{w64}
+use mir.Val.{Fits}
 use borrow.Author.Needs.{needs}
 use Rattle.grammar.specs.Reading.{Read, after, broken, got, onward, readCell, readField, readFirst, readStep, turned}
-use Rattle.numerals.specs.Bytes.{after-none, after-there, le-or-lt, starts-within, startsWith}
-use Rattle.numerals.specs.Numbers.{Numbered, Told, number-got, number-not}
+use Rattle.numerals.specs.Bytes.{after-none, after-there, starts-within, startsWith}
+use Rattle.numerals.specs.Numbers.{Numbered, Told, left-within, number-got, number-not}
 use Rattle.numerals.specs.declared.numbers.Number.{Number}
 use Rattle.numerals.specs.declared.numbers.Number.the-variants as number
-use Rattle.scans.specs.declared.cells.Cell.{Cell}
-use Rattle.scans.specs.declared.cells.Cell.the-variants as cell
+use Rattle.cell_scans.specs.declared.cells.Cell.{Cell}
+use Rattle.cell_scans.specs.declared.cells.Cell.the-variants as cell
 
 -- A comma and a letter, with a mark that is known.
 unfoldable pub readMarked : ℕ → List ℕ → Read (ℕ × ℕ)
@@ -57,7 +58,7 @@ module _ (text t : List ℕ) (m : ℕ) {r : Number} (h : Numbered text (readFiel
   marked-broken e = let f = number-not text (readField t) h e in record { says = rw (f .says); within = f .within }
 
 -- The first cell is a letter with the mark 0.
-first-marked : (t : List ℕ) → readFirst t ≡ readMarked 0 t
+pub first-marked : (t : List ℕ) → readFirst t ≡ readMarked 0 t
 unfolding readMarked
 first-marked t = go (readField t)
   where
@@ -99,9 +100,12 @@ step-is (b ∷ t) = go (eqb b 114) (eqb b 100)
 
 -- A comma, and then the letter of a step at the next place.
 module _ (text : List ℕ) (at : ℕ) {b : Bool} (is : b ≡ startsWith 44 (drop at text)) where
-  -- No comma.
-  pub comma-none : b ≡ false → at ≤ length text → Told text (readCell (drop at text)) (broken (drop at text)) at
-  comma-none e l = record { says = rw (after-none 44 readStep (drop at text) (sym is ∙ e)); within = l }
+  -- No comma. Past the end of the text the grammar breaks at its end.
+  pub comma-none : {p : ℕ} → b ≡ false → p ≡ min at (length text) → Told text (readCell (drop at text)) (broken (drop p text)) p
+  comma-none e q = record {
+    says = rw (after-none 44 readStep (drop at text) (sym is ∙ e)) (ap broken (rw q (left-within at text)));
+    within = omega arith;
+  }
 
   module _ (e : b ≡ true) where
     -- What follows the comma,
@@ -112,21 +116,22 @@ module _ (text : List ℕ) (at : ℕ) {b : Bool} (is : b ≡ startsWith 44 (drop
     two-on : drop 1 (drop (at + 1) text) ≡ drop (at + 2) text
     two-on = let two : at + 1 + 1 ≡ at + 2 = omega arith in drop-drop 1 (at + 1) text ∙ rw two
 
-    -- The letter after the step is read on,
+    -- The cell is the letter after the step, with its mark,
+    pub cell-marked : {m : ℕ} → m ≡ markOf (drop (at + 1) text) → m < 2 → readCell (drop at text) ≡ readMarked m (drop (at + 2) text)
+    unfolding readMarked
+    cell-marked k l = rw (k, comma-there (step-is (drop (at + 1) text) .0 (rw k at l)), two-on)
+
     pub step-read : {m p : ℕ} {s : Read (ℕ × ℕ)} → m ≡ markOf (drop (at + 1) text) → m < 2 → Told text (readMarked m (drop (at + 2) text)) s p
         → Told text (readCell (drop at text)) s p
-    unfolding readMarked
-    step-read k l t = record { says = rw (comma-there (step-is (drop (at + 1) text) .0 (rw k at l)), two-on) (rw k at (t .says)); within = t .within }
+    step-read k l t = record { says = cell-marked k l ∙ t .says; within = t .within }
 
     -- or no step stands there.
     pub step-broken : {m : ℕ} → m ≡ markOf (drop (at + 1) text) → 2 ≤ m → Told text (readCell (drop at text)) (broken (drop (at + 1) text)) (at + 1)
     step-broken k l = record { says = rw (comma-there (step-is (drop (at + 1) text) .1 (rw k at l))); within = starts-within text at 44 is e }
 
--- A letter after a step stands in the text.
-pub step-within : (text : List ℕ) (at : ℕ) {m : ℕ} → m ≡ markOf (drop (at + 1) text) → m < 2 → at + 2 ≤ length text
-step-within text at {m} k l =
-    ⊎-elim (λ h. let none : m ≡ 2 = rw (drop-of-length-le text {i = at + 1} h) at k in let z : ⊥ = omega arith in absurd z) (λ h. omega arith)
-    (le-or-lt (length text) (at + 1))
+-- A comma stands in the text, so the places of the step after it and of what follows fit 64 bits.
+pub comma-fits : (text : List ℕ) (at k : ℕ) {b : Bool} → b ≡ startsWith 44 (drop at text) → b ≡ true → k ≤ 2 → length text * 1 < 2 ^ 63 → Fits w64 (at + k)
+comma-fits text at k is e few l = record { fits = omega (arith, starts-within text at 44 is e) }
 
 -- An item with a step, and one without.
 module _ {text : List ℕ} (t : List ℕ) {stepped : Bool} {s : Read (ℕ × ℕ)} {p : ℕ} where
@@ -139,14 +144,13 @@ module _ {text : List ℕ} (t : List ℕ) {stepped : Bool} {s : Read (ℕ × ℕ
 pub ruleset celling = (
   marked-read,
   marked-broken,
-  starts-within,
   comma-none,
   mark-right,
   mark-down,
   mark-none,
   step-read,
   step-broken,
-  step-within,
+  comma-fits,
   item-step,
   item-first,
   needs,
