@@ -1,1 +1,2 @@
 pub mod TableauLine
+pub mod RunLine

@@ -2,7 +2,8 @@
 --     Made                     the tableau stands in the first cells of letters and marks
 --     tableau-made             it does where the answer tells cells
 --     Reached, cells-reach     so many cells can be taken of both lists
---     made-refused, made-line  the tableau line's reply, from a refusal and from the reply of the T line's writer
+--     line-refused, line-made  the reply of any line of the word, from a refusal and from the reply of a writer that judges the tableau
+--     made-refused, made-line  the same of the tableau line and the T line's writer
 --     lining                   the ruleset of the tableau line
 -- Assumes nothing.
 use Prim.Native.Nat.{ℕ, _-_, _≤_}
@@ -11,12 +12,13 @@ use mathlib.Core.List.{List, [], _∷_}
 use native.Mathlib.Omega.{arith}
 use lib.ListN.{length, take}
 use borrow.Author.Needs.{needs}
+use Rattle.grammar.specs.Lines.{tLine}
 use Rattle.hypoplactic.specs.Words.{Accepted}
 use Rattle.hypoplactic.specs.Insertion.{Pair, lettersOf, marksOf, pairWith}
 use Rattle.hypoplactic.specs.Replies.{Said, gives, written}
 use Rattle.hypoplactic.specs.Judgements.{pairRooms, roomJudged, tableauJudgements, wordJudgements}
 use Rattle.hypoplactic.specs.TableauOperations.{pairRun, pairSays}
-use Rattle.hypoplactic.specs.LineOperations.{tableauLine, tableauLineRun, tLineRun}
+use Rattle.hypoplactic.specs.LineOperations.{lineRun, tableauLine, tableauLineRun, tLineRun}
 use Rattle.hypoplactic.proofs.Theory.Closure.{word-tableau-at}
 use Rattle.hypoplactic.proofs.Theory.Judged.{tableau-passing, word-passing}
 use Rattle.hypoplactic.proofs.Theory.Judgements.{room-judged}
@@ -82,25 +84,37 @@ module _ (n : ℕ) (w ls ks js : List ℕ) (long : 1024 ≤ length ls) (long′ 
               marks-reach = rw (is-marks, written-length (marksOf w) ks (omega arith)) (omega arith);
             }
 
-    -- The answer is a refusal, and so is that of the line.
-    pub made-refused : (q : Refusal) (out : List ℕ) → made ≡ Refused q → (saidWritten made, out) ≡ tableauLineRun n w out
-    unfolding pairSays tableauLineRun
-    made-refused q out h = go judged
+    -- The answer is a refusal, and so is that of a line of the word,
+    pub line-refused : (q : Refusal) (bytes out : List ℕ) → made ≡ Refused q → (saidWritten made, out) ≡ lineRun (wordJudgements n w) bytes out
+    unfolding pairSays
+    line-refused q bytes out h = go judged
       where
-        go : Outcome n w rooms (length w ∷ []) → (saidWritten made, out) ≡ tableauLineRun n w out
+        go : Outcome n w rooms (length w ∷ []) → (saidWritten made, out) ≡ lineRun (wordJudgements n w) bytes out
         go (accepted a g) = absurd (not-both (sym (sym (ap saidWritten h) ∙ said ∙ g)))
         go (stopped j p f) =
-            rw (f (roomJudged (length (tableauLine n w)) (length out) ∷ []) (gives (length (tableauLine n w) ∷ [])))
+            rw (f (roomJudged (length bytes) (length out) ∷ []) (gives (length bytes ∷ [])))
             (ap (λ (s : Said). (s, out)) (said ∙ f rooms (gives (length w ∷ []))))
 
+    -- such as the tableau line.
+    pub made-refused : (q : Refusal) (out : List ℕ) → made ≡ Refused q → (saidWritten made, out) ≡ tableauLineRun n w out
+    unfolding tableauLineRun
+    made-refused q out h = line-refused q (tableauLine n w) out h
+
 module _ {n : ℕ} {w xs ms : List ℕ} {m : ℕ} (h : Made n w xs ms m) where
-  -- What the writer of T lines replies to them is the reply of the tableau line.
+  -- Where the tableau is judged and a line of it written, the reply is that of the word's line,
+  pub line-made : (line : ℕ → List ℕ → List ℕ → List ℕ) (out : List ℕ)
+      → lineRun (tableauJudgements n (take m xs) (take m ms)) (line n (take m xs) (take m ms)) out
+      ≡ lineRun (wordJudgements n w) (line n (lettersOf w) (marksOf w)) out
+  line-made line out =
+      let bytes : List ℕ = line n (lettersOf w) (marksOf w) in
+      let passes : Passing (tableauJudgements n (lettersOf w) (marksOf w)) = tableau-passing n (lettersOf w) (marksOf w) .1 (word-tableau-at (h .word)) in
+      rw (h .letters, h .marks)
+      (sym (past-checks (tableauJudgements n (lettersOf w) (marksOf w)) bytes out passes) ∙ past-checks (wordJudgements n w) bytes out (word-passing n w .1 (h .word)))
+
+  -- as where the writer of T lines replies.
   pub made-line : (out out′ : List ℕ) (r : Written) → (saidWritten r, out′) ≡ tLineRun n (take m xs) (take m ms) out → (saidWritten r, out′) ≡ tableauLineRun n w out
   unfolding tLineRun tableauLineRun tableauLine
-  made-line out out′ r e =
-      e ∙ rw (h .letters, h .marks)
-      (sym (past-checks (tableauJudgements n (lettersOf w) (marksOf w)) (tableauLine n w) out (tableau-passing n (lettersOf w) (marksOf w) .1 (word-tableau-at (h .word))))
-      ∙ past-checks (wordJudgements n w) (tableauLine n w) out (word-passing n w .1 (h .word)))
+  made-line out out′ r e = e ∙ line-made tLine out
 
 -- So many cells can be taken of lists of these lengths.
 pub record Reached (cells letters marks : ℕ) : Type 0 where

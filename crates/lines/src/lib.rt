@@ -1,2 +1,3 @@
-// The tableau line of a word in one call: the line that stands for its class.
+// Lines of a word in one call, each of the word's tableau: they stand for its class.
+pub mod runs;
 pub mod tableau;

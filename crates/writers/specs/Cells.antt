@@ -3,13 +3,16 @@
 --     cell-room, ribbon-begun, ribbon-written       the loop that writes them, after how many there are
 --     cells-size                                    their bytes: those of the letters, and two for each step between neighbours
 --     ribbon-none, ribbon-some                      so counted from the bytes of the letters
---     first-room, first-laid                        the first cell
---     comma-room, step-room, letter-room, later-laid, kept-long, step-right, step-down     another cell
+--     later-is                                      the bytes of a cell after the first
+--     stepAt ms i                                   the bytes of the step into the cell at place i
+--     step-none, comma-room, step-room, step-laid, step-right, step-down                   the step
+--     cell-step-room, letter-room, cell-laid        the cell: its step, and its letter
+--     laid-kept                                     what is written changes no length
 --     stepping                                      the ruleset of the functions on cells
 -- Assumes nothing.
 use Prim.Native.Nat.{ℕ, zero, suc, _+_, _*_, _-_, _≤_, _<_}
 use mathlib.Core.Path.{_≡_, refl, ap, _∙_}
-use mathlib.Core.List.{List, [], _∷_}
+use mathlib.Core.List.{List, [], _∷_, _++_}
 use native.Mathlib.Numerals.{add-one}
 use native.Mathlib.Omega.{arith}
 use lib.ListN.{length, getD, set, length-append, length-set}
@@ -18,7 +21,7 @@ use Rattle.grammar.specs.Lines.{cell, cells, field, firstCell, items, step}
 use Rattle.grammar.specs.Numbers.{decimal}
 use Rattle.line_sizes.specs.Sizes.{Counted}
 use Rattle.writers.specs.Items.{Writing, count-room, item-room, joined, joined-first, length-listed, list-kept, listed, listed-begun, listed-written, write-turn}
-use Rattle.writers.specs.Laying.{Laid, laid-then}
+use Rattle.writers.specs.Laying.{Laid, laid-none, laid-then}
 
 -- The bytes of the cell at a place.
 unfoldable pub cellAt : List ℕ → List ℕ → ℕ → List ℕ
@@ -88,51 +91,72 @@ module _ {size : ℕ} (xs ms : List ℕ) (n : Counted 21525 (listed (length xs) 
 
 -- ---- one cell
 
--- The first is its letter,
-module _ (xs ms old : List ℕ) (i at : ℕ) {x : ℕ} (e : x ≡ getD xs i 0) where
-  pub first-room : i ≡ 0 → at + length (cellAt xs ms i) ≤ length old → at + length (field x) ≤ length old
-  unfolding cellAt
-  first-room z h = rw (e, z) (rw z at h)
-
-  pub first-laid : {now : List ℕ} {end : ℕ} → i ≡ 0 → Laid (field x) old at now end → Laid (cellAt xs ms i) old at now end
-  unfolding cellAt
-  first-laid z h = rw z (rw (e, z) at h)
-
--- every other its step and its letter.
-later-is : (xs ms : List ℕ) (i : ℕ) → (i ≡ 0 → ⊥) → cellAt xs ms i ≡ 44 ∷ step (getD ms i 0) ∷ field (getD xs i 0)
+-- After the first each is its step and its letter.
+pub later-is : (xs ms : List ℕ) (i : ℕ) → (i ≡ 0 → ⊥) → cellAt xs ms i ≡ 44 ∷ step (getD ms i 0) ∷ field (getD xs i 0)
 unfolding cellAt
 later-is xs ms zero z = absurd (z refl)
 later-is xs ms (suc i) z = refl
 
-module _ (xs ms old : List ℕ) (i at : ℕ) (z : i ≡ 0 → ⊥) (h : at + length (cellAt xs ms i) ≤ length old) where
-  -- Its three parts have room,
-  later-size : at + 2 + length (field (getD xs i 0)) ≤ length old
-  later-size = omega (arith, h, ap length (later-is xs ms i z))
+-- The bytes of the step into the cell at a place: none before the first.
+unfoldable pub stepAt : List ℕ → ℕ → List ℕ
+stepAt ms zero = []
+stepAt ms (suc i) = 44 ∷ step (getD ms (suc i) 0) ∷ []
+
+-- A cell is its step, and its letter.
+cell-is : (xs ms : List ℕ) (i : ℕ) → cellAt xs ms i ≡ stepAt ms i ++ field (getD xs i 0)
+unfolding cellAt stepAt
+cell-is xs ms zero = refl
+cell-is xs ms (suc i) = refl
+
+pub length-cell : (xs ms : List ℕ) (i : ℕ) → length (cellAt xs ms i) ≡ length (stepAt ms i) + length (field (getD xs i 0))
+length-cell xs ms i = ap length (cell-is xs ms i) ∙ length-append (stepAt ms i) (field (getD xs i 0))
+
+-- No step leads into the first,
+pub step-none : (ms old : List ℕ) (i at : ℕ) → i ≡ 0 → at + length (stepAt ms i) ≤ length old → Laid (stepAt ms i) old at old at
+unfolding stepAt
+step-none ms old i at z h = rw z (laid-none old at (omega (arith, h)))
+
+-- and the two bytes of a step into each other.
+module _ (ms old : List ℕ) (i at : ℕ) (z : i ≡ 0 → ⊥) (h : at + length (stepAt ms i) ≤ length old) where
+  two-bytes : (j : ℕ) → (j ≡ 0 → ⊥) → stepAt ms j ≡ 44 ∷ step (getD ms j 0) ∷ []
+  unfolding stepAt
+  two-bytes zero y = absurd (y refl)
+  two-bytes (suc j) y = refl
+
+  step-size : at + 2 ≤ length old
+  step-size = omega (arith, h, ap length (two-bytes i z))
 
   pub comma-room : at < length old
-  comma-room = omega (arith, later-size)
+  comma-room = omega (arith, step-size)
 
   pub step-room : at + 1 < length (set old at 44)
-  step-room = omega (arith, later-size, length-set old at 44)
+  step-room = omega (arith, step-size, length-set old at 44)
 
-  pub letter-room : {x : ℕ} (d : ℕ) → x ≡ getD xs i 0 → at + 2 + length (field x) ≤ length (set (set old at 44) (at + 1) d)
-  letter-room d e = rw e (omega (arith, later-size, length-set (set old at 44) (at + 1) d, length-set old at 44))
-
-  -- and are the cell.
-  pub later-laid : {x d : ℕ} {now : List ℕ} {end : ℕ} → x ≡ getD xs i 0 → d ≡ step (getD ms i 0)
-      → Laid (field x) (set (set old at 44) (at + 1) d) (at + 2) now end → Laid (cellAt xs ms i) old at now end
-  later-laid {x} {d} {now} {end} e s k =
-      let head : Laid (44 ∷ d ∷ []) old at (set (set old at 44) (at + 1) d) (at + 2) = record {
+  pub step-laid : {d : ℕ} → d ≡ step (getD ms i 0) → Laid (stepAt ms i) old at (set (set old at 44) (at + 1) d) (at + 2)
+  step-laid {d} s =
+      let two : Laid (44 ∷ d ∷ []) old at (set (set old at 44) (at + 1) d) (at + 2) = record {
         is = rw (add-one at);
         ends = omega arith;
-        room = omega (arith, later-size);
+        room = omega (arith, step-size);
         long = length-set (set old at 44) (at + 1) d ∙ length-set old at 44;
       } in
-      rw (later-is xs ms i z, ← e, ← s) (laid-then head k)
+      rw (two-bytes i z, ← s) two
 
--- No store changes how many elements there are.
-pub kept-long : {vs now : List ℕ} {end : ℕ} (old : List ℕ) (i j at v u : ℕ) → Laid vs (set (set old i v) j u) at now end → length now ≡ length old
-kept-long old i j at v u k = k .long ∙ length-set (set old i v) j u ∙ length-set old i v
+-- The letter after it.
+module _ (xs ms old : List ℕ) (i at : ℕ) (h : at + length (cellAt xs ms i) ≤ length old) where
+  pub cell-step-room : at + length (stepAt ms i) ≤ length old
+  cell-step-room = omega (arith, h, length-cell xs ms i)
+
+  module _ {mid : List ℕ} {from x : ℕ} (l : Laid (stepAt ms i) old at mid from) (e : x ≡ getD xs i 0) where
+    pub letter-room : from + length (field x) ≤ length mid
+    letter-room = rw e (omega (arith, h, length-cell xs ms i, l .ends, l .long))
+
+    pub cell-laid : {now : List ℕ} {end : ℕ} → Laid (field x) mid from now end → Laid (cellAt xs ms i) old at now end
+    cell-laid g = rw (cell-is xs ms i, ← e) (laid-then l g)
+
+-- What is written changes no length.
+pub laid-kept : {us vs mid now : List ℕ} {at from end : ℕ} (old : List ℕ) → Laid us old at mid from → Laid vs mid from now end → length now ≡ length old
+laid-kept old h k = k .long ∙ h .long
 
 -- The letter of a step.
 pub step-right : (m : ℕ) → m ≡ 0 → 114 ≡ step m
@@ -151,13 +175,14 @@ pub ruleset stepping = (
   list-kept,
   ribbon-none,
   ribbon-some,
-  first-room,
-  first-laid,
+  step-none,
   comma-room,
   step-room,
+  step-laid,
+  cell-step-room,
   letter-room,
-  later-laid,
-  kept-long,
+  cell-laid,
+  laid-kept,
   step-right,
   step-down,
   needs,

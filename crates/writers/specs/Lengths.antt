@@ -1,10 +1,10 @@
 -- The longest lines: how many bytes a line has at most, by the limits of its values.
---     w-length, t-length, p-length, j-length, e-length     of an accepted word, a tableau and a pair within the limits, junctions, a refusal
+--     w-length, t-length, c-length, p-length, j-length, e-length     of an accepted word, a tableau, its runs and a pair within the limits, junctions, a refusal
 --     t-length-alike      of letters within the limits and as many marks
 --     field-short         a comma and a number below the k-th power of ten
 --     fields-short        the fields of numbers within a limit
 -- Assumes nothing.
-use Prim.Native.Nat.{ℕ, zero, suc, _+_, _*_, _^_, _≤_, _<_}
+use Prim.Native.Nat.{ℕ, zero, suc, _+_, _-_, _*_, _^_, _≤_, _<_}
 use mathlib.Core.Path.{_≡_, refl}
 use mathlib.Core.List.{List, [], _∷_, _++_}
 use mathlib.Core.Logic.{_⊎_, inl, inr}
@@ -12,7 +12,7 @@ use native.Mathlib.Nat.{suc-mul, lt-of-lt-of-le}
 use native.Mathlib.Omega.{arith}
 use lib.ListN.{length, length-append}
 use borrow.Author.Tests.{eq-eqb, le-leb, lt-leb, ne-eqb}
-use Rattle.grammar.specs.Lines.{cell, cells, eLine, field, firstCell, items, jLine, pLine, tLine, wLine}
+use Rattle.grammar.specs.Lines.{Run, cLine, cell, cells, eLine, field, firstCell, firstRun, items, jLine, laterRun, pLine, tLine, wLine}
 use Rattle.grammar.specs.Numbers.{decimal}
 use Rattle.grammar.proofs.Theory.Halves.{p-size}
 use Rattle.hypoplactic.specs.Ribbons.{EntryStep, LetterStep, PairAt, TableauAt}
@@ -23,6 +23,11 @@ use Rattle.hypoplactic.proofs.Theory.Pairs.{le-or-lt}
 use Rattle.hypoplactic.proofs.Theory.Placing.{Once}
 use Rattle.hypoplactic.proofs.Theory.StepJudgements.{ribbon-length}
 use Rattle.line_sizes.specs.Digits.{decimal-short}
+use Rattle.run_lines.specs.Judgements.{itemLetters}
+use Rattle.run_lines.specs.Operations.{runLine}
+use Rattle.run_lines.specs.Runs.{runCells, runsOf}
+use Rattle.run_lines.proofs.Theory.Judged.{RisingItems, tableau-items}
+use Rattle.run_lines.proofs.Theory.Runs.{tableau-runs-length}
 use Rattle.writers.specs.Cells.{cells-size}
 use Rattle.writers.specs.Lines.{length-line, lineOf}
 use Rattle.writers.specs.Items.{length-listed, listed}
@@ -72,6 +77,61 @@ t-length-alike {n} {xs} ms a e =
 
 pub t-length : {n : ℕ} {xs ms : List ℕ} → TableauAt n xs ms → length (tLine n xs ms) ≤ 5128
 t-length {n} {xs} {ms} h = t-length-alike ms (h .word) (ribbon-length LetterStep xs ms (h .tableau))
+
+-- More digits of a count take more cells: ninety times the digits are at most 170 and the cells, and just as many for 10 and for 100.
+count-digits : (k : ℕ) → 1 ≤ k → k ≤ 1024 → 90 * length (decimal k) ≤ 170 + k
+count-digits k low high = go (le-or-lt k 9) (le-or-lt k 99) (le-or-lt k 999)
+  where
+    go : (k ≤ 9) ⊎ (9 < k) → (k ≤ 99) ⊎ (99 < k) → (k ≤ 999) ⊎ (999 < k) → 90 * length (decimal k) ≤ 170 + k
+    go (inl h) b c = omega (arith, decimal-short 0 k (omega arith))
+    go (inr l) (inl h) c = omega (arith, decimal-short 1 k (omega arith))
+    go (inr g) (inr l) (inl h) = omega (arith, decimal-short 2 k (omega arith))
+    go (inr g) (inr l) (inr m) = omega (arith, decimal-short 3 k (omega arith))
+
+-- Ninety times a run's other 4 bytes, and that 170, are 530: with its digits a letter up to 9 takes 620, any other 710, and all from x to a take no less than a.
+letter-digits : (x a : ℕ) → x < a → a ≤ 64 → 90 * length (decimal a) + 530 + 710 * x + 90 * (9 - x) ≤ 710 * a + 90 * (9 - a)
+letter-digits x a l high = go (le-or-lt a 9)
+  where
+    go : (a ≤ 9) ⊎ (9 < a) → 90 * length (decimal a) + 530 + 710 * x + 90 * (9 - x) ≤ 710 * a + 90 * (9 - a)
+    go (inl h) = omega (arith, decimal-short 0 a (omega arith))
+    go (inr h) = omega (arith, decimal-short 1 a (omega arith))
+
+-- The runs after the letter x, each with its step: no more than if each letter after x up to 64 had one.
+run-bytes : (x : ℕ) (rs : List Run) → x ≤ 64 → RisingItems x rs → Within 64 (itemLetters rs) → runCells rs ≤ 1024
+    → 90 * length (items laterRun laterRun rs) + 710 * x + 90 * (9 - x) ≤ 45440 + runCells rs
+run-bytes x [] l h w few = omega arith
+run-bytes x (r ∷ rs) l h w few =
+    omega (
+      arith,
+      length-append (laterRun r) (items laterRun laterRun rs),
+      length-append (cell (r .letter, r .mark)) (field (r .times)),
+      letter-digits x (r .letter) (h .0 .0) (w .1),
+      count-digits (r .times) (h .0 .1) (omega arith),
+      run-bytes (r .letter) rs (w .1) (h .1) (w .2) (omega arith),
+    )
+
+-- All runs: no step goes into the first.
+runs-short : (rs : List Run) → RisingItems 0 rs → Within 64 (itemLetters rs) → runCells rs ≤ 1024 → length (items firstRun laterRun rs) ≤ 505
+runs-short [] h w few = omega arith
+runs-short (r ∷ rs) h w few = omega (arith, run-bytes 0 (r ∷ rs) (omega arith) h w few)
+
+-- C: 64 runs, 60 of 10 cells and 4 of 100.
+pub c-length : {n : ℕ} {xs ms : List ℕ} → TableauAt n xs ms → length (runLine n xs ms) ≤ 515
+unfolding runLine cLine lineOf listed
+c-length {n} {xs} {ms} h =
+    let rs : List Run = runsOf xs ms in
+    let (rising, letters) = tableau-items h in
+    let high : n ≤ 64 = h .word .rank-high in
+    let short : length xs ≤ 1024 = h .word .short in
+    let few : runCells rs ≤ 1024 = omega (arith, tableau-runs-length xs ms (h .tableau)) in
+    omega (
+      arith,
+      length-line 67 n (listed (length xs) (items firstRun laterRun rs)),
+      length-listed (length xs) (items firstRun laterRun rs),
+      field-short 1 n (omega arith),
+      field-short 3 (length xs) (omega arith),
+      runs-short rs rising (within-more (itemLetters rs) high letters) few,
+    )
 
 -- The entries up to the next number are those up to this one, and those that are the next.
 up-next : (k : ℕ) (rs : List ℕ) → countUpTo (suc k) rs ≡ countUpTo k rs + count (suc k) rs

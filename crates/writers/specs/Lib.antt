@@ -4,5 +4,7 @@ pub mod Items
 pub mod Cells
 pub mod Lines
 pub mod Parts
+pub mod RunLengths
+pub mod RunForms
 pub mod Runs
 pub mod Lengths

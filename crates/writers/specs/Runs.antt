@@ -1,16 +1,16 @@
 -- What the writers of lines reply, and memory, from the verdict on their values on.
---     word-stopped, tableau-stopped, pair-stopped, junctions-stopped         the checks refuse, and memory is as it was
---     word-goes-on, tableau-goes-on, pair-goes-on, junctions-goes-on         they pass, and the room decides
---     word-short, tableau-short, tableau-alike, pair-alike                   what holds of the values then
---     refusal-goes-on                                                        a refusal has no checks
---     running                                                                the ruleset of the public functions
+--     word-stopped, tableau-stopped, runs-stopped, pair-stopped, junctions-stopped         the checks refuse, and memory is as it was
+--     word-goes-on, tableau-goes-on, runs-goes-on, pair-goes-on, junctions-goes-on         they pass, and the room decides
+--     word-short, tableau-short, tableau-alike, pair-alike                                 what holds of the values then
+--     refusal-goes-on                                                                      a refusal has no checks
+--     running                                                                              the ruleset of the public functions
 -- Assumes nothing.
 use Prim.Native.Nat.{ℕ, _≤_}
 use mathlib.Core.Path.{_≡_, sym, ap, ap₂, _∙_}
 use mathlib.Core.List.{List, [], _∷_, _++_}
 use native.Mathlib.Omega.{arith}
 use lib.ListN.{length}
-use Rattle.grammar.specs.Lines.{cell, cells, field, firstCell, items, wLine, tLine, pLine, jLine, eLine}
+use Rattle.grammar.specs.Lines.{cell, cells, field, firstCell, items, wLine, tLine, cLine, pLine, jLine, eLine}
 use Rattle.hypoplactic.specs.Judgements.{pairJudgements, roomJudged, tableauJudgements, wordJudgements}
 use Rattle.hypoplactic.specs.Junctions.{junctionSet, rowsOf}
 use Rattle.hypoplactic.specs.LineOperations.{eLineRun, jLineRun, lineRun, pLineRun, roomRun, tLineRun, wLineRun}
@@ -27,9 +27,11 @@ use Rattle.refusals.specs.declared.answers.Junctions.{Junctions}
 use Rattle.refusals.specs.declared.answers.Junctions.the-variants as junctions
 use Rattle.refusals.specs.declared.answers.Verdict.{Verdict}
 use Rattle.refusals.specs.declared.answers.Verdict.the-variants.{Passed, Refused}
+use Rattle.run_lines.specs.Operations.{cLineRun, runLine}
 use Rattle.writers.specs.Items.{listed}
 use Rattle.writers.specs.Lines.{lineOf}
 use Rattle.writers.specs.Parts.{Alike, parts}
+use Rattle.writers.specs.RunForms.{runForm}
 
 -- ---- words, tableaux, pairs
 
@@ -56,7 +58,7 @@ module _ {v : Verdict} (n : ℕ) (w old : List ℕ) (e : saidVerdict v ≡ first
   pub word-short : v ≡ Passed → length w ≤ 1024
   word-short q = length-judged (length w) .0 (all-passing (wordJudgements n w) e q .1 .0)
 
--- T: 1 to 6.
+-- T and C: 1 to 6.
 module _ {v : Verdict} (n : ℕ) (xs ms old : List ℕ) (e : saidVerdict v ≡ first (tableauJudgements n xs ms) passed) where
   pub tableau-stopped : (r : Refusal) → v ≡ Refused r → (saidRefusal r, old) ≡ tLineRun n xs ms old
   unfolding tLineRun
@@ -66,6 +68,14 @@ module _ {v : Verdict} (n : ℕ) (xs ms old : List ℕ) (e : saidVerdict v ≡ f
       → p ≡ roomRun (lineOf 84 n (listed (length xs) (items firstCell cell (cells xs ms)))) old → p ≡ tLineRun n xs ms old
   unfolding tLineRun tLine lineOf listed
   tableau-goes-on q h = line-goes-on (tableauJudgements n xs ms) (tLine n xs ms) old e q h
+
+  pub runs-stopped : (r : Refusal) → v ≡ Refused r → (saidRefusal r, old) ≡ cLineRun n xs ms old
+  unfolding cLineRun
+  runs-stopped r q = line-stopped (tableauJudgements n xs ms) (runLine n xs ms) old e r q
+
+  pub runs-goes-on : {p : Said × List ℕ} → v ≡ Passed → p ≡ roomRun (lineOf 67 n (runForm xs ms)) old → p ≡ cLineRun n xs ms old
+  unfolding cLineRun runLine cLine lineOf runForm listed
+  runs-goes-on q h = line-goes-on (tableauJudgements n xs ms) (runLine n xs ms) old e q h
 
   pub tableau-short : v ≡ Passed → length xs ≤ 1024
   tableau-short q = length-judged (length xs) .0 (all-passing (tableauJudgements n xs ms) e q .1 .0)
@@ -135,6 +145,8 @@ pub ruleset running = (
   word-short,
   tableau-stopped,
   tableau-goes-on,
+  runs-stopped,
+  runs-goes-on,
   tableau-short,
   tableau-alike,
   pair-stopped,

@@ -7,7 +7,7 @@ ghost use mathlib.Core.Path.{_≡_};
 ghost use lib.ListN.{length};
 ghost use Rattle.grammar.specs.Lines.{cell, cells, field, firstCell, items, step};
 ghost use Rattle.line_sizes.specs.Sizes.{Counted};
-ghost use Rattle.writers.specs.Cells.{cellAt};
+ghost use Rattle.writers.specs.Cells.{cellAt, stepAt};
 ghost use Rattle.writers.specs.Items.{listed};
 ghost use Rattle.writers.specs.Laying.{Laid};
 ghost use Rattle.writers.specs.Parts.{Alike, Placed, parts};
@@ -70,7 +70,20 @@ fn step_letter(mark: u8) -> u8
     if mark == 0 { 114 } else { 100 }
 }
 
-// Writes the cell at a place of the ribbon: its letter, after the step into it unless it is the first.
+// Writes the step into the cell at a place of the ribbon, and answers the place after it. No step leads into the first.
+pub(crate) fn write_step(marks: &[u8], i: usize, out: &mut [u8], at: usize) -> usize
+    requires { ⌜ (i < length (now marks)) × (at + length (stepAt (now marks) i) ≤ length (now out)) ⌝ }
+    ensures { λ r. ⌜ Laid (stepAt (now (marks .entry)) i) (now (out .entry)) at (now (out .exit)) r ⌝ }
+{
+    if i == 0 {
+        return at;
+    }
+    out[at] = 44;
+    out[at + 1] = step_letter(marks[i]);
+    at + 2
+}
+
+// Writes the cell at a place of the ribbon: the step into it, and its letter.
 fn write_cell(letters: &[u8], marks: &[u8], i: usize, out: &mut [u8], at: usize) -> usize
     requires { ⌜
         (i < length (now letters)) × (length (now marks) ≡ length (now letters))
@@ -78,13 +91,8 @@ fn write_cell(letters: &[u8], marks: &[u8], i: usize, out: &mut [u8], at: usize)
         ⌝ }
     ensures { λ r. ⌜ Laid (cellAt (now (letters .entry)) (now (marks .entry)) i) (now (out .entry)) at (now (out .exit)) r ⌝ }
 {
-    let letter = wide(letters[i]);
-    if i == 0 {
-        return write_field(letter, out, at);
-    }
-    out[at] = 44;
-    out[at + 1] = step_letter(marks[i]);
-    write_field(letter, out, at + 2)
+    let from = write_step(marks, i, out, at);
+    write_field(wide(letters[i]), out, from)
 }
 
 // Writes how many cells a tableau has, and the cells, from a place on.

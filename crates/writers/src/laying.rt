@@ -7,6 +7,8 @@ use crate::items::ribbon_size;
 use crate::items::write_list;
 use crate::items::write_parts;
 use crate::items::write_ribbon;
+use crate::runs::runs_size;
+use crate::runs::write_runs;
 use line_sizes::sizes::field_size;
 use line_sizes::sizes::line_size;
 use refusals::answers::Verdict;
@@ -23,6 +25,7 @@ ghost use Rattle.writers.specs.Items.{listed};
 ghost use Rattle.writers.specs.Laying.{Laid};
 ghost use Rattle.writers.specs.Lines.{lineOf};
 ghost use Rattle.writers.specs.Parts.{Alike, parts};
+ghost use Rattle.writers.specs.RunForms.{runForm};
 
 // Writes the letter of the kind and the first field.
 fn write_head(kind: u8, first: usize, out: &mut [u8]) -> usize
@@ -81,6 +84,24 @@ pub(crate) fn write_tableau(rank: usize, letters: &[u8], marks: &[u8], out: &mut
     }
     let at = write_head(84, rank, out);
     let end = write_ribbon(letters, marks, out, at);
+    out[end] = 10;
+    Written::Elements(need)
+}
+
+// Writes the C line of a rank, letters and marks.
+pub(crate) fn write_run_form(rank: usize, letters: &[u8], marks: &[u8], out: &mut [u8]) -> Written
+    requires { ⌜ (length (now letters) ≤ 1024) × (length (now marks) ≡ length (now letters)) ⌝ }
+    ensures { λ r. ⌜
+        (saidWritten r, now (out .exit))
+        ≡ roomRun (lineOf 67 rank (runForm (now (letters .entry)) (now (marks .entry)))) (now (out .entry))
+        ⌝ }
+{
+    let need = line_size(rank, runs_size(letters, marks));
+    if let Verdict::Refused(refusal) = check_room(need, out.len()) {
+        return Written::Refused(refusal);
+    }
+    let at = write_head(67, rank, out);
+    let end = write_runs(letters, marks, out, at);
     out[end] = 10;
     Written::Elements(need)
 }

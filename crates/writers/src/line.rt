@@ -2,6 +2,7 @@
 // bytes of the line keeps its value.
 use crate::laying::write_numbers;
 use crate::laying::write_pair;
+use crate::laying::write_run_form;
 use crate::laying::write_tableau;
 use crate::laying::write_word;
 use acceptance::word::check_word;
@@ -16,6 +17,7 @@ use words::junctions::junctions;
 ghost use mathlib.Core.Path.{_≡_};
 ghost use Rattle.hypoplactic.specs.LineOperations.{eLineRun, jLineRun, pLineRun, tLineRun, wLineRun};
 ghost use Rattle.refusals.specs.Said.{number, place, saidWritten};
+ghost use Rattle.run_lines.specs.Operations.{cLineRun};
 
 // The W line of a word: 1, 2 and 4, then 13.
 pub fn write_word_line(rank: usize, word: &[u8], out: &mut [u8]) -> Written
@@ -37,6 +39,18 @@ pub fn write_tableau_line(rank: usize, letters: &[u8], marks: &[u8], out: &mut [
         return Written::Refused(refusal);
     }
     write_tableau(rank, letters, marks, out)
+}
+
+// The C line of a tableau: 1 to 6, then 13.
+pub fn write_run_line(rank: usize, letters: &[u8], marks: &[u8], out: &mut [u8]) -> Written
+    ensures { λ r. ⌜
+        (saidWritten r, now (out .exit)) ≡ cLineRun rank (now (letters .entry)) (now (marks .entry)) (now (out .entry))
+        ⌝ }
+{
+    if let Verdict::Refused(refusal) = check_tableau(rank, letters, marks) {
+        return Written::Refused(refusal);
+    }
+    write_run_form(rank, letters, marks, out)
 }
 
 // The P line of a pair: 1 to 8, then 13.

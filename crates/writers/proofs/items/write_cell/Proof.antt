@@ -6,7 +6,5 @@ use Rattle.writers.proofs.items.write_cell.Tie as tie
 pub write-cell-spec : {M : Type 1} → statement M
 write-cell-spec =
     tie.close
-    (tie.spec (λ c. search stepping) (λ c κs. search stepping) (λ c κs. search stepping) (λ c. search stepping)
-    (λ c. search stepping) (λ c. search stepping) (λ c. search stepping) (λ c κs. search stepping)
-    (λ c. search stepping) (λ c. search stepping) (λ c. search stepping) (λ c κs. search stepping)
+    (tie.spec (λ c κs. search stepping) (λ c. search stepping) (λ c κs. search stepping) (λ c κs. search stepping)
     (λ c. search stepping) (λ c. search stepping))
