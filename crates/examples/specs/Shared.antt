@@ -1,12 +1,13 @@
 -- Cases for the definitions of code crates that public contracts rest on beside those of hypoplactic, in the form of the starred ones: what crates lend each
 -- other, each in its smallest inputs.
---     sharedCases     the cases; tests stand as 1 and 0 (told), lent letters and marks one after the other (filling)
+--     sharedCases     the cases; tests stand as 1 and 0 (told), lent letters and marks one after the other (filling), an item as its three numbers (itemNumbers)
 -- That the two sides of every case are equal is proved in proofs/Theory/Shared.antt. Assumes nothing.
 use Prim.Native.Nat.{ℕ}
 use mathlib.Core.Bool.{Bool, true, false}
 use mathlib.Core.List.{List, [], _∷_, _++_, map}
 use mathlib.Core.Option.{none, some}
 use lib.ListN.{length, replicate}
+use Rattle.grammar.specs.Lines.{Run}
 use Rattle.grammar.specs.Reading.{letters, marks}
 use Rattle.hypoplactic.specs.Insertion.{pairWith}
 use Rattle.hypoplactic.specs.Words.{tick}
@@ -21,7 +22,10 @@ use Rattle.scans.specs.Kept.{kept}
 use Rattle.scans.specs.Scans.{wholeCells}
 use Rattle.words.specs.Given.{countGiven, junctionGiven}
 use Rattle.words.specs.Junctions.{bitAt}
-use Rattle.fillings.specs.Filled.{filled, filledLetters}
+use Rattle.fillings.specs.Filled.{filled, filledLetters, filledRuns}
+use Rattle.run_lines.specs.Runs.{runCells, runWith}
+use Rattle.run_tallies.specs.Tallies as tallies
+use Rattle.run_scans.specs.Lines.{wholeRuns}
 use Rattle.operators.specs.Changes.{moveLettersRun, repeatLettersSays}
 use Rattle.admissions.specs.Checks.{insertChecks}
 use Rattle.examples.specs.Counted.{countOrder, onCounts, rises, zeros}
@@ -35,6 +39,19 @@ told b = tick b 0
 abbrev pub filling : ℕ → ℕ → List ℕ → List ℕ → List ℕ
 filling n set ls ks = let (xs, ms) = filled n (1 ∷ 0 ∷ 2 ∷ []) set ls ks in xs ++ ms
 
+-- The same with the marks by a table of steps.
+abbrev pub fillingRuns : ℕ → List ℕ → List ℕ → List ℕ → List ℕ
+fillingRuns n ss ls ks = let (xs, ms) = filledRuns n (1 ∷ 0 ∷ 2 ∷ []) ss ls ks in xs ++ ms
+
+-- What the tally of a C line's items tells: the two leads, the last letter, the capped sum.
+abbrev pub tally : ℕ → List Run → List ℕ
+tally n rs = tallies.insideLead n rs ∷ tallies.risingLead 0 rs ∷ tallies.lastLetter 0 rs ∷ tallies.capped (runCells rs) ∷ []
+
+-- Items as numbers: letter, count and mark of each.
+abbrev pub itemNumbers : List Run → List ℕ
+itemNumbers [] = []
+itemNumbers (r ∷ rs) = r .letter ∷ r .times ∷ r .mark ∷ itemNumbers rs
+
 unfoldable pub sharedCases : List Case
 sharedCases =
     -- values copied as far as there is room; a tail shifted by one, the last element falling off
@@ -47,6 +64,10 @@ sharedCases =
     ∷ case (letters (wholeCells 78 false false (text "N,2,2,1\n"))) (2 ∷ 1 ∷ [])
     ∷ case (marks (wholeCells 84 true true (text "T,4,3,1,d,2,r"))) (0 ∷ 1 ∷ [])
     ∷ case (stepMarks true ((1, 0) ∷ (2, 1) ∷ []) ++ stepMarks false ((1, 0) ∷ (2, 1) ∷ [])) (0 ∷ 1 ∷ [])
+    -- the items of a C line up to its line feed, whatever follows; those before a break; none after a beginning that breaks
+    ∷ case (itemNumbers (wholeRuns (text "C,4,9,2,1,d,3,2\nx"))) (2 ∷ 1 ∷ 0 ∷ 3 ∷ 2 ∷ 1 ∷ [])
+    ∷ case (itemNumbers (wholeRuns (text "C,4,4,2,1,d,3,2,d,4,x"))) (2 ∷ 1 ∷ 0 ∷ 3 ∷ 2 ∷ 1 ∷ [])
+    ∷ case (itemNumbers (wholeRuns (text "C,4,x,2,1\n") ++ wholeRuns (text "C,4,0\n"))) []
     -- the byte that stands first
     ∷ case (map (λ t. told (startsWith 44 t)) ((44 ∷ []) ∷ (45 ∷ 44 ∷ []) ∷ [] ∷ [])) (1 ∷ 0 ∷ 0 ∷ [])
     -- one of two places left of the other
@@ -68,9 +89,25 @@ sharedCases =
     ∷ case (filling 3 1 (9 ∷ 9 ∷ 9 ∷ []) (8 ∷ 8 ∷ [])) (9 ∷ 9 ∷ 9 ∷ 8 ∷ 8 ∷ [])
     ∷ case (filling 1 1 (9 ∷ []) (8 ∷ [])) (1 ∷ 0 ∷ [])
     ∷ case (filling 65 1 (9 ∷ 9 ∷ 9 ∷ []) (8 ∷ 8 ∷ 8 ∷ [])) (9 ∷ 9 ∷ 9 ∷ 8 ∷ 8 ∷ 8 ∷ [])
+    -- by counts and steps: down where the table has a 1, right where it has another number or none; both as they were where one is too short or the rank is above 64
+    ∷ case (fillingRuns 3 (0 ∷ 1 ∷ 1 ∷ []) (9 ∷ 9 ∷ 9 ∷ 9 ∷ []) (8 ∷ 8 ∷ 8 ∷ 8 ∷ [])) (1 ∷ 3 ∷ 3 ∷ 9 ∷ 0 ∷ 1 ∷ 0 ∷ 8 ∷ [])
+    ∷ case (fillingRuns 3 (0 ∷ 1 ∷ 2 ∷ []) (9 ∷ 9 ∷ 9 ∷ []) (8 ∷ 8 ∷ 8 ∷ [])) (1 ∷ 3 ∷ 3 ∷ 0 ∷ 0 ∷ 0 ∷ [])
+    ∷ case (fillingRuns 3 [] (9 ∷ 9 ∷ []) (8 ∷ 8 ∷ 8 ∷ [])) (9 ∷ 9 ∷ 8 ∷ 8 ∷ 8 ∷ [])
+    ∷ case (fillingRuns 3 [] (9 ∷ 9 ∷ 9 ∷ []) (8 ∷ 8 ∷ [])) (9 ∷ 9 ∷ 9 ∷ 8 ∷ 8 ∷ [])
+    ∷ case (fillingRuns 65 [] (9 ∷ 9 ∷ 9 ∷ []) (8 ∷ 8 ∷ 8 ∷ [])) (9 ∷ 9 ∷ 9 ∷ 8 ∷ 8 ∷ 8 ∷ [])
     -- letters alone: with room to spare, too short, above 64
     ∷ case (filledLetters 3 (1 ∷ 0 ∷ 2 ∷ []) (9 ∷ 9 ∷ 9 ∷ 9 ∷ []) ++ filledLetters 3 (1 ∷ 0 ∷ 2 ∷ []) (9 ∷ 9 ∷ [])) (1 ∷ 3 ∷ 3 ∷ 9 ∷ 9 ∷ 9 ∷ [])
     ∷ case (filledLetters 64 (1 ∷ []) (9 ∷ []) ++ filledLetters 65 (1 ∷ []) (9 ∷ [])) (1 ∷ 9 ∷ [])
+    -- the tally of the items 2,1 and 3,2 and 4,1; of a letter outside the rank; of a letter that stands twice, or a count 0; of no items
+    ∷ case (tally 4 (runWith 2 1 0 ∷ runWith 3 2 1 ∷ runWith 4 1 1 ∷ [])) (3 ∷ 3 ∷ 4 ∷ 4 ∷ [])
+    ∷ case (tally 3 (runWith 2 1 0 ∷ runWith 4 1025 1 ∷ runWith 3 1 1 ∷ [])) (1 ∷ 2 ∷ 3 ∷ 1025 ∷ [])
+    ∷ case (tally 3 (runWith 2 1 0 ∷ runWith 2 1 0 ∷ []) ++ tally 3 (runWith 2 0 0 ∷ [])) (2 ∷ 1 ∷ 2 ∷ 2 ∷ 1 ∷ 0 ∷ 2 ∷ 0 ∷ [])
+    ∷ case (tally 3 []) (0 ∷ 0 ∷ 0 ∷ 0 ∷ [])
+    -- one item more: a lead goes on, stays at its fault, ends at a new one; the number of items, 2 to the power 63 at most
+    ∷ case (tallies.leadAfter false 2 2 ∷ tallies.leadAfter false 1 2 ∷ tallies.leadAfter true 2 2 ∷ []) (3 ∷ 1 ∷ 2 ∷ [])
+    ∷ case (tallies.nextCount 0 ∷ tallies.nextCount 9223372036854775807 ∷ tallies.nextCount 9223372036854775808 ∷ []) (1 ∷ 9223372036854775808 ∷ 9223372036854775808 ∷ [])
+    -- a number at a letter's place, none of the letters 0 and 65
+    ∷ case (tallies.kept 1 7 (8 ∷ 9 ∷ []) ++ tallies.kept 2 7 (8 ∷ 9 ∷ []) ++ tallies.kept 0 7 (8 ∷ []) ++ tallies.kept 65 7 (8 ∷ [])) (7 ∷ 9 ∷ 8 ∷ 7 ∷ 8 ∷ 8 ∷ [])
     -- a move once its inversion is known: 1, 9, 10, 11, or made at a place
     ∷ case (outcome (moveLettersRun 65 (raise 0) true [])) (1 ∷ 0 ∷ [])
     ∷ case (outcome (moveLettersRun 4 (raise 0) true [])) (9 ∷ 0 ∷ [])

@@ -6,6 +6,7 @@
 --     field-told, break-told      a number of a line with the place after it, and the place of a break
 --     line-told, line-broken      a whole line with its values and what is kept of them, and one that breaks
 --     pair-told, pair-broken      the same of P lines
+--     runs-told, runs-broken      the same of C lines, of whose items a tally and two tables are kept
 -- Assumes nothing.
 use Prim.Native.Nat.{ℕ}
 use mathlib.Core.Path.{_≡_, refl}
@@ -14,7 +15,7 @@ use mathlib.Core.List.{List, [], _∷_, map}
 use mathlib.Core.Option.{none, some}
 use native.Mathlib.Omega.{arith}
 use lib.ListN.{length, getD}
-use Rattle.grammar.specs.Reading.{readField}
+use Rattle.grammar.specs.Reading.{readC, readField, readRuns}
 use Rattle.hypoplactic.specs.Junctions.{number, junctionSet}
 use Rattle.hypoplactic.specs.Counts.{countsJudged, countsOf}
 use Rattle.hypoplactic.specs.Judgements.{entriesJudged, fullJudged, indexJudged, inversionJudged, lengthJudged, letterJudged, lettersJudged, marksJudged, rankJudged, recordingJudged, risingJudged, roomJudged, usedJudged}
@@ -26,21 +27,26 @@ use Rattle.numerals.specs.Numbers.{Numbered}
 use Rattle.numerals.specs.declared.numbers.Number.the-variants as number-at
 use Rattle.occurrences.specs.Places.{foundPlace}
 use Rattle.occurrences.specs.declared.places.Found.the-variants.{At, Nothing}
-use Rattle.scans.specs.Cells.{readMarked}
+use Rattle.cell_scans.specs.Cells.{readMarked}
 use Rattle.scans.specs.Heads.{readCounted, readEnd, readHead}
 use Rattle.scans.specs.PairScans.{PairScanned, pairCells, pairEntries, partEntries, readPair, readParts}
 use Rattle.scans.specs.Scans.{Scanned, readBody, readWhole, wholeCells}
 use Rattle.scans.specs.declared.line.Line.the-variants as line
 use Rattle.words.specs.Given.{countGiven, junctionGiven}
 use Rattle.words.specs.Tables.{Table}
-use Rattle.fillings.specs.Filled.{filled, filledLetters}
+use Rattle.fillings.specs.Filled.{filled, filledLetters, filledRuns}
+use Rattle.run_tallies.specs.Tallies.{kept, leadAfter, nextCount}
+use Rattle.run_scans.specs.Items.{begunRuns}
+use Rattle.run_scans.specs.Lines.{RunsScanned, wholeRuns}
+use Rattle.run_scans.specs.Runs.{readRunItem}
+use Rattle.run_scans.specs.declared.line.RunLine.the-variants as runs
 use Rattle.operators.specs.Changes.{moveLettersRun, repeatLettersSays}
 use Rattle.operators.specs.Targets.{moveBy}
 use Rattle.operators.specs.declared.changes.Side.the-variants.{Lowering, Raising}
 use Rattle.examples.specs.Shared.{sharedCases}
 
 pub shared-pinned : map (λ (c : Case). c .meaning) sharedCases ≡ map (λ (c : Case). c .document) sharedCases
-unfolding sharedCases countsOf countsJudged pushed wholeCells readHead readCounted number junctionSet rankJudged lengthJudged usedJudged lettersJudged risingJudged marksJudged entriesJudged recordingJudged indexJudged inversionJudged letterJudged fullJudged roomJudged checksThen countGiven junctionGiven filled filledLetters layers moveLettersRun repeatLettersSays
+unfolding sharedCases countsOf countsJudged pushed wholeCells wholeRuns begunRuns readRunItem readHead readCounted number junctionSet rankJudged lengthJudged usedJudged lettersJudged risingJudged marksJudged entriesJudged recordingJudged indexJudged inversionJudged letterJudged fullJudged roomJudged checksThen countGiven junctionGiven filled filledLetters filledRuns kept leadAfter nextCount layers moveLettersRun repeatLettersSays
 shared-pinned = refl
 
 pub sides-named : (i : ℕ) → (moveBy Raising i ≡ raise i) × (moveBy Lowering i ≡ lower i)
@@ -89,3 +95,18 @@ pub pair-broken :
 unfolding readPair readParts readBody readHead readCounted readEnd readMarked wholeCells pairEntries partEntries
 pair-broken =
     record { told = record { says = refl; within = omega arith }; cells-long = refl; entries-long = refl; letters-are = refl; marks-are = refl; entries-are = refl }
+
+-- A C line: the counts and the marks of its items, each at its letter's place.
+pub runs-told :
+    RunsScanned (text "C,4,3,1,1,d,3,2\n") (readC (text "C,4,3,1,1,d,3,2\n")) (wholeRuns (text "C,4,3,1,1,d,3,2\n"))
+    (9 ∷ 9 ∷ 9 ∷ 9 ∷ []) (8 ∷ 8 ∷ 8 ∷ 8 ∷ []) (1 ∷ 9 ∷ 2 ∷ 9 ∷ []) (0 ∷ 8 ∷ 1 ∷ 8 ∷ [])
+    (runs.Read 4 3 (record { items = 2; inside = 2; rising = 2; last = 3; sum = 3 }))
+unfolding readC readRuns readHead readCounted wholeRuns begunRuns readRunItem kept
+runs-told = record { told = (refl, record { items = refl; inside = refl; rising = refl; last = refl; sum = refl }); times-are = refl; marks-are = refl }
+
+-- One that breaks in the count of its third item: the two before are kept, and nothing of that one.
+pub runs-broken :
+    RunsScanned (text "C,4,4,1,1,d,3,2,d,4,x") (readC (text "C,4,4,1,1,d,3,2,d,4,x")) (wholeRuns (text "C,4,4,1,1,d,3,2,d,4,x"))
+    (9 ∷ 9 ∷ 9 ∷ 9 ∷ []) (8 ∷ 8 ∷ 8 ∷ 8 ∷ []) (1 ∷ 9 ∷ 2 ∷ 9 ∷ []) (0 ∷ 8 ∷ 1 ∷ 8 ∷ []) (runs.Broken 20)
+unfolding readC readRuns readHead readCounted wholeRuns begunRuns readRunItem kept
+runs-broken = record { told = record { says = refl; within = omega arith }; times-are = refl; marks-are = refl }
