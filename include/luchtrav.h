@@ -14,7 +14,7 @@
  *   counts    how often each letter occurs in a tableau: 64 numbers of 16 bits, that of letter a at place a - 1. They
  *             are stored with the tableau, and stand after its marks, in a pair after the entries. A function that
  *             gives a tableau gives its counts; one that takes a tableau takes and judges them (17), but for the
- *             writers of T and P lines, luchtrav_look, luchtrav_cell_at, and the checks without 'counted' in their
+ *             writers of T, C and P lines, luchtrav_look, luchtrav_cell_at, and the checks without 'counted' in their
  *             names.
  *   recording its entries in ribbon order, 16 bits each: 1 to L, each once, rising at a step right and falling at a
  *             step down. Tableau and recording of one shape are a pair; each pair is that of one word.
@@ -26,15 +26,22 @@
  *   line      a text that ends in one line feed, its fields parted by commas, numbers in decimal:
  *                 W,rank,L,letters                      a word
  *                 T,rank,L,letter,step,letter,..        a tableau, steps r (right) and d (down)
+ *                 C,rank,L,letter,count,step,letter,count,..
+ *                                                       a tableau in run form: each different letter with its count,
+ *                                                       and between two of them the step into the next
  *                 P,rank,L,letter,step,..,letter,entries
  *                                                       a pair: the items of its T line, then its entries
  *                 J,set,rows and E,number,place         a junction set with rows, a refusal: never read
- *             L is the number of letters, in a P line also that of the entries. Two words of one rank have the same
- *             T line, byte for byte, exactly when they are in one class of the hypoplactic monoid. T lines of words of
- *             different rank differ in the rank field; the words are in one class exactly when the lines agree with
- *             that field left out. A move at an index that both ranks have is then defined on both words or on neither,
- *             and the lines of the words that it makes agree again with that field left out. Two words of one rank have
- *             the same P line only where they are the same word.
+ *             L is the number of letters, in a P line also that of the entries, in a C line the sum of the counts; a C
+ *             line has as many items, a letter with its count each, as stand before its line feed. Two words of one
+ *             rank have the same T line, byte for byte, exactly when they are in one class of the hypoplactic monoid.
+ *             T lines of words of different rank differ in the rank field; the words are in one class exactly when the
+ *             lines agree with that field left out. A move at an index that both ranks have is then defined on both
+ *             words or on neither, and the lines of the words that it makes agree again with that field left out. All
+ *             this holds of C lines as well. Two words of one rank have the same P line only where they are the same
+ *             word.
+ *             A tableau has one T line and one C line, and luchtrav_tableau_to_runs and luchtrav_runs_to_tableau turn
+ *             the one into the other: there and back gives the line itself, byte for byte.
  *             Versions before 0.8 stored a recording ribbon in a line of its own, N,L,entries. It is read only by
  *             luchtrav_convert_lines, which makes a P line of a T line and an N line.
  *   Places count from 0.
@@ -60,8 +67,9 @@
  *
  * REPLIES
  *   Every reply begins with a number and a place. Number 0 is success, with place 0, and the values follow. Any other
- *   number refuses the input; the values are 0 then. The checks run in rising number, except that 14 comes first, and
- *   17, 15 and 16 directly after 6, each over the whole input, and the first that fails is the reply:
+ *   number refuses the input; the values are 0 then. The checks run in rising number, except that 14 comes first, 19
+ *   and 20 directly after 4, and 17, 15 and 16 directly after 6, each over the whole input, and the first that fails is
+ *   the reply:
  *
  *    number and name            place       what luchtrav_refusal_text says of it
  *     0 LUCHTRAV_OK             0           success
@@ -83,15 +91,17 @@
  *    16 LUCHTRAV_PAST_LAST      0           number not below the size of the class
  *    17 LUCHTRAV_BAD_COUNT      first such  count that is not how often its letter occurs
  *    18 LUCHTRAV_EMPTY          0           departure from an empty window
+ *    19 LUCHTRAV_BAD_ITEM       first such  item with a letter not above the one before it, or with the count 0
+ *    20 LUCHTRAV_BAD_SUM        0           counts that do not add to the number of cells
  *
  *   Of two words or two tableaux each check searches the first, then the second, and places in the second count on from
  *   the first's length. 2 judges each by itself, but the cells of a product's factors together. The letter to be
  *   inserted has the used count as its place. The place of 13 is the number of elements that the output needs; the
  *   first that is too short in the order letters, marks, entries. The place of 14 is that of the first byte that breaks
  *   the grammar, or the text's length, and in a second text it counts on from the first's length; where a line is read,
- *   all other places are those of letters or entries. The place of 17 is the letter minus 1, in a second tableau 64
- *   more; a letter above the rank has the count 0. With each function stand the numbers that it can refuse with, in
- *   order.
+ *   all other places are those of letters or entries, and where a C line is read those of items. The place of 17 is the
+ *   letter minus 1, in a second tableau 64 more; a letter above the rank has the count 0. With each function stand the
+ *   numbers that it can refuse with, in order.
  *
  * EXAMPLE
  *   The pair of 4323 at rank 4, the steps of its tableau in words. It prints '2 down 3 right 3 down 4'.
@@ -129,7 +139,7 @@ extern "C" {
 
 /* The version; and the number at the end of the shared library's name, which goes one up whenever a program must be
  * compiled anew to run with the library. */
-#define LUCHTRAV_VERSION "0.9.0"
+#define LUCHTRAV_VERSION "0.10.0"
 #define LUCHTRAV_INTERFACE 3
 
 /* The limits; the last is that of letters or cells where a class is counted. */
@@ -142,8 +152,9 @@ extern "C" {
 
 /* Bytes that are always enough for one line, whatever its kind, and for an answer of luchtrav_answer. The longest
  * lines, line feed included: P 9,141 bytes (1,024 letters of two digits and 1,024 entries), T 5,128 and W 3,082 (1,024
- * letters of two digits), J 25 (a set of 19 digits, rows of two), E 44 (number and place of 20 digits each). The
- * longest answer: 12,248. (Counted, and each reached in a test.) */
+ * letters of two digits), C 515 (64 letters, four counts of three digits and 60 of two), J 25 (a set of 19 digits, rows
+ * of two), E 44 (number and place of 20 digits each). The longest answer: 12,248. (Counted, and each reached in a
+ * test.) */
 #define LUCHTRAV_LINE_BYTES 16384
 #define LUCHTRAV_ANSWER_BYTES 16384
 
@@ -167,7 +178,9 @@ enum luchtrav_refusal {
     LUCHTRAV_TOO_LARGE = 15,
     LUCHTRAV_PAST_LAST = 16,
     LUCHTRAV_BAD_COUNT = 17,
-    LUCHTRAV_EMPTY = 18
+    LUCHTRAV_EMPTY = 18,
+    LUCHTRAV_BAD_ITEM = 19,
+    LUCHTRAV_BAD_SUM = 20
 };
 
 /* What the table says of a number, and "no such number" of one that is not in it; never NULL. It is C of this header
@@ -193,6 +206,8 @@ static inline const char *luchtrav_refusal_text(size_t number) {
     case LUCHTRAV_PAST_LAST: return "number not below the size of the class";
     case LUCHTRAV_BAD_COUNT: return "count that is not how often its letter occurs";
     case LUCHTRAV_EMPTY: return "departure from an empty window";
+    case LUCHTRAV_BAD_ITEM: return "item with a letter not above the one before it, or with the count 0";
+    case LUCHTRAV_BAD_SUM: return "counts that do not add to the number of cells";
     default: return "no such number";
     }
 }
@@ -473,6 +488,12 @@ luchtrav_count luchtrav_word_of_pair(size_t rank, const uint8_t *letters, size_t
 luchtrav_count luchtrav_tableau_line_of_word(size_t rank, const uint8_t *word, size_t word_count,
                                              uint8_t *out, size_t out_count);
 
+/* The C line of a word's tableau in one call, which is what to store for the word's whole class in run form; count is
+ * the bytes written.
+ * Needs the bytes of the line in out, 515 at most. Refuses 1 2 4 13. */
+luchtrav_count luchtrav_run_line_of_word(size_t rank, const uint8_t *word, size_t word_count,
+                                         uint8_t *out, size_t out_count);
+
 /* The W line of a word; count is the bytes written.
  * Needs the bytes of the line in out, 3,082 at most. Refuses 1 2 4 13. */
 luchtrav_count luchtrav_write_word_line(size_t rank, const uint8_t *word, size_t word_count,
@@ -483,6 +504,12 @@ luchtrav_count luchtrav_write_word_line(size_t rank, const uint8_t *word, size_t
 luchtrav_count luchtrav_write_tableau_line(size_t rank, const uint8_t *letters, size_t letters_count,
                                            const uint8_t *marks, size_t marks_count,
                                            uint8_t *out, size_t out_count);
+
+/* The C line of a tableau, which has the counts of its letters as text, and takes none; count is the bytes written.
+ * Needs the bytes of the line in out, 515 at most. Refuses 1 2 3 4 5 6 13. */
+luchtrav_count luchtrav_write_run_line(size_t rank, const uint8_t *letters, size_t letters_count,
+                                       const uint8_t *marks, size_t marks_count,
+                                       uint8_t *out, size_t out_count);
 
 /* The P line of a pair, which has no counts; count is the bytes written.
  * Needs the bytes of the line in out, 9,141 at most. Refuses 1 2 3 4 5 6 7 8 13. */
@@ -512,6 +539,15 @@ luchtrav_line luchtrav_read_tableau_line(const uint8_t *text, size_t text_count,
                                          uint8_t *letters, size_t letters_count,
                                          uint8_t *marks, size_t marks_count, uint16_t *counts);
 
+/* A whole C line, line feed included and nothing after it, as a tableau with its counts; count is the cells written.
+ * However many items the text has, each check is made on all of them before the next; the place of 4 and of 19 is the
+ * item's, from 0. 2 judges L alone, and 20 tells where the counts do not add to it.
+ * Needs as many elements in letters, and in marks, as L says, LUCHTRAV_LETTERS at most.
+ * Refuses 14 1 2 4 19 20 13. */
+luchtrav_line luchtrav_read_run_line(const uint8_t *text, size_t text_count,
+                                     uint8_t *letters, size_t letters_count,
+                                     uint8_t *marks, size_t marks_count, uint16_t *counts);
+
 /* A whole P line, line feed included and nothing after it, as a pair with its counts; count is the cells written.
  * Needs as many elements in each of letters, marks and entries as the line has cells, LUCHTRAV_LETTERS at most.
  * Refuses 14 1 2 4 5 6 7 8 13. */
@@ -528,6 +564,16 @@ luchtrav_line luchtrav_read_pair_line(const uint8_t *text, size_t text_count,
 luchtrav_count luchtrav_convert_lines(const uint8_t *tableau_text, size_t tableau_text_count,
                                       const uint8_t *recording_text, size_t recording_text_count,
                                       uint8_t *out, size_t out_count);
+
+/* The C line of the tableau in a whole T line, line feed included and nothing after it; count is the bytes written.
+ * luchtrav_runs_to_tableau gives the T line back, byte for byte.
+ * Needs the bytes of the line in out, 515 at most. Refuses 14 1 2 4 5 6 13. */
+luchtrav_count luchtrav_tableau_to_runs(const uint8_t *text, size_t text_count, uint8_t *out, size_t out_count);
+
+/* The T line of the tableau in a whole C line, line feed included and nothing after it; count is the bytes written.
+ * luchtrav_tableau_to_runs gives the C line back, byte for byte. It judges as luchtrav_read_run_line does.
+ * Needs the bytes of the line in out, 5,128 at most. Refuses 14 1 2 4 19 20 13. */
+luchtrav_count luchtrav_runs_to_tableau(const uint8_t *text, size_t text_count, uint8_t *out, size_t out_count);
 
 /* What the program 'ribbon' prints for its whole input: the P line of the pair of the word in a W line, the W line of
  * its column reading and its J line, or one E line; count is the bytes written. For a text of more than 4,096 bytes

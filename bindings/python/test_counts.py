@@ -103,6 +103,7 @@ class KeptTrue(Case):
             self.assertEqual((pair._counts, tableau._counts), (counts_of(word),) * 2)
             self.assertEqual(lu.read_tableau_line(lu.write_tableau_line(rank, tableau))[1]._counts, counts_of(word))
             self.assertEqual(lu.read_pair_line(lu.write_pair_line(rank, pair))[1]._counts, counts_of(word))
+            self.assertEqual(lu.read_run_line(lu.write_run_line(rank, tableau))[1]._counts, counts_of(word))
             self.assertEqual(lu.product(rank, tableau, tableau)._counts, counts_of(word + word))
         self.assertEqual(lu.pair_of_word(64, list(range(1, 65)) * 16)._counts, (16,) * 64)
 
@@ -208,6 +209,7 @@ class Judged(Case):
         """Lines, cells and the checks of letters, marks and entries alone do not look at counts."""
         bad = wrong(0, 1)
         self.assertEqual(lu.write_tableau_line(4, bad), b"T,4,4,2,d,3,r,3,d,4\n")
+        self.assertEqual(lu.write_run_line(4, bad), b"C,4,4,2,1,d,3,2,d,4,1\n")
         self.assertEqual(lu.write_pair_line(4, bad, ENTRIES), b"P,4,4,2,d,3,r,3,d,4,3,2,4,1\n")
         self.assertEqual(lu.look(4, bad, 3), lu.Cell(4, 2, 1))
         self.assertEqual(lu.cell_at(bad, 3), lu.Cell(4, 2, 1))

@@ -12,7 +12,7 @@ import unittest
 
 from support import HERE, PACKAGES, Case, lu, run_python
 
-from luchtrav import classes, lines, pairs, places, tableaux, two_tableaux, window, words
+from luchtrav import classes, lines, pairs, places, runs, tableaux, two_tableaux, window, words
 from luchtrav.library import FUNCTIONS
 
 
@@ -21,7 +21,7 @@ class Package(Case):
         with open(places.HEADER) as file:
             text = re.sub(r"/\*.*?\*/", "", file.read(), flags=re.S)
         declared = {name: inside.count(",") + 1 for name, inside in re.findall(r"luchtrav_\w+ luchtrav_(\w+)\(([^)]*)\);", text)}
-        self.assertEqual(len(declared), 40)
+        self.assertEqual(len(declared), 45)
         self.assertEqual(declared, {name: len(parameters) for name, (_, parameters) in FUNCTIONS.items()})
         offered = {name for name in lu.__all__ if name[0].islower()}
         self.assertEqual(set(declared), offered)
@@ -37,7 +37,7 @@ class Package(Case):
 
     def test_examples(self) -> None:
         """Those that docstrings have."""
-        for module, count in ((words, 5), (lines, 2), (tableaux, 3), (two_tableaux, 3), (classes, 3), (pairs, 1), (window, 5)):
+        for module, count in ((words, 5), (lines, 2), (runs, 3), (tableaux, 3), (two_tableaux, 3), (classes, 3), (pairs, 1), (window, 5)):
             failed, tried = doctest.testmod(module, extraglobs={"luchtrav": lu})
             self.assertEqual((failed, tried), (0, count))
 

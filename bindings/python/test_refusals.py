@@ -34,6 +34,8 @@ class Numbers(Case):
         self.refuses(15, 0, lu.class_number, 4, [1] * 21)
         self.refuses(16, 0, lu.class_word, 4, [2, 3, 3, 4], [0, 1, 0, 1], 5)
         self.refuses(18, 0, lu.remove_oldest, 4, [], [], [])
+        self.refuses(19, 1, lu.read_run_line, b"C,4,2,3,1,d,2,1\n")
+        self.refuses(20, 0, lu.runs_to_tableau, b"C,4,2,2,1\n")
 
     def test_insertion(self) -> None:
         self.refuses(4, 2, lu.insert_letter, 4, 5, [1, 2], [0, 0], [1, 2])
@@ -104,6 +106,8 @@ class Exceptions(Case):
             (None, lu.read_word_line, (b"W,4,1,5\n",)),
             (None, lu.read_pair_line, (b"P,4,1,5,1\n",)),
             (None, lu.convert_lines, (b"T,4,1,5\n", b"N,1,1\n")),
+            (None, lu.read_run_line, (b"C,4,1,5,1\n",)),
+            (9, lu.run_line_of_word, (4, [1, 9])),
         ]
         for value, function, arguments in calls:
             self.assertEqual(self.refusal(function, *arguments).value, value, (function, arguments))
@@ -151,7 +155,7 @@ class Meanings(Case):
         """MEANINGS, the docstring that help(luchtrav) shows, and the header have the same texts."""
         with open(HEADER) as file:
             header = texts_in(re.sub(r"/\*.*?\*/", "", file.read(), flags=re.S))
-        self.assertEqual(sorted(lu.MEANINGS), list(range(1, 19)))
+        self.assertEqual(sorted(lu.MEANINGS), list(range(1, 21)))
         self.assertEqual({0: "success", **lu.MEANINGS}, header)
         shown = {int(number): text for number, text in re.findall(r"^ {4,5}(\d+)  (.*)$", str(lu.__doc__), re.M)}
         self.assertEqual(shown, lu.MEANINGS)

@@ -11,7 +11,7 @@ has them, and those that are made from letters count these. A move gives two thi
 stream, and is the one thing here that changes: its push lets a letter arrive, its pop lets the oldest leave.
 
 A refusal of the kernel is the exception Refusal, a ValueError, with a number and a place. Places count from 0; the checks run in rising number,
-except that 14 comes first, and 17, 15 and 16 directly after 6. MEANINGS has the numbers too:
+except that 14 comes first, 19 and 20 directly after 4, and 17, 15 and 16 directly after 6. MEANINGS has the numbers too:
 
      1  rank is not 1 to 64
      2  more than 1,024 letters, cells or entries
@@ -31,12 +31,14 @@ except that 14 comes first, and 17, 15 and 16 directly after 6. MEANINGS has the
     16  number not below the size of the class
     17  count that is not how often its letter occurs
     18  departure from an empty window
+    19  item with a letter not above the one before it, or with the count 0
+    20  counts that do not add to the number of cells
 
-4 to 8 have the first such place, 17 the letter minus 1, 12 the place 1024, 14 that of the byte or the line's length, all others 0. Of two words,
-tableaux or texts the first is searched first, and places in the second count on from the first's length, those of counts from 64; 2 judges each by
-itself, but the cells of a product's factors together. A letter to be inserted has the number of cells as its place. Memory for outputs is lent by the
-binding, so that 13 arises only where a letter is pushed into a full Window of a size below 1,024, with that size plus 1 as its place. 17 arises only from
-counts that were stored and given to a Tableau, a Pair or a counted check.
+4 to 8 and 19 have the first such place, where a C line is read that of an item; 17 the letter minus 1, 12 the place 1024, 14 that of the byte or the
+line's length, all others 0. Of two words, tableaux or texts the first is searched first, and places in the second count on from the first's length, those
+of counts from 64; 2 judges each by itself, but the cells of a product's factors together. A letter to be inserted has the number of cells as its place.
+Memory for outputs is lent by the binding, so that 13 arises only where a letter is pushed into a full Window of a size below 1,024, with that size plus 1
+as its place. 17 arises only from counts that were stored and given to a Tableau, a Pair or a counted check.
 
 A letter that fits no byte is handed on as 0, a mark as 255, an entry that does not fit 16 bits as 0, a count as 65,535, a rank, index or inserted letter
 that fits no size_t as 0: so the kernel refuses them (4, 6, 7, 17, 1, 9, 4) at their place. A place that fits no size_t is one without a cell, and the
@@ -50,6 +52,7 @@ from .lines import (
 from .pairs import check_counted_pair, check_pair, insert_letter, remove_oldest, word_of_pair
 from .places import HEADER as _HEADER, version_in as _version_in
 from .refusal import MEANINGS, Refusal
+from .runs import read_run_line, run_line_of_word, runs_to_tableau, tableau_to_runs, write_run_line
 from .tableaux import (
     cell_at, check_counted_tableau, check_tableau, column_reading, look, lower_count_tableau, lower_tableau, raise_count_tableau, raise_tableau,
 )
@@ -67,6 +70,7 @@ __all__ = [
     "check_counted_tableau", "check_pair", "check_tableau", "check_word", "class_number", "class_size", "class_word", "column_reading",
     "compare_weights", "compare_weights_of_tableaux", "convert_lines", "insert_letter", "junctions", "look", "lower_count_tableau", "lower_count_word",
     "lower_tableau", "lower_word", "pair_of_word", "product", "raise_count_tableau", "raise_count_word", "raise_tableau", "raise_word", "read_pair_line",
-    "read_tableau_line", "read_word_line", "remove_oldest", "same_class", "same_class_of_tableaux", "tableau_line_of_word", "word_of_pair",
-    "write_junction_line", "write_pair_line", "write_refusal_line", "write_tableau_line", "write_word_line",
+    "read_run_line", "read_tableau_line", "read_word_line", "remove_oldest", "run_line_of_word", "runs_to_tableau", "same_class",
+    "same_class_of_tableaux", "tableau_line_of_word", "tableau_to_runs", "word_of_pair", "write_junction_line", "write_pair_line", "write_refusal_line",
+    "write_run_line", "write_tableau_line", "write_word_line",
 ]

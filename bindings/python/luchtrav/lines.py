@@ -1,5 +1,5 @@
 """Lines read and written, as bytes: W lines of words, T lines of tableaux, P lines of pairs; J and E lines are only written, and an N line is read only
-beside its T line, by the converter of former lines."""
+beside its T line, by the converter of former lines. C lines are in runs.py."""
 from __future__ import annotations
 
 from array import array

@@ -21,6 +21,8 @@ MEANINGS: Dict[int, str] = {
     16: "number not below the size of the class",
     17: "count that is not how often its letter occurs",
     18: "departure from an empty window",
+    19: "item with a letter not above the one before it, or with the count 0",
+    20: "counts that do not add to the number of cells",
 }
 
 

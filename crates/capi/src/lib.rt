@@ -2,6 +2,7 @@
 pub mod on_classes;
 pub mod on_lines;
 pub mod on_pairs;
+pub mod on_runs;
 pub mod on_tableaux;
 pub mod on_two_tableaux;
 pub mod on_words;
