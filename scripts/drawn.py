@@ -25,7 +25,7 @@ from lent_memory import Memory
 from replies import FEW, few_names, few_value, plain_reply
 
 PART = 10000
-NUMBERS = range(19)
+NUMBERS = range(21)
 TRACE = (lambda call: print(call, flush=True)) if "--trace" in sys.argv else None
 
 

@@ -1,9 +1,10 @@
 """Breaks by chance: each spoils one thing of an input, a dict from the names of the header's parameters to numbers and lists.
 
 A break may leave an input valid where there is nothing to break (no letter in an empty word); the plain Python says what the reply is in every case.
-Letter counts are drawn when all the rest is (drawn_inputs.py), and broken then.
+Letter counts are drawn when all the rest is (drawn_inputs.py), and broken then. The values of C lines are broken in drawn_run_breaks.py.
 """
 from class_numbers import size_of
+from drawn_run_breaks import RUN_BREAKS
 from drawn_values import FAR
 from lent_memory import unpacked
 from meaning import letter_counts
@@ -193,14 +194,14 @@ def break_counts(draw, letters, counts, input):
 BREAKS = {
     "rank": break_rank, "length": break_length, "one length": break_one_length, "parts": break_parts, "letter": break_letter,
     "falling letter": break_rising, "mark": break_mark, "both factors": break_both, "entry": break_entry, "step": break_step, "index": break_index,
-    "many cells": break_many, "number past the last": break_number, "full": break_full, "empty": break_empty,
+    "many cells": break_many, "number past the last": break_number, "full": break_full, "empty": break_empty, **RUN_BREAKS,
 }
 
 # ---- breaks of a text
 
 # What a field may be exchanged for.
 FIELDS = ["", "0", "00", "03", "1", "2", "9", "64", "65", "255", "256", "257", "1024", "1025", "9999", "10000", "12345", " 3", "3 ", "+3", "-3", "r", "d", "x"]
-BYTES = b"WTNPJEwtnprd,,,00123456789\n\n\r \0;\"-+.\xff"
+BYTES = b"WTCNPJEwtcnprd,,,00123456789\n\n\r \0;\"-+.\xff"
 
 
 def change_byte(draw, text):
@@ -211,7 +212,7 @@ def change_byte(draw, text):
 def change_kind(draw, text):
     """The letter of another kind of line."""
     if text:
-        text[0] = draw.one_of(b"WTNPJEwtnp")
+        text[0] = draw.one_of(b"WTCNPJEwtcnp")
 
 
 def delete_byte(draw, text):

@@ -10,6 +10,7 @@ from lent_memory import unpacked
 from lines import line, recording_line, word_line
 from meaning import letter_counts
 from replies import plain_reply
+from run_lines import cells_of as cells_of_runs
 
 # ---- valid inputs, by the names of the header's parameters
 
@@ -98,6 +99,30 @@ def draw_window(draw):
     return {"used": len(input["letters"]), **input}
 
 
+def draw_runs(draw):
+    """The values of a C line: L beside the items, and which of these have a step before them."""
+    rank = draw.rank()
+    runs = draw.runs(rank)
+    return {"rank": rank, "length": sum(count for _, count, _ in runs), "runs": runs, "stepped": set(range(1, 3000))}
+
+
+def draw_run_tableau(draw):
+    """A tableau, half of the time of runs."""
+    if draw.below(2):
+        return draw_tableau(draw)
+    rank = draw.rank()
+    letters, marks = cells_of_runs(draw.runs(rank))
+    return {"rank": rank, "letters": letters, "marks": marks}
+
+
+def draw_run_word(draw):
+    """A word, now and then of runs, with counts of up to three digits."""
+    if draw.below(8):
+        return draw_word(draw)
+    rank = draw.rank()
+    return {"rank": rank, "word": draw.run_word(draw.runs(rank, 200))}
+
+
 def draw_refusal(draw):
     return {"number": draw.one_of((draw.below(15), draw.below(15), draw.one_of(FAR))), "place": draw.place(draw.one_of((12, 1024, 99999)))}
 
@@ -128,6 +153,11 @@ def pair_text(input):
     return ribbon_text("P", input, input["entries"])
 
 
+def runs_text(input):
+    items = [["rd"[step]] * (place in input["stepped"]) + [letter, count] for place, (letter, count, step) in enumerate(input["runs"])]
+    return line("C", [input["rank"], input["length"]] + [value for item in items for value in item])
+
+
 def recording_text(input):
     return recording_line(input["entries"])
 
@@ -137,6 +167,9 @@ TEXTS = {
     "read_tableau_line": {"text": tableau_text},
     "read_pair_line": {"text": pair_text},
     "convert_lines": {"tableau_text": tableau_text, "recording_text": recording_text},
+    "read_run_line": {"text": runs_text},
+    "tableau_to_runs": {"text": tableau_text},
+    "runs_to_tableau": {"text": runs_text},
     "answer": {"text": word_text},
 }
 
@@ -148,6 +181,7 @@ PAIR = TABLEAU + ["entry", "step"]
 COUNTED = TABLEAU + ["counts"]
 BOTH = COUNTED + ["both factors", "both counts"]
 TEXT = list(TEXT_BREAKS)
+RUNS = ["rank", "L above 1,024", "item's letter", "item", "item", "item's step", "sum", "sum", "many items"]
 
 INPUTS = {
     "check_word": (draw_word, WORD),
@@ -180,15 +214,20 @@ INPUTS = {
     "remove_oldest": (draw_window, PAIR + ["counts", "counts", "empty"]),
     "word_of_pair": (draw_pair, PAIR + ["counts", "counts", "room"]),
     "tableau_line_of_word": (draw_word, WORD + ["room"]),
+    "run_line_of_word": (draw_run_word, WORD + ["room"]),
     "write_word_line": (draw_word, WORD + ["room"]),
     "write_tableau_line": (draw_tableau, TABLEAU + ["room"]),
+    "write_run_line": (draw_run_tableau, TABLEAU + ["room"]),
     "write_pair_line": (draw_pair, PAIR + ["room"]),
     "write_junction_line": (draw_word, WORD + ["room"]),
     "write_refusal_line": (draw_refusal, ["room"]),
     "read_word_line": (draw_word, WORD + ["room"] + TEXT),
     "read_tableau_line": (draw_tableau, WORD + ["falling letter", "mark", "room"] + TEXT),
+    "read_run_line": (draw_runs, RUNS + ["room"] + TEXT),
     "read_pair_line": (draw_pair, PAIR + ["room"] + TEXT),
     "convert_lines": (draw_pair, PAIR + ["one length", "room"] + TEXT),
+    "tableau_to_runs": (draw_run_tableau, WORD + ["falling letter", "mark", "room"] + TEXT),
+    "runs_to_tableau": (draw_runs, RUNS + ["room"] + TEXT),
     "answer": (draw_word, WORD + ["room"] + TEXT),
 }
 

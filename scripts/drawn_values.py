@@ -1,5 +1,8 @@
-"""Values by chance: ranks, lengths, words, tableaux and pairs. All are valid; drawn_breaks.py breaks them."""
+"""Values by chance: ranks, lengths, words, tableaux, runs and pairs. All are valid; drawn_breaks.py breaks them."""
 import random
+
+from meaning import reading
+from run_lines import cells_of
 
 # Ranks and other numbers that are out of bounds, some of them good ones that a cut to 8, 16 or 32 bits would leave.
 FAR = [65, 66, 128, 255, 256, 257, 260, 65535, 65540, 2**32, 2**32 + 1, 2**32 + 4, 2**63, 2**63 + 4, 2**64 - 4, 2**64 - 1]
@@ -91,6 +94,26 @@ class Draw:
         of_four = self.below(5)
         marks = [int(place > 0 and letter > letters[place - 1] and self.below(4) < of_four) for place, letter in enumerate(letters)]
         return letters, marks
+
+    def runs(self, rank, most=1024):
+        """Rising letters, each with its count and the step into it: few or many, the counts mostly of one digit. About one time in 30 there are as many cells
+        as there may be most."""
+        letters = sorted(self.random.sample(range(1, rank + 1), self.below(min(rank, self.one_of((1, 2, 4, 8, 64))) + 1)))
+        longest, of_four, left = self.one_of((1, 2, 3, 3, 12, 12, 120, 1024)), self.below(5), most - len(letters)
+        runs = []
+        for place, letter in enumerate(letters):
+            more = self.below(min(longest, left + 1))
+            left -= more
+            runs.append([letter, 1 + more, int(place > 0 and self.below(4) < of_four)])
+        if runs and self.below(30) == 0:
+            self.one_of(runs)[1] += left
+        return runs
+
+    def run_word(self, runs):
+        """A word of their letters: a column reading, rising, or in any order."""
+        letters, marks = cells_of(runs)
+        kind = self.below(3)
+        return reading(letters, marks) if kind == 0 else letters if kind == 1 else self.random.sample(letters, len(letters))
 
     def factors(self, rank):
         """Two tableaux: of a word, by themselves, or the second of letters near to those of the first; now and then both the same."""

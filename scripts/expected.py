@@ -1,11 +1,11 @@
-"""Input files and expected output of the program crates cases, word_operations and ribbon_operations.
+"""Input files and expected output of the program crates cases, word_operations, ribbon_operations and run_operations.
 
-    python3 scripts/expected.py write    makes them: in crates/cases/ {data/*,args,stdout}, in the two others {data/table,args,stdout}
+    python3 scripts/expected.py write    makes them: in crates/cases/ {data/*,args,stdout}, in the others {data/table,args,stdout}
     python3 scripts/expected.py check    makes them in memory and says whether what stands in the repository is the same (exit status 1 if not), and halves
     python3 scripts/expected.py halves   whether the program's P lines are its former T and N lines (crates/cases/former), and all else as it was
 
-The output comes from the plain Python beside this file (meaning.py, lines.py, class_numbers.py, windows.py), which follows the documents and their open
-points and calls no code of the kernel. No file of Rattle is made here.
+The output comes from the plain Python beside this file (meaning.py, lines.py, class_numbers.py, windows.py, run_lines.py), which follows the documents and
+their open points and calls no code of the kernel. No file of Rattle is made here.
 """
 import os
 import sys

@@ -1,5 +1,5 @@
 """Lines as bytes: the readers of W, T and P, the writers, the converter of a T line and an N line, and the program's whole output (document 01, "Lines",
-"The program"; document 02, N7).
+"The program"; document 02, N7). C lines are in run_lines.py.
 
 The place of 14 is the length of the longest beginning of the text that can still become a line of the kind. The scanner goes on byte by byte as
 long as that is so, and raises 14 where it stands when the next byte cannot follow.

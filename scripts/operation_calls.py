@@ -1,4 +1,4 @@
-"""The tables of the crates word_operations and ribbon_operations: one call to a line, its notation, and what each call must print.
+"""The tables of the crates word_operations, ribbon_operations and run_operations: one call to a line, its notation, and what each call must print.
 
 A line has the operation's name, its numbers, then its lists, parted by single spaces. A list is items parted by commas, an item a number, `v*k` for k
 times v, or `a-b` for the numbers from a to b; `-` is the empty list. A text stands as it is, with `$` for the line feed and `(t)*k` for k times t; `-`
@@ -10,6 +10,7 @@ import re
 import class_numbers
 import lines
 import meaning
+import run_lines
 import windows
 from meaning import Refused
 
@@ -49,6 +50,11 @@ OPERATIONS = {
     "write_junction_line": ("nlO", lines.write_junction_line),
     "tableau_line_of_word": ("nlO", lines.tableau_line_of_word),
     "convert_lines": ("ttO", lines.convert_lines),
+    "read_run_line": ("tLLC", run_lines.read_run_line),
+    "write_run_line": ("nllO", run_lines.write_run_line),
+    "run_line_of_word": ("nlO", run_lines.run_line_of_word),
+    "tableau_to_runs": ("tO", run_lines.tableau_to_runs),
+    "runs_to_tableau": ("tO", run_lines.runs_to_tableau),
 }
 
 

@@ -5,6 +5,7 @@ from class_table import CLASS_CALLS
 from counts_table import COUNT_CALLS
 from line_table import TABLEAU_LINES, WORD_LINES
 from pair_table import PAIR_CALLS
+from run_table import RUN_CALLS
 from window_table import WINDOW_CALLS
 
 WORDS = """
@@ -453,9 +454,14 @@ NO_RIBBONS = """
 no_such_operation 1 2 3
 """
 
+NO_RUNS = """
+run_line 4 -
+"""
+
 TABLES = {
     "word_operations": (WORDS, COMPARISONS, WORD_LINES, *CLASS_CALLS, NO_WORDS),
     "ribbon_operations": (INSERTIONS, TABLEAUX, PRODUCTS, TABLEAU_LINES, *PAIR_CALLS, *COUNT_CALLS, *WINDOW_CALLS, NO_RIBBONS),
+    "run_operations": (*RUN_CALLS, NO_RUNS),
 }
 
 

@@ -27,7 +27,8 @@ SUFFIXES = (".antt", ".rt", ".py", ".md", ".h", ".txt")
 MADE = r"target/|PREFIX/|luchtrav/native/"  # built or installed
 # Programs, and what only they use: no promise of theirs has a row.
 PROGRAMS = {
-    "ribbon", "cases", "word_operations", "ribbon_operations", "brute", "brute_moves", "brute_windows", "notation", "plain_words",
+    "ribbon", "cases", "word_operations", "ribbon_operations", "run_operations", "brute", "brute_moves", "brute_windows", "notation",
+    "plain_words",
 }
 # How a name stands in a text; a function with its contract, if it has one; a theorem with its type; how a definition is declared.
 STANDS = r"(?<![\w-])NAME(?![\w-])"
@@ -40,7 +41,8 @@ REQUIRED = """
     class-complete class-later number-recording recording-number theorem-8-2 ranks written-ranks counts-held seventeen-exactly
     class-as-readings weights-as-readings halves convert-lines convert-program convert-sound convert-broken-only
     former-program former-halves recording-written window-after window-accepted accepted-afresh judged-holds departure-afresh
-    arrival-afresh departure-said arrival-said full-until-left departs judged-as-insertion
+    arrival-afresh departure-said arrival-said full-until-left departs judged-as-insertion run-classes run-written-classes run-ranks
+    run-written-ranks run-passing runs-scan tableau-line-back run-line-back c-broken c-determined c-complete c-sound c-breaks c-length
 """.split()
 EDITS = [(edit.stem, re.search(r"^file: (\w+)/", edit.read_text(), re.M).group(1).replace("proofs", "specs")) for edit in CRATES.glob("*/must-fail/*.edit")]
 HEADER = header.functions_of(None)
@@ -144,13 +146,13 @@ def numbers(text):
 
 
 def listed():
-    """The refusals that specs/ of hypoplactic, products, numbering, letter_counts, former_lines and windows list for definitions: in headers, for a reply with
-    and without memory; in comments above judgements."""
+    """The refusals that specs/ of hypoplactic, products, numbering, letter_counts, former_lines, windows and run_lines list for definitions: in headers, for a
+    reply with and without memory; in comments above judgements."""
     specs, found, told = CRATES / "hypoplactic/specs", {}, ""
     products, classes = CRATES / "products/specs/Products.antt", CRATES / "numbering/specs/Operations.antt"
     tableaux, former = CRATES / "letter_counts/specs/TwoTableaux.antt", CRATES / "former_lines/specs/Conversion.antt"
-    windows = CRATES / "windows/specs/Departures.antt"
-    for file in (*specs.glob("*Operations.antt"), specs / "LineReadings.antt", products, classes, tableaux, former, windows):
+    windows, runs = CRATES / "windows/specs/Departures.antt", CRATES / "run_lines/specs/Operations.antt"
+    for file in (*specs.glob("*Operations.antt"), specs / "LineReadings.antt", products, classes, tableaux, former, windows, runs):
         for names, checks in re.findall(rf"^--     (\w+(?:, \w+)*) {{2,}}({NUMBERS})", file.read_text(), re.M):
             found.update((re.sub("(Says|Run)$", end, name), numbers(checks)) for name in names.split(", ") for end in ("Says", "Run"))
     for file in (specs / "Judgements.antt", specs / "Counts.antt", classes):
@@ -158,6 +160,7 @@ def listed():
             told = comment or told
             found[name] = numbers(told)
     found["readTRun"].remove(3)  # a T line has as many letters as marks
+    found["tableauToRunsRun"].remove(3)
     found["readPRun"].remove(3)  # and a P line as many entries
     return found
 
@@ -251,9 +254,8 @@ def check_links():
                 yield page, "a link that leads nowhere: " + target
 
 
-def cases(*lists):
+def cases(*lists, crates=("hypoplactic", "examples", "products", "changed_places", "ranks", "numbering", "letter_counts", "former_lines", "windows")):
     """How many computed cases some lists have."""
-    crates = ("hypoplactic", "examples", "products", "changed_places", "ranks", "numbering", "letter_counts", "former_lines", "windows")
     text = "".join(file.read_text() for crate in crates for file in CRATES.glob(crate + "/specs/*.antt"))
     bodies = [re.search(rf"^{name} =(.*?)(?=^\S|\Z)", text, re.M | re.S).group(1) for name in lists]
     return sum(len(re.findall(r"^ *(?:∷ )?case\b", body, re.M)) for body in bodies)
@@ -278,6 +280,7 @@ FIGURES = [
     ("# of two tableaux", cases("tableauxCases"), [README, TESTS]),
     ("# of former lines", cases("conversionCases"), [README, TESTS]),
     ("# of windows", cases("departureCases", "departureRefusals", "streamCases"), [README, TESTS]),
+    ("# of C lines", cases("writingCases", "readingCases", "refusalCases", "conversionCases", crates=["run_lines"]), [README, TESTS]),
     ("# (?:more )?(?:cases|fix)", cases("orderCases", "valueCases", "countCases", "lineCases", "sharedCases"), [README, TESTS]),
 ]
 

@@ -1,10 +1,11 @@
-"""What each function of include/luchtrav.h replies, by the plain Python (meaning.py, lines.py, class_numbers.py, windows.py).
+"""What each function of include/luchtrav.h replies, by the plain Python (meaning.py, lines.py, class_numbers.py, windows.py, run_lines.py).
 
 Arguments come as the header has them, buffers as lists; those that are lent for writing are changed in place.
 """
 import class_numbers
 import lines
 import meaning
+import run_lines
 import windows
 from meaning import Refused
 
@@ -40,15 +41,20 @@ OPERATIONS = {
     "remove_oldest": windows.remove_oldest,
     "word_of_pair": meaning.word_of_pair,
     "tableau_line_of_word": lines.tableau_line_of_word,
+    "run_line_of_word": run_lines.run_line_of_word,
     "write_word_line": lines.write_word_line,
     "write_tableau_line": lines.write_tableau_line,
+    "write_run_line": run_lines.write_run_line,
     "write_pair_line": lines.write_pair_line,
     "write_junction_line": lines.write_junction_line,
     "write_refusal_line": lines.write_refusal_line,
     "read_word_line": lines.read_word_line,
     "read_tableau_line": lines.read_tableau_line,
+    "read_run_line": run_lines.read_run_line,
     "read_pair_line": lines.read_pair_line,
     "convert_lines": lines.convert_lines,
+    "tableau_to_runs": run_lines.tableau_to_runs,
+    "runs_to_tableau": run_lines.runs_to_tableau,
     "answer": lines.answer,
 }
 

@@ -2,7 +2,7 @@
 
 Those of EDGES leave every reply and every byte as they must be where buffers are as long as they say: they only touch memory that they need not, or were
 not lent. RIGHT changes nothing. Edits of letter counts are in wrong_counts.py, those of pairs and of their lines in wrong_pairs.py, those of
-windows in wrong_windows.py.
+windows in wrong_windows.py, those of C lines in wrong_runs.py.
 """
 
 

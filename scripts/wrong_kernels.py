@@ -17,6 +17,7 @@ import header
 import wrong_counts
 import wrong_edits
 import wrong_pairs
+import wrong_runs
 import wrong_windows
 from drawn import called
 from drawn_edges import apart, calls
@@ -25,13 +26,14 @@ from drawn_values import Draw
 from fenced_memory import python_length
 from lent_memory import Memory, packed, unpacked
 
-EDITS = wrong_edits.EDITS + wrong_counts.EDITS + wrong_pairs.EDITS + wrong_windows.EDITS
-EDGES = wrong_edits.EDGES + wrong_counts.EDGES + wrong_pairs.EDGES + wrong_windows.EDGES
-RIGHT = wrong_edits.RIGHT + wrong_counts.RIGHT + wrong_pairs.RIGHT + wrong_windows.RIGHT
+LISTS = (wrong_edits, wrong_counts, wrong_pairs, wrong_windows, wrong_runs)
+EDITS = [edit for listed in LISTS for edit in listed.EDITS]
+EDGES = [edit for listed in LISTS for edit in listed.EDGES]
+RIGHT = [edit for listed in LISTS for edit in listed.RIGHT]
 MOST = 1000000
 MOST_RIGHT = 100000
 MOST_EDGES = 300
-MODULES = ("meaning", "lines", "class_numbers", "windows", "replies")
+MODULES = ("meaning", "lines", "class_numbers", "windows", "run_lines", "replies")
 
 
 def edited(module, old, new):

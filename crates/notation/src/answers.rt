@@ -5,6 +5,7 @@ use refusals::answers::Class;
 use refusals::answers::Move;
 use refusals::answers::Numbered;
 use refusals::answers::Repeat;
+use refusals::answers::TableauLine;
 use refusals::answers::Verdict;
 use refusals::answers::Weights;
 use refusals::answers::Written;
@@ -60,6 +61,14 @@ pub fn print_written(answer: Written) {
     match answer {
         Written::Elements(count) => print_gives(count),
         Written::Refused(refusal) => print_refusal(refusal),
+    }
+}
+
+// Rank and number of cells of a tableau that is read.
+pub fn print_tableau(answer: TableauLine) {
+    match answer {
+        TableauLine::Tableau(rank, cells) => print_gives_two(rank, cells),
+        TableauLine::Refused(refusal) => print_refusal(refusal),
     }
 }
 

@@ -8,6 +8,7 @@ use notation::answers::print_gives_two;
 use notation::answers::print_move;
 use notation::answers::print_refusal;
 use notation::answers::print_repeat;
+use notation::answers::print_tableau;
 use notation::answers::print_verdict;
 use notation::answers::print_written;
 use notation::fields::number;
@@ -18,7 +19,6 @@ use readers::pair::read_pair_line;
 use readers::tableau::read_tableau_line;
 use refusals::answers::Cell;
 use refusals::answers::PairLine;
-use refusals::answers::TableauLine;
 use refusals::answers::Used;
 use ribbons::pair::pair_of_word;
 use tableaux::moves::lower_count_tableau;
@@ -40,14 +40,6 @@ fn print_cell(answer: Cell) {
         }
         Cell::NoSuchCell => print(b"gives"),
         Cell::Refused(refusal) => print_refusal(refusal),
-    }
-}
-
-// Rank and number of cells.
-fn print_tableau(answer: TableauLine) {
-    match answer {
-        TableauLine::Tableau(rank, cells) => print_gives_two(rank, cells),
-        TableauLine::Refused(refusal) => print_refusal(refusal),
     }
 }
 
