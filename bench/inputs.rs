@@ -3,6 +3,7 @@
 use crate::plain::checks::Tableau;
 use crate::plain::classes::class_number;
 use crate::plain::insertion;
+use crate::plain::runs::write_run_line;
 use crate::plain::tableaux::column_reading;
 use crate::plain::writers::{
     lay_recording_line, write_pair_line, write_tableau_line, write_word_line,
@@ -98,6 +99,7 @@ pub struct Input {
     pub number: u64,
     pub word_line: Vec<u8>,
     pub tableau_line: Vec<u8>,
+    pub run_line: Vec<u8>,
     pub pair_line: Vec<u8>,
     /// The N line of before, for the converter.
     pub recording_line: Vec<u8>,
@@ -152,6 +154,7 @@ impl Input {
             number: class_number(rank, &word).unwrap_or(0),
             word_line: line(|out| write_word_line(rank, &word, out).ok()),
             tableau_line: line(|out| write_tableau_line(rank, &letters, &marks, out).ok()),
+            run_line: line(|out| write_run_line(rank, &letters, &marks, out).ok()),
             pair_line: line(|out| write_pair_line(rank, &letters, &marks, &entries, out).ok()),
             recording_line: line(|out| Some(lay_recording_line(&entries, out))),
             word,

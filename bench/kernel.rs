@@ -455,6 +455,43 @@ extern "C" {
         out: *mut u8,
         out_count: usize,
     ) -> Count;
+    pub fn luchtrav_run_line_of_word(
+        rank: usize,
+        word: *const u8,
+        word_count: usize,
+        out: *mut u8,
+        out_count: usize,
+    ) -> Count;
+    pub fn luchtrav_write_run_line(
+        rank: usize,
+        letters: *const u8,
+        letters_count: usize,
+        marks: *const u8,
+        marks_count: usize,
+        out: *mut u8,
+        out_count: usize,
+    ) -> Count;
+    pub fn luchtrav_read_run_line(
+        text: *const u8,
+        text_count: usize,
+        letters: *mut u8,
+        letters_count: usize,
+        marks: *mut u8,
+        marks_count: usize,
+        counts: *mut u16,
+    ) -> Line;
+    pub fn luchtrav_tableau_to_runs(
+        text: *const u8,
+        text_count: usize,
+        out: *mut u8,
+        out_count: usize,
+    ) -> Count;
+    pub fn luchtrav_runs_to_tableau(
+        text: *const u8,
+        text_count: usize,
+        out: *mut u8,
+        out_count: usize,
+    ) -> Count;
     pub fn luchtrav_answer(
         text: *const u8,
         text_count: usize,

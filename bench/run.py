@@ -63,7 +63,7 @@ def measure(program):
         elif line.startswith("totals: ") and name:
             operation, rank, letters, per, kind = name
             found[operation, int(rank), int(letters), kind] = int(line.split()[1])
-            units[operation, int(letters)] = int(per)
+            units[operation, int(rank), int(letters)] = int(per)
             name = None
     itself = found.pop(("nothing", 0, 0, "nothing"))
     return Counts({key: count - itself for key, count in found.items()}, units)
@@ -105,7 +105,7 @@ class Counts:
         """Instructions for each unit."""
         totals = self.totals(operation, rank, kind)
         return [
-            total / self.units[operation, n] for total, n in zip(totals, self.numbers(operation))
+            total / self.units[operation, rank, n] for total, n in zip(totals, self.numbers(operation))
         ]
 
     def ratios(self, operation, rank, kind, base):
@@ -141,7 +141,8 @@ def print_costs(counts):
         "`same_class` and `compare_weights`: for each letter of both words, or cell of both tableaux; `same_class:64` has"
         " the second word at rank 64. `product`: for each cell of both factors together. `insert_letter` and"
         " `remove_oldest`: for each cell of the pair before the call; `remove_oldest` takes the first cell out,"
-        " `remove_oldest:last` the last. `write_refusal_line`: for the whole call.\n"
+        " `remove_oldest:last` the last. `read_run_line`: for each item of the line. `write_refusal_line`: for the whole"
+        " call.\n"
     )
 
 
@@ -208,9 +209,9 @@ def print_growth(counts):
     """Where the kernel's instructions do not grow as the letters do."""
     rows = []
     for operation in counts.operations:
-        if counts.units[operation, LETTERS[0]] == counts.units[operation, LETTERS[-1]]:
-            continue
         for rank in RANKS:
+            if 2 * counts.units[operation, rank, LETTERS[0]] > counts.units[operation, rank, LETTERS[-1]]:
+                continue
             few, some, many = counts.totals(operation, rank, "kernel")
             growth = (many - some) / (some - few)
             if abs(growth / 2 - 1) > TOLERANCE:

@@ -21,8 +21,9 @@ static uint8_t front[H], front_marks[H], back[H], back_marks[H], few[F], few_mar
 static uint16_t entries[L], places[L];
 static uint16_t counts[C], counts_same[C], counts_first[C], counts_front[C], counts_back[C], counts_few[C], counted[C];
 static uint8_t w_line[LUCHTRAV_LINE_BYTES], t_line[LUCHTRAV_LINE_BYTES], p_line[LUCHTRAV_LINE_BYTES];
+static uint8_t c_line[LUCHTRAV_LINE_BYTES];
 static char n_line[LUCHTRAV_LINE_BYTES];
-static size_t w_count, t_count, p_count, n_count;
+static size_t w_count, t_count, p_count, c_count, n_count;
 static uint8_t bytes[LUCHTRAV_ANSWER_BYTES], more[L];
 static uint16_t wide[L];
 static size_t refused;
@@ -40,6 +41,7 @@ static void prepare(void) {
     w_count = luchtrav_write_word_line(RANK, word, L, w_line, sizeof w_line).count;
     t_count = luchtrav_write_tableau_line(RANK, letters, L, marks, L, t_line, sizeof t_line).count;
     p_count = luchtrav_write_pair_line(RANK, letters, L, marks, L, entries, L, p_line, sizeof p_line).count;
+    c_count = luchtrav_write_run_line(RANK, letters, L, marks, L, c_line, sizeof c_line).count;
     n_count = (size_t)sprintf(n_line, "N,%d", L);
     for (size_t i = 0; i < L; i++) n_count += (size_t)sprintf(n_line + n_count, ",%d", entries[i]);
     n_count += (size_t)sprintf(n_line + n_count, "\n");
@@ -74,7 +76,10 @@ static void prepare(void) {
     call(write_refusal_line, 14, 4096, OUT) call(read_word_line, w_line, w_count, more, L) \
     call(read_tableau_line, t_line, t_count, bytes, L, more, L, counted) \
     call(read_pair_line, p_line, p_count, bytes, L, more, L, wide, L, counted) \
-    call(convert_lines, t_line, t_count, (const uint8_t *)n_line, n_count, OUT) call(answer, w_line, w_count, OUT)
+    call(convert_lines, t_line, t_count, (const uint8_t *)n_line, n_count, OUT) \
+    call(run_line_of_word, WORD, OUT) call(write_run_line, TABLEAU, OUT) \
+    call(read_run_line, c_line, c_count, bytes, L, more, L, counted) call(tableau_to_runs, t_line, t_count, OUT) \
+    call(runs_to_tableau, c_line, c_count, OUT) call(answer, w_line, w_count, OUT)
 
 #define DEFINE(name, ...) \
     static void name(void) { refused = luchtrav_##name(__VA_ARGS__).number; }

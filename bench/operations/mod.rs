@@ -25,6 +25,7 @@ macro_rules! call {
 mod classes;
 mod lines;
 mod pairs;
+mod runs;
 mod tableaux;
 mod words;
 
@@ -44,6 +45,8 @@ pub enum Unit {
     LetterOfBoth,
     /// A cell that stands there before an insertion.
     CellBefore,
+    /// An item of a C line: a letter with its count.
+    Item,
     /// The whole call, where no letters go in, or few.
     Call,
 }
@@ -55,6 +58,7 @@ impl Unit {
             Unit::Letter => input.count,
             Unit::LetterOfBoth => 2 * input.count,
             Unit::CellBefore => input.count - 1,
+            Unit::Item => input.counts.iter().filter(|&&count| count > 0).count(),
             Unit::Call => 1,
         }
     }
@@ -120,13 +124,14 @@ const fn operation(name: &'static str, kernel: Call, plain: Call) -> Operation {
     }
 }
 
-/// All operations on words and tableaux of any length, in the order of the header.
+/// All operations on words and tableaux of any length, in the order of the header, C lines after all others.
 pub fn all() -> impl Iterator<Item = Operation> {
     words::OPERATIONS
         .into_iter()
         .chain(tableaux::OPERATIONS)
         .chain(pairs::OPERATIONS)
         .chain(lines::OPERATIONS)
+        .chain(runs::OPERATIONS)
 }
 
 /// Those on the words of a class, which take at most 20 letters.

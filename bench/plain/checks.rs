@@ -23,7 +23,7 @@ pub fn refuse_if(wrong: bool, number: usize, place: usize) -> Answer<()> {
 }
 
 /// The refusal at the first place of a fault, if there is one.
-fn refuse_at(fault: Option<usize>, number: usize) -> Answer<()> {
+pub fn refuse_at(fault: Option<usize>, number: usize) -> Answer<()> {
     fault.map_or(Ok(()), |place| Err(Refusal { number, place }))
 }
 

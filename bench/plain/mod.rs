@@ -9,6 +9,7 @@ pub mod lines;
 pub mod pairs;
 pub mod products;
 pub mod readers;
+pub mod runs;
 pub mod stored;
 pub mod tableaux;
 pub mod words;

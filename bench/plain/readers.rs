@@ -9,9 +9,9 @@ use super::words::letter_counts;
 use super::writers::lay_pair_line;
 
 /// A line, read from the left: its bytes, and the place of the next.
-struct Reader<'a> {
-    text: &'a [u8],
-    at: usize,
+pub struct Reader<'a> {
+    pub text: &'a [u8],
+    pub at: usize,
 }
 
 impl Reader<'_> {
@@ -24,7 +24,7 @@ impl Reader<'_> {
     }
 
     /// One given byte.
-    fn byte(&mut self, byte: u8) -> Answer<()> {
+    pub fn byte(&mut self, byte: u8) -> Answer<()> {
         if self.text.get(self.at) != Some(&byte) {
             return self.broken();
         }
@@ -39,7 +39,7 @@ impl Reader<'_> {
     }
 
     /// A comma and a number: one to four digits, and after a leading 0 nothing more.
-    fn field(&mut self) -> Answer<u16> {
+    pub fn field(&mut self) -> Answer<u16> {
         self.byte(b',')?;
         let Some(mut value) = self.digit() else {
             return self.broken();
@@ -59,7 +59,7 @@ impl Reader<'_> {
     }
 
     /// A comma and the letter of a step, as a mark.
-    fn step(&mut self) -> Answer<u8> {
+    pub fn step(&mut self) -> Answer<u8> {
         self.byte(b',')?;
         let mark = match self.text.get(self.at) {
             Some(b'r') => 0,
@@ -88,8 +88,13 @@ impl Reader<'_> {
         Ok(())
     }
 
+    /// Whether the line feed stands next.
+    pub fn at_feed(&self) -> bool {
+        self.text.get(self.at) == Some(&b'\n')
+    }
+
     /// The line feed, and nothing after it.
-    fn end(&mut self) -> Answer<()> {
+    pub fn end(&mut self) -> Answer<()> {
         self.byte(b'\n')?;
         if self.at < self.text.len() {
             return self.broken();
@@ -128,24 +133,34 @@ pub fn read_word_line(text: &[u8], letters: &mut [u8]) -> Answer<(usize, usize)>
     Ok((rank, count))
 }
 
+/// The tableau of a whole T line, judged, into memory for 1,024 cells; rank and how many it has.
+pub fn tableau_in(
+    text: &[u8],
+    cells: &mut [u8; 1024],
+    steps: &mut [u8; 1024],
+) -> Answer<(usize, usize)> {
+    let mut line = Reader { text, at: 0 };
+    line.byte(b'T')?;
+    let rank = usize::from(line.field()?);
+    let count = usize::from(line.field()?);
+    line.cells(count, cells, steps)?;
+    line.end()?;
+    check_limits(rank, count)?;
+    check_tableau(rank, &cells[..count], &steps[..count])?;
+    Ok((rank, count))
+}
+
 pub fn read_tableau_line(
     text: &[u8],
     letters: &mut [u8],
     marks: &mut [u8],
     counts: &mut [u16; 64],
 ) -> Answer<(usize, usize)> {
-    let mut line = Reader { text, at: 0 };
     let mut cells = [0; 1024];
     let mut steps = [0; 1024];
-    line.byte(b'T')?;
-    let rank = usize::from(line.field()?);
-    let count = usize::from(line.field()?);
-    line.cells(count, &mut cells, &mut steps)?;
-    line.end()?;
-    check_limits(rank, count)?;
+    let (rank, count) = tableau_in(text, &mut cells, &mut steps)?;
     let cells = &cells[..count];
     let steps = &steps[..count];
-    check_tableau(rank, cells, steps)?;
     check_room(count, letters.len())?;
     check_room(count, marks.len())?;
     letters[..count].copy_from_slice(cells);

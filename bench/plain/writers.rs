@@ -4,7 +4,7 @@ use super::checks::{check_pair, check_room, check_tableau, check_word, Answer};
 use super::words::junctions;
 
 /// The bytes of a comma and a number. Letters have at most two digits, so that no loop counts them.
-fn field_size(value: usize) -> usize {
+pub fn field_size(value: usize) -> usize {
     match value {
         0..10 => 2,
         10..100 => 3,
@@ -25,7 +25,7 @@ fn digit(value: usize) -> u8 {
 }
 
 /// Writes a comma and a number from a place on; the place after them.
-fn write_field(value: usize, out: &mut [u8], at: usize) -> usize {
+pub fn write_field(value: usize, out: &mut [u8], at: usize) -> usize {
     let end = at + field_size(value);
     let field = &mut out[at..end];
     match value {
@@ -49,7 +49,7 @@ fn letters_size(letters: &[u8]) -> usize {
 }
 
 /// Writes the letter of the kind and two fields of one line; the place after them.
-fn write_head(kind: u8, first: usize, second: usize, out: &mut [u8]) -> usize {
+pub fn write_head(kind: u8, first: usize, second: usize, out: &mut [u8]) -> usize {
     out[0] = kind;
     let at = write_field(first, out, 1);
     write_field(second, out, at)
