@@ -10,14 +10,15 @@ from pathlib import Path
 ROOT = Path(__file__).resolve().parent.parent
 CRATES = ROOT / "crates"
 README, CHANGES = ROOT / "README.md", ROOT / "CHANGELOG.md"
-PROMISES, SCOPE, TESTS = (ROOT / "docs" / name for name in ("PROMISES.md", "SCOPE.md", "TESTS.md"))
+PROMISES, REQUESTS, SCOPE, TESTS = (ROOT / "docs" / name for name in ("PROMISES.md", "REQUESTS.md", "SCOPE.md", "TESTS.md"))
 SUFFIXES = (".antt", ".rt", ".py", ".md", ".h", ".txt")
 MADE = r"target/|PREFIX/|luchtrav/native/"  # built or installed
 
 
 def pages():
     """All pages but the notes, which say what was."""
-    return [page for name in ("README.md", "CHANGELOG.md", "docs/*.md", "docs/promises/*.md", "bindings/python/*.md") for page in sorted(ROOT.glob(name))]
+    names = "README.md", "CHANGELOG.md", "docs/*.md", "docs/decisions/*.md", "docs/promises/*.md", "bindings/python/*.md"
+    return [page for name in names for page in sorted(ROOT.glob(name))]
 
 
 def promises():

@@ -1,10 +1,10 @@
 #!/usr/bin/env python3
-"""Holds the pages to the tree: README.md, CHANGELOG.md, docs/*.md, docs/promises/*.md and bindings/python/*.md; of docs/notes/*.md their links.
+"""Holds the pages to the tree: README.md, CHANGELOG.md, those of docs/ and bindings/python/*.md; of docs/notes/*.md their links.
 
     python3 scripts/pages.py      # one line of figures; or each fault in a line, and exit status 1
 
-What a path in backticks is, scripts/page_texts.py says; what scripts/promises.py holds promises to, that file. A block whose fence names a file has lines of
-that file, in its order, and each declaration to its end. Beside the pages: each text that an edit replaces is there, and the structs of the header
+What a path in backticks is, scripts/page_texts.py says; what scripts/promises.py holds promises to, that file. A name in backticks stands somewhere in the tree.
+A block whose fence names a file has lines of that file, in its order, and each declaration to its end. Beside the pages: each text that an edit replaces is there, and the structs of the header
 have the fields of the code's.
 """
 import re
@@ -15,8 +15,10 @@ sys.dont_write_bytecode = True
 
 import header
 import promises
-from page_texts import CHANGES, CRATES, README, ROOT, SCOPE, SUFFIXES, TESTS, find, notes, pages, paths, prose, rows, sections, titles
+from page_texts import CHANGES, CRATES, README, REQUESTS, ROOT, SCOPE, SUFFIXES, TESTS, code, find, notes, pages, paths, prose, rows, sections, titles
 
+SOURCES = (".antt", ".rt", ".py", ".h", ".c", ".rs", "")
+ABSENT = {"memcpy", "memset", "popleft", "LUCHTRAV_RANK", "tableau_of_word", "recording_of_word"}  # of C and Python, and what is said not to be here
 CITATION = re.compile(r'document 01(?:\'s table)?,? \(?((?:"[^"]+"(?:, )?)+)')  # as in: document 01, "Lines", "The program"
 
 
@@ -29,6 +31,15 @@ def check_paths():
                     if not find(path, page, context, before):
                         yield page, "no such file: " + path
                     before = path[:path.rfind("/") + 1] or before
+
+
+def check_names():
+    """A name in code stands in the tree, but in CHANGELOG.md, which says what was."""
+    files = [file for top in ("crates", "include", "scripts", "bindings", "bench") for file in (ROOT / top).rglob("*") if file.suffix in SOURCES]
+    text = "\n".join(file.read_text(errors="replace") for file in files if file.is_file())
+    known = {file.name for file in CRATES.iterdir()} | {name for form in (r"\w+", r"[\w′-]+") for name in re.findall(form, text)} | ABSENT
+    for page in [page for page in pages() if page != CHANGES]:
+        yield from ((page, "no such name: " + span) for span in code(prose(page)) if re.fullmatch(r"[\w′-]+", span) and span not in known)
 
 
 def check_old_texts():
@@ -119,11 +130,14 @@ def check_figures():
 
 
 def check_citations():
-    """A part of document 01 that the tree cites is a heading of docs/SCOPE.md; more than five words are a sentence, not a heading."""
+    """A part of document 01 that the tree cites is a heading of docs/SCOPE.md (more than five words are a sentence, not a heading), a request one of docs/REQUESTS.md."""
     files = [file for top in ("crates", "include", "scripts", "bindings") for file in (ROOT / top).rglob("*.*") if file.suffix in SUFFIXES]
     texts = [re.sub(r"\s+(?:--|//|#|\*)?\s*", " ", file.read_text()) for file in files]
     cited = {title for text in texts for quoted in CITATION.findall(text) for title in re.findall('"([^"]+)"', quoted)}
     yield from ((SCOPE, f'cited, and no heading: "{title}"') for title in sorted(cited - set(titles(SCOPE))) if len(title.split()) <= 5)
+    asked = {name for text in texts for name in re.findall(r"document 02, (N\d+)", text)}
+    told = {title.split(".")[0] for title in titles(REQUESTS)}
+    yield from ((REQUESTS, "cited, and no heading: " + name) for name in sorted(asked - told))
 
 
 def check_version():
