@@ -1,4 +1,4 @@
-"""Tests of the package as such: every function of the header, its version, where its library comes from, and the examples of README.md.
+"""Tests of the package as such: every function of the header, its version, where its library comes from, and the examples of its pages.
 
     python3 bindings/python/test_package.py
 """
@@ -73,12 +73,12 @@ class Package(Case):
             came = run_python("import luchtrav", folder, LUCHTRAV_LIBRARY=places.LIBRARY)
             self.assertIn("\nImportError: luchtrav: no header at ", came.stderr)
 
-    def test_readme(self) -> None:
-        readme = os.path.join(HERE, "README.md")
-        failed, tried = doctest.testfile(readme, module_relative=False)
-        self.assertGreater(tried, 25)
-        self.assertEqual(failed, 0)
-        with open(readme) as file:
+    def test_pages(self) -> None:
+        for page, least in (("README.md", 25), ("ARGUMENTS.md", 3)):
+            failed, tried = doctest.testfile(os.path.join(HERE, page), module_relative=False)
+            self.assertGreater(tried, least)
+            self.assertEqual(failed, 0)
+        with open(os.path.join(HERE, "CLASSES.md")) as file:
             rows = [line.strip() for line in file]
         came = run_python("import runpy; runpy.run_path(%r)" % os.path.join(HERE, "classes.py"))
         self.assertEqual(came.returncode, 0, came.stderr)
