@@ -57,8 +57,8 @@
  *   - After a refusal every buffer holds what it held before the call.
  *   - 1, 2 and 3 (below) are judged by the numbers of the call, before memory: where one of them refuses, no buffer
  *     is read or written, whatever its pointer and its number. A number of (size_t)-1 is refused like 1,025, and so are
- *     two tableaux that have more than 1,024 cells together, also where that sum fits no size_t. A reader of lines
- *     finds its numbers in the text, which it reads. (What is not read is tested, not proved.)
+ *     two factors of a product that have more than 1,024 cells together, also where that sum fits no size_t. A reader
+ *     of lines finds its numbers in the text, which it reads. (What is not read is tested, not proved.)
  *   - NULL with a number above 0, and NULL for counts, is memory that is not there. Where 1, 2 or 3 refuses it is not
  *     looked at. Any other call with it is outside of what is promised here, and most likely ends the program by a
  *     fault.
