@@ -144,11 +144,9 @@ def check_functions():
 
 
 def check_promise_pages():
-    """docs/PROMISES.md leads to each page; no line and no page is too long."""
+    """docs/PROMISES.md leads to each page, and no line is too long."""
     for page in promises():
         lines = page.read_text().splitlines()
         if page != PROMISES and f"](promises/{page.name})" not in prose(PROMISES):
             yield PROMISES, "a page without a link: " + page.name
         yield from ((page, f"line {place} is longer than 140 characters") for place, line in enumerate(lines, 1) if len(line) > 140)
-        if len(lines) > 250:
-            yield page, "more than 250 lines"
