@@ -10,7 +10,8 @@ from functools import lru_cache
 from itertools import permutations, product
 from math import comb
 
-from meaning import Refused, check_counted_tableau, check_room, check_word, pair_of, put
+from checks import Refused, check_counted_tableau, check_room, check_word
+from ribbons import pair_of, put
 
 # So many cells are listed.
 LISTED = 6

@@ -3,11 +3,11 @@
 A break may leave an input valid where there is nothing to break (no letter in an empty word); the plain Python says what the reply is in every case.
 Letter counts are drawn when all the rest is (drawn_inputs.py), and broken then. The values of C lines are broken in drawn_run_breaks.py.
 """
+from checks import letter_counts
 from class_numbers import size_of
 from drawn_run_breaks import RUN_BREAKS
 from drawn_values import FAR
 from lent_memory import unpacked
-from meaning import letter_counts
 
 # What stands before the names of a tableau's parts: nothing, or which of two factors it is, or of two tableaux that are compared.
 FACTORS = ("", "first_", "second_")
@@ -195,59 +195,4 @@ BREAKS = {
     "rank": break_rank, "length": break_length, "one length": break_one_length, "parts": break_parts, "letter": break_letter,
     "falling letter": break_rising, "mark": break_mark, "both factors": break_both, "entry": break_entry, "step": break_step, "index": break_index,
     "many cells": break_many, "number past the last": break_number, "full": break_full, "empty": break_empty, **RUN_BREAKS,
-}
-
-# ---- breaks of a text
-
-# What a field may be exchanged for.
-FIELDS = ["", "0", "00", "03", "1", "2", "9", "64", "65", "255", "256", "257", "1024", "1025", "9999", "10000", "12345", " 3", "3 ", "+3", "-3", "r", "d", "x"]
-BYTES = b"WTCNPJEwtcnprd,,,00123456789\n\n\r \0;\"-+.\xff"
-
-
-def change_byte(draw, text):
-    if text:
-        text[draw.below(len(text))] = draw.one_of(BYTES)
-
-
-def change_kind(draw, text):
-    """The letter of another kind of line."""
-    if text:
-        text[0] = draw.one_of(b"WTCNPJEwtcnp")
-
-
-def delete_byte(draw, text):
-    if text:
-        del text[draw.below(len(text))]
-
-
-def insert_byte(draw, text):
-    text.insert(draw.below(len(text) + 1), draw.one_of(BYTES))
-
-
-def cut_text(draw, text):
-    """The text ends early, or goes on after its end."""
-    if draw.below(3):
-        del text[draw.below(len(text) + 1) :]
-    else:
-        text += draw.one_of((b"\n", b"0", b",", b"\0", bytes(text)))
-
-
-def change_field(draw, text):
-    """One field becomes another text."""
-    end = text[-1:] if text[-1:] == b"\n" else b""
-    fields = bytes(text[: len(text) - len(end)]).split(b",")
-    fields[draw.below(len(fields))] = draw.one_of(FIELDS).encode()
-    text[:] = b",".join(fields) + end
-
-
-def lengthen_text(draw, text):
-    """About as many bytes as the program reads, or many more."""
-    length = draw.one_of((4095, 4096, 4097, 4098, 10001))
-    text += draw.one_of((b"\n", b"0", b"W,1,")) * length
-    del text[length:]
-
-
-TEXT_BREAKS = {
-    "byte changed": change_byte, "byte deleted": delete_byte, "byte inserted": insert_byte, "kind changed": change_kind, "text cut": cut_text,
-    "field changed": change_field, "text long": lengthen_text,
 }

@@ -1,7 +1,7 @@
 """Values by chance: ranks, lengths, words, tableaux, runs and pairs. All are valid; drawn_breaks.py breaks them."""
 import random
 
-from meaning import reading
+from ribbons import reading
 from run_lines import cells_of
 
 # Ranks and other numbers that are out of bounds, some of them good ones that a cut to 8, 16 or 32 bits would leave.

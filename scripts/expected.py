@@ -1,11 +1,11 @@
-"""Input files and expected output of the program crates cases, word_operations, ribbon_operations and run_operations.
+"""Inputs and expected output of the program crates cases, word_operations, ribbon_operations and run_operations.
 
-    python3 scripts/expected.py write    makes them: in crates/cases/ {data/*,args,stdout}, in the others {data/table,args,stdout}
+    python3 scripts/expected.py write    makes them: in crates/cases/ {data/*,args,stdout}, in the others {args,stdout}, from the calls in data/table
     python3 scripts/expected.py check    makes them in memory and says whether what stands in the repository is the same (exit status 1 if not), and halves
     python3 scripts/expected.py halves   whether the program's P lines are its former T and N lines (crates/cases/former), and all else as it was
 
-The output comes from the plain Python beside this file (meaning.py, lines.py, class_numbers.py, windows.py, run_lines.py), which follows the documents and
-their open points and calls no code of the kernel. No file of Rattle is made here.
+The output comes from the plain Python beside this file (replies.py and what it imports), which follows the documents and their open points and calls no code
+of the kernel. No file of Rattle is made here.
 """
 import os
 import sys
@@ -13,12 +13,12 @@ import sys
 sys.dont_write_bytecode = True
 
 from former_lines import halves
+from header import ROOT
 from lines import program
-from operation_calls import came_of
-from operation_table import TABLES, operation_table
+from operation_calls import came_of, table_of
 from program_inputs import program_inputs
 
-ROOT = os.path.dirname(os.path.dirname(os.path.abspath(__file__)))
+TABLES = ("word_operations", "ribbon_operations", "run_operations")
 
 
 def files_of_cases():
@@ -31,22 +31,14 @@ def files_of_cases():
 
 
 def files_of_calls(crate):
-    """The table of a crate, its name as the argument, and each line with what came of it."""
-    table = operation_table(crate)
-    return {
-        "crates/%s/data/table" % crate: "".join(call + "\n" for call in table).encode(),
-        "crates/%s/args" % crate: b"table\n",
-        "crates/%s/stdout" % crate: "".join(came_of(call) for call in table).encode(),
-    }
+    """The name of a crate's table as the argument, and each of its lines with what came of it."""
+    return {"crates/%s/args" % crate: b"table\n", "crates/%s/stdout" % crate: "".join(map(came_of, table_of(crate))).encode()}
 
 
 def standing():
     """The files that stand in the repository where expected ones belong."""
     names = ["crates/%s/%s" % (crate, name) for crate in ("cases", *TABLES) for name in ("args", "stdout")]
-    for crate in ("cases", *TABLES):
-        folder = "crates/%s/data" % crate
-        if os.path.isdir(os.path.join(ROOT, folder)):
-            names += [folder + "/" + name for name in sorted(os.listdir(os.path.join(ROOT, folder)))]
+    names += ["crates/cases/data/" + name for name in sorted(os.listdir(os.path.join(ROOT, "crates/cases/data")))]
     found = {}
     for name in names:
         if os.path.exists(os.path.join(ROOT, name)):

@@ -3,10 +3,10 @@ crates/cases/stdout. In both stands the name of each case, and then what the pro
 """
 import os
 
+from checks import Refused
+from header import ROOT
 from lines import convert_lines
-from meaning import Refused
-
-ROOT = os.path.dirname(os.path.dirname(os.path.abspath(__file__)))
+from operation_calls import table_of
 
 
 def printed(file):
@@ -43,7 +43,8 @@ def converted(tableau, recording):
 
 
 def halves():
-    """Whether each P line is the former T line and the former N line, byte for byte, and what the converter gives for these, and all else as it was."""
+    """Whether each P line is the former T line and the former N line, byte for byte, and what the converter gives for these, and all else as it was; and
+    whether the table of ribbon_operations asks the converter for the former lines."""
     former, now = printed("former"), printed("stdout")
     wrong = [name for name in former if name not in now]
     wrong += [name for name, case in now.items() if name not in former and accepted(case)]
@@ -52,6 +53,8 @@ def halves():
     wrong += [name for name, was, (pair, *rest) in words if not pair.startswith(b"P,") or cut(pair) + rest != was or converted(*was[:2]) != pair]
     refused = [(name, was, case) for name, was, case in both if not (accepted(was) and accepted(case))]
     wrong += [name for name, was, case in refused if was != case]
+    asked = table_of("ribbon_operations")
+    wrong += [call for call in former_calls() if call not in asked]
     for name in wrong:
         print("not as before: " + name)
     print(
@@ -61,7 +64,10 @@ def halves():
     return not wrong
 
 
-def former_pairs(longest):
-    """The former T and N line of each accepted case, of lines that are not longer, with the bytes of its P line."""
-    cases = [case for case in printed("former").values() if accepted(case) and max(map(len, case)) <= longest]
-    return [(tableau[:-1].decode(), recording[:-1].decode(), len(converted(tableau, recording))) for tableau, recording, *_ in cases]
+def former_calls():
+    """The converter's calls on the former T and N lines of words of up to 64 letters, each with exactly the room for its P line."""
+    cases = [case for case in printed("former").values() if accepted(case) and max(map(len, case)) <= 400]
+    return [
+        "convert_lines %s$ %s$ 35*%d" % (tableau[:-1].decode(), recording[:-1].decode(), len(converted(tableau, recording)))
+        for tableau, recording, *_ in cases
+    ]

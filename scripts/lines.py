@@ -4,9 +4,9 @@
 The place of 14 is the length of the longest beginning of the text that can still become a line of the kind. The scanner goes on byte by byte as
 long as that is so, and raises 14 where it stands when the next byte cannot follow.
 """
-from meaning import (
-    Refused, check_length, check_pair, check_rank, check_room, check_tableau, check_word, junction_set, pair_of, put, put_pair, put_tableau, reading, rows,
-)
+from checks import Refused, check_length, check_pair, check_rank, check_room, check_tableau, check_word
+from comparisons import junction_set, rows
+from ribbons import pair_of, put, put_pair, put_tableau, reading
 
 
 class Scanner:

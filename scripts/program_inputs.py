@@ -1,6 +1,7 @@
 """The inputs of the crate cases: whole inputs of the program `ribbon`, each under the name of its file."""
+from checks import Refused
 from lines import word_line
-from meaning import Refused, move_word
+from moves import move_word
 
 # Document 01's checked words that the program can answer, with the words that their moves give.
 CHECKED = [

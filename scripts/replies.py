@@ -1,62 +1,31 @@
-"""What each function of include/luchtrav.h replies, by the plain Python (meaning.py, lines.py, class_numbers.py, windows.py, run_lines.py).
+"""What each function of include/luchtrav.h replies, by the plain Python, whose operations have the header's names and arguments.
 
-Arguments come as the header has them, buffers as lists; those that are lent for writing are changed in place.
+Buffers are lists; those that are lent for writing are changed in place.
 """
-import class_numbers
-import lines
-import meaning
-import run_lines
-import windows
-from meaning import Refused
+from functools import partial
+
+from checks import Refused, check_counted_pair, check_counted_tableau, check_pair, check_tableau, check_word
+from class_numbers import class_number, class_size, class_word
+from comparisons import compare_weights, compare_weights_of_tableaux, junctions, same_class, same_class_of_tableaux
+from lines import (
+    answer, convert_lines, read_pair_line, read_tableau_line, read_word_line, tableau_line_of_word, write_junction_line, write_pair_line,
+    write_refusal_line, write_tableau_line, write_word_line,
+)
+from moves import count_tableau, count_word, move_tableau, move_word
+from ribbons import cell_at, column_reading, insert_letter, look, pair_of_word, product, word_of_pair
+from run_lines import read_run_line, run_line_of_word, runs_to_tableau, tableau_to_runs, write_run_line
+from windows import remove_oldest
 
 # By function: the operation on lists that gives the values of its reply.
-OPERATIONS = {
-    "check_word": meaning.check_word,
-    "pair_of_word": meaning.pair_of_word,
-    "junctions": meaning.junctions,
-    "raise_word": lambda *a: meaning.move_word(True, *a),
-    "lower_word": lambda *a: meaning.move_word(False, *a),
-    "raise_count_word": lambda *a: meaning.count_word(True, *a),
-    "lower_count_word": lambda *a: meaning.count_word(False, *a),
-    "same_class": lambda n, v, m, w: meaning.same_class(n, m, v, w),
-    "compare_weights": lambda n, v, m, w: meaning.compare_weights(n, m, v, w),
-    "check_tableau": meaning.check_tableau,
-    "check_counted_tableau": meaning.check_counted_tableau,
-    "column_reading": meaning.column_reading,
-    "raise_tableau": lambda *a: meaning.move_tableau(True, *a),
-    "lower_tableau": lambda *a: meaning.move_tableau(False, *a),
-    "raise_count_tableau": lambda *a: meaning.count_tableau(True, *a),
-    "lower_count_tableau": lambda *a: meaning.count_tableau(False, *a),
-    "same_class_of_tableaux": lambda n, *a: meaning.same_class_of_tableaux(n, a[3], *a[:3], *a[4:]),
-    "compare_weights_of_tableaux": lambda n, *a: meaning.compare_weights_of_tableaux(n, a[3], *a[:3], *a[4:]),
-    "look": lambda rank, letters, marks, place: found(meaning.look_once(rank, place, letters, marks)),
-    "cell_at": lambda *a: found(meaning.cell_at(*a)),
-    "product": meaning.product,
-    "class_size": class_numbers.class_size,
-    "class_word": class_numbers.class_word,
-    "class_number": class_numbers.class_number,
-    "check_pair": meaning.check_pair,
-    "check_counted_pair": meaning.check_counted_pair,
-    "insert_letter": meaning.insert_letter,
-    "remove_oldest": windows.remove_oldest,
-    "word_of_pair": meaning.word_of_pair,
-    "tableau_line_of_word": lines.tableau_line_of_word,
-    "run_line_of_word": run_lines.run_line_of_word,
-    "write_word_line": lines.write_word_line,
-    "write_tableau_line": lines.write_tableau_line,
-    "write_run_line": run_lines.write_run_line,
-    "write_pair_line": lines.write_pair_line,
-    "write_junction_line": lines.write_junction_line,
-    "write_refusal_line": lines.write_refusal_line,
-    "read_word_line": lines.read_word_line,
-    "read_tableau_line": lines.read_tableau_line,
-    "read_run_line": run_lines.read_run_line,
-    "read_pair_line": lines.read_pair_line,
-    "convert_lines": lines.convert_lines,
-    "tableau_to_runs": run_lines.tableau_to_runs,
-    "runs_to_tableau": run_lines.runs_to_tableau,
-    "answer": lines.answer,
-}
+ALIKE = (
+    check_word, pair_of_word, junctions, same_class, compare_weights, check_tableau, check_counted_tableau, column_reading, same_class_of_tableaux,
+    compare_weights_of_tableaux, look, cell_at, product, class_size, class_word, class_number, check_pair, check_counted_pair, insert_letter, remove_oldest,
+    word_of_pair, tableau_line_of_word, run_line_of_word, write_word_line, write_tableau_line, write_run_line, write_pair_line, write_junction_line,
+    write_refusal_line, read_word_line, read_tableau_line, read_run_line, read_pair_line, convert_lines, tableau_to_runs, runs_to_tableau, answer,
+)
+BY_SIDE = {"_word": move_word, "_count_word": count_word, "_tableau": move_tableau, "_count_tableau": count_tableau}
+OPERATIONS = {operation.__name__: operation for operation in ALIKE}
+OPERATIONS.update((side + name, partial(operation, side == "raise")) for side in ("raise", "lower") for name, operation in BY_SIDE.items())
 
 # By function: the values that it can answer with, where they are few, and the same of two words or tableaux whose ranks differ; those of `answer` are the
 # refusals in its E lines, 0 for three lines.
@@ -68,11 +37,6 @@ FEW = {
     "compare_weights_of_tableaux": ORDER, "compare_weights_of_tableaux" + TWO_RANKS: ORDER,
     "look": ("found", [0, 1]), "cell_at": ("found", [0, 1]), "answer": ("refusal", [0, 1, 2, 4, 14]),
 }
-
-
-def found(values):
-    """Whether there is a cell, then its letter, row and column."""
-    return [1] + values if values else [0, 0, 0, 0]
 
 
 def plain_reply(function, arguments):

@@ -8,9 +8,10 @@ next letter. A letter with its count is one item. The items end at the line feed
 import re
 from itertools import product
 
+from checks import Refused, check_length, check_letters, check_rank, check_room, check_tableau, check_word
 from class_numbers import tableaux_of
 from lines import Scanner, line, scan_tableau, tableau_line, write
-from meaning import Refused, check_length, check_letters, check_rank, check_room, check_tableau, check_word, pair_of, put_tableau
+from ribbons import pair_of, put_tableau
 
 
 def runs_of(letters, marks):

@@ -1,9 +1,10 @@
-"""The departure of the oldest letter from a window, on plain lists, as document 02 says it (N8). The arrival of a letter is insertion, in meaning.py.
+"""The departure of the oldest letter from a window, on plain lists, as document 02 says it (N8). The arrival of a letter is insertion, in ribbons.py.
 
 A window is the pair in the first cells of three lists, of which so many are used, with the counts of the used letters. Its word is the one whose pair this
 is. A departure finds that word, drops its first letter, and inserts all others afresh.
 """
-from meaning import Refused, check_counted_pair, check_length, check_rank, pair_of, put_pair
+from checks import Refused, check_counted_pair, check_length, check_rank
+from ribbons import pair_of, put_pair
 
 
 def check_window(rank, used, letters, marks, entries, counts):

@@ -3,8 +3,9 @@
     python3 scripts/wrong_kernels.py         each edit in turn, until an input shows it; exit status 1 if one is never found
 
 Each is the plain Python with one edit, put in the library's place: it reads the lent memory, replies, and writes. The plain Python without the edit
-judges it, as drawn.py does the library; or, where the edit touches memory that it need not, as drawn_edges.py does. Of an edit that changes nothing,
-and of none, nothing must be found.
+judges it, as drawn.py does the library. An edit is what goes wrong, the module, and the text that is exchanged, which stands there once. Beside EDITS a list
+may have EDGES, which leave every reply and every byte as they must be where buffers are as long as they say: they only touch memory that they need not, or
+were not lent, and are judged as in drawn_edges.py. RIGHT changes nothing: of these edits, and of none, nothing must be found.
 """
 import ctypes
 import os
@@ -14,9 +15,14 @@ import types
 sys.dont_write_bytecode = True
 
 import header
+import wrong_checks
+import wrong_classes
+import wrong_comparisons
 import wrong_counts
-import wrong_edits
+import wrong_lines
+import wrong_moves
 import wrong_pairs
+import wrong_ribbons
 import wrong_runs
 import wrong_windows
 from drawn import called
@@ -26,14 +32,14 @@ from drawn_values import Draw
 from fenced_memory import python_length
 from lent_memory import Memory, packed, unpacked
 
-LISTS = (wrong_edits, wrong_counts, wrong_pairs, wrong_windows, wrong_runs)
-EDITS = [edit for listed in LISTS for edit in listed.EDITS]
-EDGES = [edit for listed in LISTS for edit in listed.EDGES]
-RIGHT = [edit for listed in LISTS for edit in listed.RIGHT]
+LISTS = (
+    wrong_checks, wrong_ribbons, wrong_moves, wrong_comparisons, wrong_classes, wrong_lines, wrong_counts, wrong_pairs, wrong_windows, wrong_runs,
+)
+EDITS, EDGES, RIGHT = ([edit for listed in LISTS for edit in getattr(listed, kind, [])] for kind in ("EDITS", "EDGES", "RIGHT"))
 MOST = 1000000
 MOST_RIGHT = 100000
 MOST_EDGES = 300
-MODULES = ("meaning", "lines", "class_numbers", "windows", "run_lines", "replies")
+MODULES = ("checks", "ribbons", "moves", "comparisons", "lines", "class_numbers", "windows", "run_lines", "replies")
 
 
 def edited(module, old, new):
@@ -111,6 +117,8 @@ def in_its_place(function, replies):
 
         try:
             reply = struct(*replies.plain_reply(function, arguments_of(function, passed, read)))
+        except NameError:
+            raise  # a fault of the edit
         except Exception as error:
             raise Ended from error
         for parameter, (size, address, count, values) in zip([p for p in function.parameters if p.size], lent):

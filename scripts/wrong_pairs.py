@@ -1,4 +1,4 @@
-"""More edits of wrong_kernels.py, as those of wrong_edits.py: the pair of a word, P lines, the converter of a T line and an N line, the program's lines."""
+"""Edits of wrong_kernels.py: the pair of a word, P lines, the converter of a T line and an N line, the program's lines."""
 
 # The pair of a word: its room, and what is written.
 ROOMS = "    check_room(len(word), letters, marks, entries)\n"
@@ -40,54 +40,54 @@ def with_entries(entries):
 
 
 EDITS = [
-    ("pair: marks from rising entries", "meaning", PAIR, with_marks("new_entries[p] > new_entries[p - 1]")),
-    ("pair: marks where letters rise", "meaning", PAIR, with_marks("new_letters[p] > new_letters[p - 1]")),
-    ("pair: a first mark by the last entry", "meaning", PAIR, with_marks("new_entries[p] < new_entries[p - 1]").replace("p > 0 and ", "")),
-    ("pair: marks from entries of the cell after", "meaning", PAIR, with_marks("new_entries[p] < new_entries[(p + 1) % len(word)]")),
+    ("pair: marks from rising entries", "ribbons", PAIR, with_marks("new_entries[p] > new_entries[p - 1]")),
+    ("pair: marks where letters rise", "ribbons", PAIR, with_marks("new_letters[p] > new_letters[p - 1]")),
+    ("pair: a first mark by the last entry", "ribbons", PAIR, with_marks("new_entries[p] < new_entries[p - 1]").replace("p > 0 and ", "")),
+    ("pair: marks from entries of the cell after", "ribbons", PAIR, with_marks("new_entries[p] < new_entries[(p + 1) % len(word)]")),
     (
-        "pair: entries of equal letters from the last on", "meaning",
+        "pair: entries of equal letters from the last on", "ribbons",
         PAIR,
         with_entries("[place + 1 for place in sorted(range(len(word)), key=lambda place: (word[place], -place))]"),
     ),
-    ("pair: entries from 0", "meaning", PAIR, with_entries("[entry - 1 for entry in pair_of(word)[2]]")),
-    ("pair: entries of the column reading", "meaning", PAIR, with_entries("pair_of(reading(*pair_of(word)[:2]))[2]")),
-    ("pair: entries cut to a byte", "meaning", PAIR, with_entries("[entry % 256 for entry in pair_of(word)[2]]")),
-    ("pair: cells by letters, where entries belong", "meaning", PAIR, with_entries("[new_letters.index(a) + 1 for a in word]")),
-    ("pair: letters as they stand in the word", "meaning", PAIR, PAIR.replace("*pair_of(word)", "list(word), *pair_of(word)[1:]")),
-    ("pair: no entries written", "meaning", PAIR, "    return put_tableau(*pair_of(word)[:2], letters, marks, counts)\n"),
-    ("pair: no counts given", "meaning", PAIR, PAIR.replace("counts)", "[0] * 64)")),
-    ("pair: room of the recording unchecked", "meaning", ROOMS, ROOMS.replace(", entries", "")),
-    ("pair: room of the marks unchecked", "meaning", ROOMS, ROOMS.replace(", marks", "")),
-    ("pair: room of the letters unchecked", "meaning", ROOMS, ROOMS.replace(" letters,", "")),
-    ("pair: room of the recording by that of the marks", "meaning", ROOMS, ROOMS.replace("entries", "marks")),
-    ("pair: a place of 13 that the recording has", "meaning", ROOMS, "    if len(entries) < len(word):\n        raise Refused(13, len(entries))\n" + ROOMS),
-    ("pair: letters written without room for the recording", "meaning", ROOMS, ROOMS.replace(", entries", "") + "    put(sorted(word), letters)\n" + ROOMS),
+    ("pair: entries from 0", "ribbons", PAIR, with_entries("[entry - 1 for entry in pair_of(word)[2]]")),
+    ("pair: entries of the column reading", "ribbons", PAIR, with_entries("pair_of(reading(*pair_of(word)[:2]))[2]")),
+    ("pair: entries cut to a byte", "ribbons", PAIR, with_entries("[entry % 256 for entry in pair_of(word)[2]]")),
+    ("pair: cells by letters, where entries belong", "ribbons", PAIR, with_entries("[new_letters.index(a) + 1 for a in word]")),
+    ("pair: letters as they stand in the word", "ribbons", PAIR, PAIR.replace("*pair_of(word)", "list(word), *pair_of(word)[1:]")),
+    ("pair: no entries written", "ribbons", PAIR, "    return put_tableau(*pair_of(word)[:2], letters, marks, counts)\n"),
+    ("pair: no counts given", "ribbons", PAIR, PAIR.replace("counts)", "[0] * 64)")),
+    ("pair: room of the recording unchecked", "ribbons", ROOMS, ROOMS.replace(", entries", "")),
+    ("pair: room of the marks unchecked", "ribbons", ROOMS, ROOMS.replace(", marks", "")),
+    ("pair: room of the letters unchecked", "ribbons", ROOMS, ROOMS.replace(" letters,", "")),
+    ("pair: room of the recording by that of the marks", "ribbons", ROOMS, ROOMS.replace("entries", "marks")),
+    ("pair: a place of 13 that the recording has", "ribbons", ROOMS, "    if len(entries) < len(word):\n        raise Refused(13, len(entries))\n" + ROOMS),
+    ("pair: letters written without room for the recording", "ribbons", ROOMS, ROOMS.replace(", entries", "") + "    put(sorted(word), letters)\n" + ROOMS),
     (
-        "pair: entries written without room for letters", "meaning",
+        "pair: entries written without room for letters", "ribbons",
         ROOMS,
         "    if len(entries) >= len(word):\n        put(pair_of(word)[2], entries)\n" + ROOMS,
     ),
     (
-        "pair: counts given without room for the recording", "meaning",
+        "pair: counts given without room for the recording", "ribbons",
         ROOMS,
         ROOMS.replace(", entries", "") + "    put(letter_counts(word), counts)\n" + ROOMS,
     ),
     (
-        "pair: the entry after the last cleared", "meaning",
+        "pair: the entry after the last cleared", "ribbons",
         PAIR,
         "    entries[len(word) : len(word) + 1] = [0] * (len(entries) > len(word))\n" + PAIR,
     ),
     (
-        "a pair: 7 before 6", "meaning",
+        "a pair: 7 before 6", "checks",
         "    check_rising(letters)\n" + ENTRIES_AND_STEPS,
         "    check_rising(letters)\n    check_entries(entries)\n    check_marks(letters, marks)\n    check_steps(marks, entries)\n",
     ),
     (
-        "a pair: 8 before 7", "meaning",
+        "a pair: 8 before 7", "checks",
         ENTRIES_AND_STEPS,
         "    check_marks(letters, marks)\n    check_steps(marks, entries)\n    check_entries(entries)\n",
     ),
-    ("a pair: 8 not judged", "meaning", ENTRIES_AND_STEPS, ENTRIES_AND_STEPS.replace("    check_steps(marks, entries)\n", "")),
+    ("a pair: 8 not judged", "checks", ENTRIES_AND_STEPS, ENTRIES_AND_STEPS.replace("    check_steps(marks, entries)\n", "")),
     ("P line: the second half first", "lines", PAIR_LINE, PAIR_LINE.replace("cells_of(letters, marks) + entries", "entries + cells_of(letters, marks)")),
     ("P line: a count of its own for the entries", "lines", PAIR_LINE, PAIR_LINE.replace("+ entries", "+ [len(letters)] + list(entries)")),
     ("P line: steps between the entries", "lines", PAIR_LINE, PAIR_LINE.replace("+ entries", "+ cells_of(entries, marks)")),
@@ -204,7 +204,7 @@ BY_COUNTING = """    new_letters, new_entries, next_of = sorted(word), [0] * len
 """ + PAIR.replace("*pair_of(word)", "new_letters, new_marks, new_entries")
 
 RIGHT = [
-    ("pair: entries by counting, marks from falling entries", "meaning", PAIR, BY_COUNTING),
+    ("pair: entries by counting, marks from falling entries", "ribbons", PAIR, BY_COUNTING),
     (
         "P line: the T line with the N items after it", "lines",
         PAIR_LINE,
@@ -215,12 +215,12 @@ RIGHT = [
 
 EDGES = [
     (
-        "pair: the word read before its length is judged by the room", "meaning",
+        "pair: the word read before its length is judged by the room", "ribbons",
         "    check_word(rank, word)\n" + ROOMS,
         "    sum(word)\n    check_word(rank, word)\n" + ROOMS,
     ),
-    ("pair: the entry after the needed ones read", "meaning", PAIR, "    entries[len(word)]\n" + PAIR),
-    ("pair: counts read, which are to be given", "meaning", "    check_word(rank, word)\n" + ROOMS, "    counts[0]\n    check_word(rank, word)\n" + ROOMS),
+    ("pair: the entry after the needed ones read", "ribbons", PAIR, "    entries[len(word)]\n" + PAIR),
+    ("pair: counts read, which are to be given", "ribbons", "    check_word(rank, word)\n" + ROOMS, "    counts[0]\n    check_word(rank, word)\n" + ROOMS),
     ("P read: the byte after the text read", "lines", PAIR_JUDGED, "    text[len(text)]\n" + PAIR_JUDGED),
     ("P read: counts read, which are to be given", "lines", "    rank, *pair = scan_pair(text)\n", "    counts[0]\n    rank, *pair = scan_pair(text)\n"),
     (

@@ -1,4 +1,4 @@
-"""More edits of wrong_kernels.py, as those of wrong_edits.py: C lines written and read, and turned into T lines and back."""
+"""Edits of wrong_kernels.py: C lines written and read, and turned into T lines and back."""
 
 # The runs of a tableau, and the cells of runs.
 RUNS = "    return [(letter, letters.count(letter), marks[letters.index(letter)]) for letter in sorted(set(letters))]\n"
@@ -34,6 +34,7 @@ WRITTEN = "    check_tableau(rank, letters, marks)\n    return write(run_line(ra
 OF_WORD = "    letters, marks, _ = pair_of(word)\n    return write(run_line(rank, letters, marks), out)\n"
 TO_RUNS = "    return write_run_line(*scan_tableau(text), out)\n"
 TO_TABLEAU = "    check_runs(rank, length, runs)\n    return write(tableau_line(rank, *cells_of(runs)), out)\n"
+
 
 def room(text):
     """Room in the output for a text."""

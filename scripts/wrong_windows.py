@@ -1,4 +1,4 @@
-"""More edits of wrong_kernels.py, as those of wrong_edits.py: departures from a window, and arrivals at a full one."""
+"""Edits of wrong_kernels.py: departures from a window, and arrivals at a full one."""
 from wrong_counts import FULL
 
 # How a window is judged, and what a departure leaves.
@@ -35,8 +35,8 @@ def lowered(part):
 
 
 def judged(names, checks):
-    """A window judged by other checks of meaning.py."""
-    return "    from meaning import %s\n%s" % (names, checks)
+    """A window judged by other checks."""
+    return "    from checks import %s\n%s" % (names, checks)
 
 
 EDITS = [
@@ -102,12 +102,12 @@ EDITS = [
     ("departure: buffers above 1,024 refused", "windows", LENGTH, "    check_length(max(used, len(letters)))\n"),
     ("departure: 3 before 2", "windows", LENGTH, "    if %s:\n        raise Refused(3, 0)\n" % USED + LENGTH),
     (
-        "arrival: at a full window the oldest leaves by itself", "meaning",
+        "arrival: at a full window the oldest leaves by itself", "ribbons",
         FULL,
         "    if used == 1024:\n        word = [other for _, other in sorted(zip(entries[:used], letters[:used]))]\n"
         "        return put_pair(*pair_of(word[1:] + [letter]), letters, marks, entries, counts)\n",
     ),
-    ("arrival: a window is full at 1,023 letters", "meaning", FULL, FULL.replace("used == 1024", "used >= 1023")),
+    ("arrival: a window is full at 1,023 letters", "ribbons", FULL, FULL.replace("used == 1024", "used >= 1023")),
 ]
 
 RIGHT = [("departure: the oldest cell taken out", "windows", WORD + LEFT, TAKEN_OUT)]
