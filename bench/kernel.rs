@@ -3,499 +3,104 @@
 /// A reply that begins with number and place, as words that can be compared.
 pub type Reply = [usize; 6];
 
-#[repr(C)]
-pub struct Done {
-    number: usize,
-    place: usize,
+/// The structs of the header, each made into words: those that it does not have are 0.
+macro_rules! replies {
+    ($($name:ident { $($field:ident: $type:ty),* })*) => {$(
+        #[repr(C)]
+        pub struct $name {
+            number: usize,
+            place: usize,
+            $($field: $type,)*
+        }
+
+        impl From<$name> for Reply {
+            fn from(said: $name) -> Reply {
+                let words = [said.number, said.place $(, said.$field as usize)*];
+                let mut reply = [0; 6];
+                reply[..words.len()].copy_from_slice(&words);
+                reply
+            }
+        }
+    )*};
 }
 
-impl From<Done> for Reply {
-    fn from(said: Done) -> Reply {
-        [said.number, said.place, 0, 0, 0, 0]
-    }
+replies! {
+    Done {}
+    Move { changed: usize }
+    Count { count: usize }
+    Class { same: usize }
+    Order { order: usize }
+    Junction { set: u64, rows: usize }
+    Value { value: u64 }
+    Line { rank: usize, count: usize }
+    Cell { found: usize, letter: usize, row: usize, column: usize }
 }
 
-#[repr(C)]
-pub struct Move {
-    number: usize,
-    place: usize,
-    changed: usize,
+/// The functions of the header: a slice in brackets is a pointer and a count, letter counts are a pointer alone.
+macro_rules! functions {
+    (@ $f:ident ($($given:ty),*) -> $reply:ty;) => {
+        extern "C" {
+            pub fn $f($(_: $given),*) -> $reply;
+        }
+    };
+    (@ $f:ident ($($given:ty),*) -> $reply:ty; [mut $element:ty] $(, $($rest:tt)*)?) => {
+        functions!(@ $f ($($given,)* *mut $element, usize) -> $reply; $($($rest)*)?);
+    };
+    (@ $f:ident ($($given:ty),*) -> $reply:ty; [$element:ty] $(, $($rest:tt)*)?) => {
+        functions!(@ $f ($($given,)* *const $element, usize) -> $reply; $($($rest)*)?);
+    };
+    (@ $f:ident ($($given:ty),*) -> $reply:ty; $number:ty $(, $($rest:tt)*)?) => {
+        functions!(@ $f ($($given,)* $number) -> $reply; $($($rest)*)?);
+    };
+    ($($f:ident($($taken:tt)*) -> $reply:ty;)*) => {
+        $(functions!(@ $f () -> $reply; $($taken)*);)*
+    };
 }
 
-impl From<Move> for Reply {
-    fn from(said: Move) -> Reply {
-        [said.number, said.place, said.changed, 0, 0, 0]
-    }
-}
-
-#[repr(C)]
-pub struct Count {
-    number: usize,
-    place: usize,
-    count: usize,
-}
-
-impl From<Count> for Reply {
-    fn from(said: Count) -> Reply {
-        [said.number, said.place, said.count, 0, 0, 0]
-    }
-}
-
-#[repr(C)]
-pub struct Class {
-    number: usize,
-    place: usize,
-    same: usize,
-}
-
-impl From<Class> for Reply {
-    fn from(said: Class) -> Reply {
-        [said.number, said.place, said.same, 0, 0, 0]
-    }
-}
-
-#[repr(C)]
-pub struct Order {
-    number: usize,
-    place: usize,
-    order: usize,
-}
-
-impl From<Order> for Reply {
-    fn from(said: Order) -> Reply {
-        [said.number, said.place, said.order, 0, 0, 0]
-    }
-}
-
-#[repr(C)]
-pub struct Junction {
-    number: usize,
-    place: usize,
-    set: u64,
-    rows: usize,
-}
-
-impl From<Junction> for Reply {
-    fn from(said: Junction) -> Reply {
-        [said.number, said.place, said.set as usize, said.rows, 0, 0]
-    }
-}
-
-#[repr(C)]
-pub struct Value {
-    number: usize,
-    place: usize,
-    value: u64,
-}
-
-impl From<Value> for Reply {
-    fn from(said: Value) -> Reply {
-        [said.number, said.place, said.value as usize, 0, 0, 0]
-    }
-}
-
-#[repr(C)]
-pub struct Line {
-    number: usize,
-    place: usize,
-    rank: usize,
-    count: usize,
-}
-
-impl From<Line> for Reply {
-    fn from(said: Line) -> Reply {
-        [said.number, said.place, said.rank, said.count, 0, 0]
-    }
-}
-
-#[repr(C)]
-pub struct Cell {
-    number: usize,
-    place: usize,
-    found: usize,
-    letter: usize,
-    row: usize,
-    column: usize,
-}
-
-impl From<Cell> for Reply {
-    fn from(said: Cell) -> Reply {
-        [
-            said.number,
-            said.place,
-            said.found,
-            said.letter,
-            said.row,
-            said.column,
-        ]
-    }
-}
-
-extern "C" {
-    pub fn luchtrav_check_word(rank: usize, word: *const u8, word_count: usize) -> Done;
-    pub fn luchtrav_pair_of_word(
-        rank: usize,
-        word: *const u8,
-        word_count: usize,
-        letters: *mut u8,
-        letters_count: usize,
-        marks: *mut u8,
-        marks_count: usize,
-        entries: *mut u16,
-        entries_count: usize,
-        counts: *mut u16,
-    ) -> Count;
-    pub fn luchtrav_junctions(rank: usize, word: *const u8, word_count: usize) -> Junction;
-    pub fn luchtrav_raise_word(rank: usize, index: usize, word: *mut u8, word_count: usize)
-        -> Move;
-    pub fn luchtrav_lower_word(rank: usize, index: usize, word: *mut u8, word_count: usize)
-        -> Move;
-    pub fn luchtrav_raise_count_word(
-        rank: usize,
-        index: usize,
-        word: *const u8,
-        word_count: usize,
-    ) -> Count;
-    pub fn luchtrav_lower_count_word(
-        rank: usize,
-        index: usize,
-        word: *const u8,
-        word_count: usize,
-    ) -> Count;
-    pub fn luchtrav_same_class(
-        first_rank: usize,
-        first: *const u8,
-        first_count: usize,
-        second_rank: usize,
-        second: *const u8,
-        second_count: usize,
-    ) -> Class;
-    pub fn luchtrav_compare_weights(
-        first_rank: usize,
-        first: *const u8,
-        first_count: usize,
-        second_rank: usize,
-        second: *const u8,
-        second_count: usize,
-    ) -> Order;
-    pub fn luchtrav_check_tableau(
-        rank: usize,
-        letters: *const u8,
-        letters_count: usize,
-        marks: *const u8,
-        marks_count: usize,
-    ) -> Done;
-    pub fn luchtrav_check_counted_tableau(
-        rank: usize,
-        letters: *const u8,
-        letters_count: usize,
-        marks: *const u8,
-        marks_count: usize,
-        counts: *const u16,
-    ) -> Done;
-    pub fn luchtrav_column_reading(
-        rank: usize,
-        letters: *const u8,
-        letters_count: usize,
-        marks: *const u8,
-        marks_count: usize,
-        counts: *const u16,
-        word: *mut u8,
-        word_count: usize,
-    ) -> Count;
-    pub fn luchtrav_raise_tableau(
-        rank: usize,
-        index: usize,
-        letters: *mut u8,
-        letters_count: usize,
-        marks: *const u8,
-        marks_count: usize,
-        counts: *mut u16,
-    ) -> Move;
-    pub fn luchtrav_lower_tableau(
-        rank: usize,
-        index: usize,
-        letters: *mut u8,
-        letters_count: usize,
-        marks: *const u8,
-        marks_count: usize,
-        counts: *mut u16,
-    ) -> Move;
-    pub fn luchtrav_raise_count_tableau(
-        rank: usize,
-        index: usize,
-        letters: *const u8,
-        letters_count: usize,
-        marks: *const u8,
-        marks_count: usize,
-        counts: *const u16,
-    ) -> Count;
-    pub fn luchtrav_lower_count_tableau(
-        rank: usize,
-        index: usize,
-        letters: *const u8,
-        letters_count: usize,
-        marks: *const u8,
-        marks_count: usize,
-        counts: *const u16,
-    ) -> Count;
-    pub fn luchtrav_same_class_of_tableaux(
-        first_rank: usize,
-        first_letters: *const u8,
-        first_letters_count: usize,
-        first_marks: *const u8,
-        first_marks_count: usize,
-        first_counts: *const u16,
-        second_rank: usize,
-        second_letters: *const u8,
-        second_letters_count: usize,
-        second_marks: *const u8,
-        second_marks_count: usize,
-        second_counts: *const u16,
-    ) -> Class;
-    pub fn luchtrav_compare_weights_of_tableaux(
-        first_rank: usize,
-        first_letters: *const u8,
-        first_letters_count: usize,
-        first_marks: *const u8,
-        first_marks_count: usize,
-        first_counts: *const u16,
-        second_rank: usize,
-        second_letters: *const u8,
-        second_letters_count: usize,
-        second_marks: *const u8,
-        second_marks_count: usize,
-        second_counts: *const u16,
-    ) -> Order;
-    pub fn luchtrav_look(
-        rank: usize,
-        letters: *const u8,
-        letters_count: usize,
-        marks: *const u8,
-        marks_count: usize,
-        place: usize,
-    ) -> Cell;
-    pub fn luchtrav_cell_at(
-        letters: *const u8,
-        letters_count: usize,
-        marks: *const u8,
-        marks_count: usize,
-        place: usize,
-    ) -> Cell;
-    pub fn luchtrav_product(
-        rank: usize,
-        first_letters: *const u8,
-        first_letters_count: usize,
-        first_marks: *const u8,
-        first_marks_count: usize,
-        first_counts: *const u16,
-        second_letters: *const u8,
-        second_letters_count: usize,
-        second_marks: *const u8,
-        second_marks_count: usize,
-        second_counts: *const u16,
-        letters: *mut u8,
-        letters_count: usize,
-        marks: *mut u8,
-        marks_count: usize,
-        counts: *mut u16,
-    ) -> Count;
-    pub fn luchtrav_class_size(
-        rank: usize,
-        letters: *const u8,
-        letters_count: usize,
-        marks: *const u8,
-        marks_count: usize,
-        counts: *const u16,
-    ) -> Value;
-    pub fn luchtrav_class_word(
-        rank: usize,
-        letters: *const u8,
-        letters_count: usize,
-        marks: *const u8,
-        marks_count: usize,
-        counts: *const u16,
-        number: u64,
-        word: *mut u8,
-        word_count: usize,
-    ) -> Count;
-    pub fn luchtrav_class_number(rank: usize, word: *const u8, word_count: usize) -> Value;
-    pub fn luchtrav_check_pair(
-        rank: usize,
-        letters: *const u8,
-        letters_count: usize,
-        marks: *const u8,
-        marks_count: usize,
-        entries: *const u16,
-        entries_count: usize,
-    ) -> Done;
-    pub fn luchtrav_check_counted_pair(
-        rank: usize,
-        letters: *const u8,
-        letters_count: usize,
-        marks: *const u8,
-        marks_count: usize,
-        entries: *const u16,
-        entries_count: usize,
-        counts: *const u16,
-    ) -> Done;
-    pub fn luchtrav_insert_letter(
-        rank: usize,
-        used: usize,
-        letter: usize,
-        letters: *mut u8,
-        letters_count: usize,
-        marks: *mut u8,
-        marks_count: usize,
-        entries: *mut u16,
-        entries_count: usize,
-        counts: *mut u16,
-    ) -> Count;
-    pub fn luchtrav_remove_oldest(
-        rank: usize,
-        used: usize,
-        letters: *mut u8,
-        letters_count: usize,
-        marks: *mut u8,
-        marks_count: usize,
-        entries: *mut u16,
-        entries_count: usize,
-        counts: *mut u16,
-    ) -> Count;
-    pub fn luchtrav_word_of_pair(
-        rank: usize,
-        letters: *const u8,
-        letters_count: usize,
-        marks: *const u8,
-        marks_count: usize,
-        entries: *const u16,
-        entries_count: usize,
-        counts: *const u16,
-        word: *mut u8,
-        word_count: usize,
-    ) -> Count;
-    pub fn luchtrav_tableau_line_of_word(
-        rank: usize,
-        word: *const u8,
-        word_count: usize,
-        out: *mut u8,
-        out_count: usize,
-    ) -> Count;
-    pub fn luchtrav_write_word_line(
-        rank: usize,
-        word: *const u8,
-        word_count: usize,
-        out: *mut u8,
-        out_count: usize,
-    ) -> Count;
-    pub fn luchtrav_write_tableau_line(
-        rank: usize,
-        letters: *const u8,
-        letters_count: usize,
-        marks: *const u8,
-        marks_count: usize,
-        out: *mut u8,
-        out_count: usize,
-    ) -> Count;
-    pub fn luchtrav_write_pair_line(
-        rank: usize,
-        letters: *const u8,
-        letters_count: usize,
-        marks: *const u8,
-        marks_count: usize,
-        entries: *const u16,
-        entries_count: usize,
-        out: *mut u8,
-        out_count: usize,
-    ) -> Count;
-    pub fn luchtrav_write_junction_line(
-        rank: usize,
-        word: *const u8,
-        word_count: usize,
-        out: *mut u8,
-        out_count: usize,
-    ) -> Count;
-    pub fn luchtrav_write_refusal_line(
-        number: usize,
-        place: usize,
-        out: *mut u8,
-        out_count: usize,
-    ) -> Count;
-    pub fn luchtrav_read_word_line(
-        text: *const u8,
-        text_count: usize,
-        letters: *mut u8,
-        letters_count: usize,
-    ) -> Line;
-    pub fn luchtrav_read_tableau_line(
-        text: *const u8,
-        text_count: usize,
-        letters: *mut u8,
-        letters_count: usize,
-        marks: *mut u8,
-        marks_count: usize,
-        counts: *mut u16,
-    ) -> Line;
-    pub fn luchtrav_read_pair_line(
-        text: *const u8,
-        text_count: usize,
-        letters: *mut u8,
-        letters_count: usize,
-        marks: *mut u8,
-        marks_count: usize,
-        entries: *mut u16,
-        entries_count: usize,
-        counts: *mut u16,
-    ) -> Line;
-    pub fn luchtrav_convert_lines(
-        tableau_text: *const u8,
-        tableau_text_count: usize,
-        recording_text: *const u8,
-        recording_text_count: usize,
-        out: *mut u8,
-        out_count: usize,
-    ) -> Count;
-    pub fn luchtrav_run_line_of_word(
-        rank: usize,
-        word: *const u8,
-        word_count: usize,
-        out: *mut u8,
-        out_count: usize,
-    ) -> Count;
-    pub fn luchtrav_write_run_line(
-        rank: usize,
-        letters: *const u8,
-        letters_count: usize,
-        marks: *const u8,
-        marks_count: usize,
-        out: *mut u8,
-        out_count: usize,
-    ) -> Count;
-    pub fn luchtrav_read_run_line(
-        text: *const u8,
-        text_count: usize,
-        letters: *mut u8,
-        letters_count: usize,
-        marks: *mut u8,
-        marks_count: usize,
-        counts: *mut u16,
-    ) -> Line;
-    pub fn luchtrav_tableau_to_runs(
-        text: *const u8,
-        text_count: usize,
-        out: *mut u8,
-        out_count: usize,
-    ) -> Count;
-    pub fn luchtrav_runs_to_tableau(
-        text: *const u8,
-        text_count: usize,
-        out: *mut u8,
-        out_count: usize,
-    ) -> Count;
-    pub fn luchtrav_answer(
-        text: *const u8,
-        text_count: usize,
-        out: *mut u8,
-        out_count: usize,
-    ) -> Count;
+functions! {
+    luchtrav_check_word(usize, [u8]) -> Done;
+    luchtrav_pair_of_word(usize, [u8], [mut u8], [mut u8], [mut u16], *mut u16) -> Count;
+    luchtrav_junctions(usize, [u8]) -> Junction;
+    luchtrav_raise_word(usize, usize, [mut u8]) -> Move;
+    luchtrav_lower_word(usize, usize, [mut u8]) -> Move;
+    luchtrav_raise_count_word(usize, usize, [u8]) -> Count;
+    luchtrav_lower_count_word(usize, usize, [u8]) -> Count;
+    luchtrav_same_class(usize, [u8], usize, [u8]) -> Class;
+    luchtrav_compare_weights(usize, [u8], usize, [u8]) -> Order;
+    luchtrav_check_tableau(usize, [u8], [u8]) -> Done;
+    luchtrav_check_counted_tableau(usize, [u8], [u8], *const u16) -> Done;
+    luchtrav_column_reading(usize, [u8], [u8], *const u16, [mut u8]) -> Count;
+    luchtrav_raise_tableau(usize, usize, [mut u8], [u8], *mut u16) -> Move;
+    luchtrav_lower_tableau(usize, usize, [mut u8], [u8], *mut u16) -> Move;
+    luchtrav_raise_count_tableau(usize, usize, [u8], [u8], *const u16) -> Count;
+    luchtrav_lower_count_tableau(usize, usize, [u8], [u8], *const u16) -> Count;
+    luchtrav_same_class_of_tableaux(usize, [u8], [u8], *const u16, usize, [u8], [u8], *const u16) -> Class;
+    luchtrav_compare_weights_of_tableaux(usize, [u8], [u8], *const u16, usize, [u8], [u8], *const u16) -> Order;
+    luchtrav_look(usize, [u8], [u8], usize) -> Cell;
+    luchtrav_cell_at([u8], [u8], usize) -> Cell;
+    luchtrav_product(usize, [u8], [u8], *const u16, [u8], [u8], *const u16, [mut u8], [mut u8], *mut u16) -> Count;
+    luchtrav_class_size(usize, [u8], [u8], *const u16) -> Value;
+    luchtrav_class_word(usize, [u8], [u8], *const u16, u64, [mut u8]) -> Count;
+    luchtrav_class_number(usize, [u8]) -> Value;
+    luchtrav_check_pair(usize, [u8], [u8], [u16]) -> Done;
+    luchtrav_check_counted_pair(usize, [u8], [u8], [u16], *const u16) -> Done;
+    luchtrav_insert_letter(usize, usize, usize, [mut u8], [mut u8], [mut u16], *mut u16) -> Count;
+    luchtrav_remove_oldest(usize, usize, [mut u8], [mut u8], [mut u16], *mut u16) -> Count;
+    luchtrav_word_of_pair(usize, [u8], [u8], [u16], *const u16, [mut u8]) -> Count;
+    luchtrav_tableau_line_of_word(usize, [u8], [mut u8]) -> Count;
+    luchtrav_run_line_of_word(usize, [u8], [mut u8]) -> Count;
+    luchtrav_write_word_line(usize, [u8], [mut u8]) -> Count;
+    luchtrav_write_tableau_line(usize, [u8], [u8], [mut u8]) -> Count;
+    luchtrav_write_run_line(usize, [u8], [u8], [mut u8]) -> Count;
+    luchtrav_write_pair_line(usize, [u8], [u8], [u16], [mut u8]) -> Count;
+    luchtrav_write_junction_line(usize, [u8], [mut u8]) -> Count;
+    luchtrav_write_refusal_line(usize, usize, [mut u8]) -> Count;
+    luchtrav_read_word_line([u8], [mut u8]) -> Line;
+    luchtrav_read_tableau_line([u8], [mut u8], [mut u8], *mut u16) -> Line;
+    luchtrav_read_run_line([u8], [mut u8], [mut u8], *mut u16) -> Line;
+    luchtrav_read_pair_line([u8], [mut u8], [mut u8], [mut u16], *mut u16) -> Line;
+    luchtrav_convert_lines([u8], [u8], [mut u8]) -> Count;
+    luchtrav_tableau_to_runs([u8], [mut u8]) -> Count;
+    luchtrav_runs_to_tableau([u8], [mut u8]) -> Count;
+    luchtrav_answer([u8], [mut u8]) -> Count;
 }

@@ -113,30 +113,21 @@ class Counts:
         return [a / b for a, b in zip(totals, self.totals(operation, rank, base))]
 
 
-def cells(values, digits=2):
-    return [f"{value:,.{digits}f}" for value in values]
+def print_figures(counts, operations, *columns, numbers=LETTERS):
+    """A table of operations. A column is its heading, a kind of call, the kind that it is set over or None for the cost of a unit, and how many digits."""
 
+    def cells(operation, rank):
+        for _, kind, base, digits in columns:
+            figures = counts.ratios(operation, rank, kind, base) if base else counts.costs(operation, rank, kind)
+            yield from (f"{figure:,.{digits}f}" for figure in figures)
 
-def print_ratios(counts, operations, numbers, digits):
-    """Kernel and plain Rust, and the ratio."""
-    rows = [
-        [
-            f"`{operation}`",
-            rank,
-            *cells(counts.costs(operation, rank, "kernel"), digits),
-            *cells(counts.costs(operation, rank, "plain"), digits),
-            *cells(counts.ratios(operation, rank, "kernel", "plain")),
-        ]
-        for operation in operations
-        for rank in RANKS
-    ]
-    head = [*sizes("kernel", numbers), *sizes("Rust", numbers), *sizes("ratio", numbers)]
-    table(["operation", "rank", *head], rows)
+    rows = [[f"`{operation}`", rank, *cells(operation, rank)] for operation in operations for rank in RANKS]
+    table(["operation", "rank", *(size for heading, *_ in columns for size in sizes(heading, numbers))], rows)
 
 
 def print_costs(counts):
     print("## Instructions a letter\n")
-    print_ratios(counts, counts.operations, LETTERS, 2)
+    print_figures(counts, counts.operations, ("kernel", "kernel", None, 2), ("Rust", "plain", None, 2), ("ratio", "kernel", "plain", 2))
     print(
         "`same_class` and `compare_weights`: for each letter of both words, or cell of both tableaux; `same_class:64` has"
         " the second word at rank 64. `product`: for each cell of both factors together. `insert_letter` and"
@@ -148,61 +139,24 @@ def print_costs(counts):
 
 def print_classes(counts):
     print("## Words of a class: instructions a call\n")
-    print_ratios(counts, counts.of_classes, FEW, 0)
+    columns = ("kernel", "kernel", None, 0), ("Rust", "plain", None, 0), ("ratio", "kernel", "plain", 2)
+    print_figures(counts, counts.of_classes, *columns, numbers=FEW)
 
 
-def print_insertion(counts):
-    """Plain insertion, where it exists."""
-    rows = [
-        [
-            f"`{operation}`",
-            rank,
-            *cells(counts.costs(operation, rank, "insertion"), 0),
-            *cells(counts.ratios(operation, rank, "insertion", "kernel"), 0),
-        ]
-        for operation in counts.operations
-        for rank in RANKS
-        if counts.has(operation, "insertion")
-    ]
-    print("## Plain insertion\n")
-    head = [*sizes("insertion"), *sizes("ratio to kernel")]
-    table(["operation", "rank", *head], rows)
-
-
-def print_beside(counts, other, title, *columns):
-    """The operations that have figures of another way to do the same; a column is its heading and what gives the figures of an operation at a rank."""
-    rows = [
-        [f"`{operation}`", rank, *(cell for _, figures in columns for cell in cells(figures(operation, rank)))]
-        for operation in counts.operations
-        for rank in RANKS
-        if counts.has(operation, other)
-    ]
+def print_beside(counts, kind, title, *columns):
+    """The operations that have figures of another way to do the same."""
     print(f"## {title}\n")
-    table(["operation", "rank", *(size for heading, _ in columns for size in sizes(heading))], rows)
+    print_figures(counts, [operation for operation in counts.operations if counts.has(operation, kind)], *columns)
 
 
-def print_apart(counts):
-    """The two ribbons of a word in one call of the kernel, in one of plain Rust, and by two calls of plain Rust, each for one of them."""
-    print_beside(
-        counts,
-        "apart",
-        "The pair in one call, and its two ribbons apart",
-        ("kernel", lambda operation, rank: counts.costs(operation, rank, "kernel")),
-        ("Rust", lambda operation, rank: counts.costs(operation, rank, "plain")),
-        ("Rust, two calls", lambda operation, rank: counts.costs(operation, rank, "apart")),
-    )
-
-
-def print_afresh(counts):
-    """A departure, and the same by the way back to the word and the pair of its other letters."""
-    print_beside(
-        counts,
-        "afresh",
-        "A departure, and the window made afresh",
-        ("kernel", lambda operation, rank: counts.costs(operation, rank, "kernel")),
-        ("two calls", lambda operation, rank: counts.costs(operation, rank, "afresh")),
-        ("ratio to kernel", lambda operation, rank: counts.ratios(operation, rank, "afresh", "kernel")),
-    )
+def print_others(counts):
+    """Plain insertion; the two ribbons of a word in one call, and by two calls of plain Rust, each for one of them; a departure, and the same by the way
+    back to the word and the pair of its other letters."""
+    print_beside(counts, "insertion", "Plain insertion", ("insertion", "insertion", None, 0), ("ratio to kernel", "insertion", "kernel", 0))
+    columns = ("kernel", "kernel", None, 2), ("Rust", "plain", None, 2), ("Rust, two calls", "apart", None, 2)
+    print_beside(counts, "apart", "The pair in one call, and its two ribbons apart", *columns)
+    columns = ("kernel", "kernel", None, 2), ("two calls", "afresh", None, 2), ("ratio to kernel", "afresh", "kernel", 2)
+    print_beside(counts, "afresh", "A departure, and the window made afresh", *columns)
 
 
 def print_growth(counts):
@@ -215,8 +169,7 @@ def print_growth(counts):
             few, some, many = counts.totals(operation, rank, "kernel")
             growth = (many - some) / (some - few)
             if abs(growth / 2 - 1) > TOLERANCE:
-                totals = cells([few, some, many], 0)
-                rows.append([f"`{operation}`", rank, *totals, f"{growth:.2f}"])
+                rows.append([f"`{operation}`", rank, *(f"{total:,}" for total in (few, some, many)), f"{growth:.2f}"])
     print("## Growth\n")
     print(
         "What 512 more letters cost, over what 256 more cost before them, is 2"
@@ -247,9 +200,7 @@ def print_large(counts):
 def print_all(counts):
     print_costs(counts)
     print_classes(counts)
-    print_insertion(counts)
-    print_apart(counts)
-    print_afresh(counts)
+    print_others(counts)
     print_growth(counts)
     print_large(counts)
 
