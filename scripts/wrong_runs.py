@@ -6,7 +6,6 @@ LETTERS = "    letters = [letter for letter, count, _ in runs for _ in range(cou
 MARKS = "    marks = [step if place == 0 else 0 for _, count, step in runs for place in range(count)]\n"
 
 # A C line scanned.
-FIELDS = "    rank, length, runs = scanner.field(), scanner.field(), []\n"
 WHILE = '    while scanner.next() != "\\n":\n'
 COMMA = '        if runs:\n            scanner.one_of(",")\n'
 STEP = '        step = "rd".index(scanner.one_of("rd")) if runs else 0\n'

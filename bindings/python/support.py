@@ -1,4 +1,4 @@
-"""What the tests share: the package under test, and a test case that expects refusals.
+"""What the tests share: the package under test, the pair of 4323, and a test case that expects refusals.
 
 The package is the repository's, or, where the environment variable LUCHTRAV_INSTALLED is set, the one that this Python has installed.
 """
@@ -22,10 +22,14 @@ import luchtrav as lu
 
 sys.path = path
 
-__all__ = ["HERE", "PACKAGES", "Case", "lu", "run_python", "word_of"]
+__all__ = ["ENTRIES", "HERE", "LETTERS", "MARKS", "PACKAGES", "PAIR", "TABLEAU", "Case", "lu", "run_python", "word_of"]
 
 # The folder that the package under test lies in.
 PACKAGES = os.path.dirname(os.path.dirname(os.path.abspath(lu.__file__)))
+
+# The pair of 4323 at rank 4.
+LETTERS, MARKS, ENTRIES = [2, 3, 3, 4], [0, 1, 0, 1], [3, 2, 4, 1]
+TABLEAU, PAIR = lu.Tableau(LETTERS, MARKS), lu.Pair(LETTERS, MARKS, ENTRIES)
 
 
 def word_of(digits: str) -> List[int]:
