@@ -8,6 +8,7 @@ use crate::plain::tableaux::column_reading;
 use crate::plain::writers::{
     lay_recording_line, write_pair_line, write_tableau_line, write_word_line,
 };
+use std::ops::Deref;
 
 /// Xorshift, 64 bits.
 struct Draws(u64);
@@ -71,15 +72,11 @@ impl Pair {
     }
 }
 
-/// All inputs of one rank and number of letters.
+/// All inputs of one rank and number of letters: a word with what belongs to it, and others.
 pub struct Input {
     pub rank: usize,
     pub count: usize,
-    pub word: Vec<u8>,
-    pub letters: Vec<u8>,
-    pub marks: Vec<u8>,
-    pub entries: Vec<u16>,
-    pub counts: [u16; 64],
+    own: Pair,
     /// Another word of the same class, so that both its counts and its junction set must be looked at.
     pub other: Vec<u8>,
     /// The pair of all letters of the word but the last.
@@ -116,21 +113,10 @@ fn line(write: impl Fn(&mut [u8]) -> Option<usize>) -> Vec<u8> {
 impl Input {
     pub fn new(rank: usize, count: usize) -> Input {
         let mut draws = Draws(0x9e37_79b9_7f4a_7c15 ^ (rank * 65_536 + count) as u64);
-        let Pair {
-            word,
-            letters,
-            marks,
-            entries,
-            counts,
-        } = Pair::new(rank, draws.word(count, 1, rank));
-        let shorter = Pair::new(rank, word[..count - 1].to_vec());
+        let own = Pair::new(rank, draws.word(count, 1, rank));
+        let (word, letters, marks, entries) = (&own.word, &own.letters, &own.marks, &own.entries);
         let mut other = vec![0; count];
-        let tableau = Tableau {
-            letters: &letters,
-            marks: &marks,
-            counts: &counts,
-        };
-        let read = column_reading(rank, tableau, &mut other);
+        let read = column_reading(rank, own.tableau(), &mut other);
         assert!(read.is_ok(), "tableau of a drawn word refused");
         let mut raised = draws.word(count, 1, rank - 2);
         raised[count - 1] = rank as u8;
@@ -144,34 +130,30 @@ impl Input {
             rank,
             count,
             other,
-            shorter,
+            shorter: Pair::new(rank, word[..count - 1].to_vec()),
             front: Pair::new(rank, word[..count / 2].to_vec()),
             back: Pair::new(rank, word[count / 2..].to_vec()),
             raising: Pair::new(rank, raised),
             lowering: Pair::new(rank, lowered),
             first_leaves: Pair::new(rank, small),
             last_leaves: Pair::new(rank, large),
-            number: class_number(rank, &word).unwrap_or(0),
-            word_line: line(|out| write_word_line(rank, &word, out).ok()),
-            tableau_line: line(|out| write_tableau_line(rank, &letters, &marks, out).ok()),
-            run_line: line(|out| write_run_line(rank, &letters, &marks, out).ok()),
-            pair_line: line(|out| write_pair_line(rank, &letters, &marks, &entries, out).ok()),
-            recording_line: line(|out| Some(lay_recording_line(&entries, out))),
-            word,
-            letters,
-            marks,
-            entries,
-            counts,
+            number: class_number(rank, word).unwrap_or(0),
+            word_line: line(|out| write_word_line(rank, word, out).ok()),
+            tableau_line: line(|out| write_tableau_line(rank, letters, marks, out).ok()),
+            run_line: line(|out| write_run_line(rank, letters, marks, out).ok()),
+            pair_line: line(|out| write_pair_line(rank, letters, marks, entries, out).ok()),
+            recording_line: line(|out| Some(lay_recording_line(entries, out))),
+            own,
         }
     }
+}
 
-    /// The word's tableau.
-    pub fn tableau(&self) -> Tableau<'_> {
-        Tableau {
-            letters: &self.letters,
-            marks: &self.marks,
-            counts: &self.counts,
-        }
+/// So that the word of an input is `input.word`, and so for its tableau and entries.
+impl Deref for Input {
+    type Target = Pair;
+
+    fn deref(&self) -> &Pair {
+        &self.own
     }
 }
 
