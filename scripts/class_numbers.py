@@ -7,7 +7,7 @@ of a ribbon out one by one and adds up rows of counts: here are no rows, the ter
     python3 scripts/class_numbers.py          holds the two ways to each other, on every tableau of up to six cells over 1 to 4, and the sums to 4^length
 """
 from functools import lru_cache
-from itertools import permutations, product
+from itertools import combinations_with_replacement, permutations, product
 from math import comb
 
 from checks import Refused, check_counted_tableau, check_room, check_word
@@ -157,10 +157,9 @@ def class_number(rank, word):
 
 def tableaux_of(rank, length):
     """All tableaux of a rank with so many cells: rising letters, and a step right or down wherever they rise."""
-    for letters in product(range(1, rank + 1), repeat=length):
-        if list(letters) == sorted(letters):
-            steps = [(0,) if place == 0 or letter == letters[place - 1] else (0, 1) for place, letter in enumerate(letters)]
-            yield from ((letters, marks) for marks in product(*steps))
+    for letters in combinations_with_replacement(range(1, rank + 1), length):
+        steps = [(0,) if place == 0 or letter == letters[place - 1] else (0, 1) for place, letter in enumerate(letters)]
+        yield from ((letters, marks) for marks in product(*steps))
 
 
 def main():

@@ -14,33 +14,14 @@ import sys
 sys.dont_write_bytecode = True
 sys.path.insert(0, os.path.join(os.path.dirname(os.path.dirname(os.path.abspath(__file__))), "bindings", "python"))
 
+from class_numbers import tableaux_of
 from luchtrav import class_size
-
-
-def tableaux(rank, length):
-    """All tableaux with letters 1 to rank and so many cells, each as two lists, which are changed afterwards."""
-    letters, marks = [], []
-
-    def go_on():
-        if len(letters) == length:
-            yield letters, marks
-            return
-        last = letters[-1] if letters else 0
-        for letter in range(max(last, 1), rank + 1):
-            for mark in (0, 1) if letter > last > 0 else (0,):
-                letters.append(letter)
-                marks.append(mark)
-                yield from go_on()
-                letters.pop()
-                marks.pop()
-
-    return go_on()
 
 
 def sums_up(rank, length):
     """Whether the sizes add up."""
     classes = total = largest = 0
-    for letters, marks in tableaux(rank, length):
+    for letters, marks in tableaux_of(rank, length):
         size = class_size(rank, letters, marks)
         classes, total, largest = classes + 1, total + size, max(largest, size)
     print("rank %d, length %d: %d classes, the largest of %d words, together %d; %d^%d is %d"

@@ -3,7 +3,7 @@
     python3 bindings/python/test_two_tableaux.py
 """
 import unittest
-from itertools import product
+from itertools import combinations_with_replacement, product
 from typing import Iterator
 
 from support import Case, lu
@@ -11,10 +11,9 @@ from support import Case, lu
 
 def tableaux_of(rank: int, cells: int) -> Iterator[lu.Tableau]:
     """All tableaux of a rank with so many cells."""
-    for letters in product(range(1, rank + 1), repeat=cells):
-        if list(letters) == sorted(letters):
-            steps = [(0,) if place == 0 or letter == letters[place - 1] else (0, 1) for place, letter in enumerate(letters)]
-            yield from (lu.Tableau(letters, marks) for marks in product(*steps))
+    for letters in combinations_with_replacement(range(1, rank + 1), cells):
+        steps = [(0,) if place == 0 or letter == letters[place - 1] else (0, 1) for place, letter in enumerate(letters)]
+        yield from (lu.Tableau(letters, marks) for marks in product(*steps))
 
 
 class TwoTableaux(Case):
