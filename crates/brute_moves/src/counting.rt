@@ -20,7 +20,7 @@ use plain_words::tableau::plain_tableau;
 ghost use Prim.Native.Nat.{_<_, _≤_};
 
 // One more answer, with so many differences.
-pub(crate) fn counted(answer: usize, found: usize, counts: [usize; 16]) -> [usize; 16] {
+fn counted(answer: usize, found: usize, counts: [usize; 16]) -> [usize; 16] {
     let mut all = counts;
     all[15] = std::num::wrapping_add_usize(all[15], found);
     if 14 < answer {

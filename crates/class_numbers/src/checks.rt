@@ -16,14 +16,14 @@ ghost use Rattle.refusals.specs.Running.{checksThen};
 ghost use Rattle.refusals.specs.Said.{saidVerdict};
 
 // 15: at most 20 cells or letters.
-pub fn check_small(cells: usize) -> Verdict
+fn check_small(cells: usize) -> Verdict
     ensures { λ r. ⌜ saidVerdict r ≡ smallJudged cells ⌝ }
 {
     refuse_if(20 < cells, Refusal::Large)
 }
 
 // 1 to 6 of a tableau, 17 of its letter counts, then 15.
-pub fn check_class(rank: usize, letters: &[u8], marks: &[u8], counts: &[u16; 64]) -> Verdict
+pub(crate) fn check_class(rank: usize, letters: &[u8], marks: &[u8], counts: &[u16; 64]) -> Verdict
     ensures { λ r. ⌜
         saidVerdict r
         ≡ checksThen
@@ -38,14 +38,14 @@ pub fn check_class(rank: usize, letters: &[u8], marks: &[u8], counts: &[u16; 64]
 }
 
 // 1, 2 and 4 of a word, then 15.
-pub fn check_short(rank: usize, word: &[u8]) -> Verdict
+pub(crate) fn check_short(rank: usize, word: &[u8]) -> Verdict
     ensures { λ r. ⌜ saidVerdict r ≡ checksThen (wordJudgements rank (now (word .entry))) (smallJudged (length (now (word .entry))) ∷ []) ⌝ }
 {
     or_else(check_word(rank, word), check_small(word.len()))
 }
 
 // 16: the number is below the size; then 13.
-pub fn check_asked(number: u64, size: u64, need: usize, have: usize) -> Verdict
+pub(crate) fn check_asked(number: u64, size: u64, need: usize, have: usize) -> Verdict
     ensures { λ r. ⌜ saidVerdict r ≡ first (numberJudged number size ∷ roomJudged need have ∷ []) passed ⌝ }
 {
     let past = refuse_if(size <= number, Refusal::PastLast);

@@ -133,7 +133,7 @@ fn repeats_of(side: Side, index: u8, inversion: bool, letters: &[u8]) -> usize
 }
 
 // How often the move of either side can be made, one after the other: 1, 2, 9, or the count.
-pub fn repeat_letters(
+pub(crate) fn repeat_letters(
     side: Side,
     rank: usize,
     index: usize,

@@ -4,7 +4,7 @@
 --     accepted-output     the W line of an accepted word is short enough to be read, so that its output is the word's three lines
 --     three-ready         a buffer of 16,384 bytes is ready for the three lines of an accepted word
 -- Assumes nothing.
-use Prim.Native.Nat.{ℕ, _+_, _^_, _≤_, _<_}
+use Prim.Native.Nat.{ℕ, _^_, _≤_, _<_}
 use mathlib.Core.Path.{_≡_}
 use mathlib.Core.List.{List, [], _∷_, _++_}
 use native.Mathlib.Omega.{arith}
