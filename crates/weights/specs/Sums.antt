@@ -1,17 +1,14 @@
 -- The step of the comparison of weights (document 02, N2).
 --     Stepped a b x y c d     from the sums a and b and the numbers x and y that come next, the sums c and d
---     Grown a c               c is more than a by a number of 16 bits at most
---     accepted-sum            what it asks holds of accepted words by far: a sum of their letter counts is at most 1,024
+--     Grown a c               c is more than a by a number of 16 bits at most; grown-by
 --     stepped-sums            of two tables: from both sums of the first k numbers and the two next ones, both sums of the first k + 1
+--     stepping                the ruleset of the step
 -- That it gives the sums of two words is proofs/Theory/Steps.antt. Assumes nothing.
 use Prim.Native.Nat.{ℕ, suc, _+_, _≤_, _<_}
 use native.Mathlib.Omega.{arith}
 use mathlib.Core.Path.{_≡_, refl, ap₂, _∙_}
 use mathlib.Core.List.{List}
 use lib.ListN.{getD}
-use Rattle.hypoplactic.specs.Words.{Accepted}
-use Rattle.hypoplactic.specs.Weights.{sumTo}
-use Rattle.hypoplactic.proofs.Theory.Contents.{sum-le}
 use borrow.Author.Needs.{needs}
 use Rattle.words.specs.Tables.{sumOf}
 
@@ -23,10 +20,6 @@ pub record Stepped (a b x y c d : ℕ) : Type 0 where
 -- A sum after one number of 16 bits more.
 pub record Grown (a c : ℕ) : Type 0 where
   pub grown : c ≤ a + 65535
-
--- What it asks, at most 64 times such a number, holds of every sum of letter counts of an accepted word.
-pub accepted-sum : {n : ℕ} (w : List ℕ) → Accepted n w → (k : ℕ) → sumTo k w ≤ 1024
-accepted-sum w h k = omega (arith, sum-le k w, h .short)
 
 -- Numbers of 16 bits are grown by.
 pub grown-by : (a x : ℕ) → x < 65536 → Grown a (a + x)
