@@ -15,16 +15,11 @@ use Rattle.hypoplactic.specs.Judgements.{countedJudgements, countedPairJudgemen
 use Rattle.hypoplactic.specs.TableauOperations.{insertRun, insertSays, moveTableauRun, moveTableauSays, pairRun, readingSays, repeatTableauSays, wordSays}
 use Rattle.hypoplactic.specs.LineReadings.{readPRun, readTRun}
 use Rattle.hypoplactic.specs.Starred.{Case, c4323, case, counts, lent, lentPair, lower, numbers, outcomes, pairOutcome, raise, tableauOutcome, text}
+use Rattle.letter_counts.specs.Cases.{m4323, x4323}
 
 -- ---- wrong counts
 
--- The tableau of 4323, and the entries of its recording ribbon.
-abbrev pub x4323 : List ℕ
-x4323 = 2 ∷ 3 ∷ 3 ∷ 4 ∷ []
-
-abbrev pub m4323 : List ℕ
-m4323 = 0 ∷ 1 ∷ 0 ∷ 1 ∷ []
-
+-- The entries of the recording ribbon of 4323.
 abbrev pub r4323 : List ℕ
 r4323 = 3 ∷ 2 ∷ 4 ∷ 1 ∷ []
 

@@ -13,7 +13,8 @@ use Rattle.hypoplactic.specs.Insertion.{pairWith}
 use Rattle.hypoplactic.specs.Words.{tick}
 use Rattle.hypoplactic.specs.Moves.{below}
 use Rattle.hypoplactic.specs.Junctions.{junctionSet}
-use Rattle.hypoplactic.specs.Replies.{Said, first, passed, refused}
+use Rattle.hypoplactic.specs.Replies.{Said, first, gives, passed, refused}
+use Rattle.hypoplactic.specs.Classes.{elements}
 use Rattle.hypoplactic.specs.Counts.{countsOf}
 use Rattle.hypoplactic.specs.Judgements.{fullJudged, recordingJudged, roomJudged}
 use Rattle.hypoplactic.specs.WordOperations.{junctionSays, moveJudgements, moveWordRun, moveWordSays, repeatWordSays, sameClassSays, weightsSays}
@@ -170,6 +171,8 @@ valueCases =
     (0 ∷ 3 ∷ 3 ∷ 3 ∷ 4 ∷ 9 ∷ 0 ∷ 0 ∷ 1 ∷ 2 ∷ 3 ∷ 1 ∷ 7 ∷ 7 ∷ counts (0 ∷ 0 ∷ 2 ∷ 1 ∷ []))
     ∷ case (outcome (wordRun 4 (1 ∷ 2 ∷ []) (0 ∷ 1 ∷ []) (2 ∷ 1 ∷ []) (counts (1 ∷ 1 ∷ [])) (9 ∷ 9 ∷ 9 ∷ []))) (0 ∷ 2 ∷ 2 ∷ 1 ∷ 9 ∷ [])
     ∷ case (outcome (readingRun 4 (1 ∷ 2 ∷ 3 ∷ []) (0 ∷ 1 ∷ 0 ∷ []) (counts (1 ∷ 1 ∷ 1 ∷ [])) (9 ∷ 9 ∷ 9 ∷ 9 ∷ []))) (0 ∷ 3 ∷ 2 ∷ 1 ∷ 3 ∷ 9 ∷ [])
+    -- what was written, by a reply: as many elements as its first number tells, none where it has no number or refuses
+    ∷ case (elements (gives (2 ∷ 1 ∷ [])) (7 ∷ 8 ∷ 9 ∷ []) ++ elements (gives []) (7 ∷ []) ++ elements (refused 4 1) (7 ∷ [])) (7 ∷ 8 ∷ [])
     -- insertion gives the new used count; a refusal leaves all three lists and the counts
     ∷ case (pairOutcome (insertRun 4 2 3 (pairWith (2 ∷ 4 ∷ 9 ∷ 9 ∷ []) (0 ∷ 1 ∷ 8 ∷ 8 ∷ []) (2 ∷ 1 ∷ 7 ∷ 7 ∷ [])) (counts (0 ∷ 1 ∷ 0 ∷ 1 ∷ []))))
     (0 ∷ 3 ∷ 2 ∷ 3 ∷ 4 ∷ 9 ∷ 0 ∷ 0 ∷ 1 ∷ 8 ∷ 2 ∷ 3 ∷ 1 ∷ 7 ∷ counts (0 ∷ 1 ∷ 1 ∷ 1 ∷ []))

@@ -1,18 +1,21 @@
 -- Cases for the definitions of code crates that public contracts rest on beside those of hypoplactic, in the form of the starred ones: what crates lend each
 -- other, each in its smallest inputs.
---     sharedCases     the cases; tests stand as 1 and 0 (told), lent letters and marks one after the other (filling), an item as its three numbers (itemNumbers)
+--     sharedCases     the cases; tests stand as 1 and 0 (told), lent letters and marks one after the other (filling), an item as its three numbers
+--                     (itemNumbers), numbers compared as two (compared), a cell and the number beside it as two (going)
 -- That the two sides of every case are equal is proved in proofs/Theory/Shared.antt. Assumes nothing.
 use Prim.Native.Nat.{ℕ}
 use mathlib.Core.Bool.{Bool, true, false}
 use mathlib.Core.List.{List, [], _∷_, _++_, map}
 use mathlib.Core.Option.{none, some}
-use lib.ListN.{length, replicate}
+use lib.ListN.{length, replicate, set}
 use Rattle.grammar.specs.Lines.{Run}
 use Rattle.grammar.specs.Reading.{letters, marks}
 use Rattle.hypoplactic.specs.Insertion.{pairWith}
 use Rattle.hypoplactic.specs.Words.{tick}
 use Rattle.hypoplactic.specs.Counts.{countsOf}
-use Rattle.hypoplactic.specs.Starred.{Case, case, lower, numbers, outcome, raise, text, w4323}
+use Rattle.hypoplactic.specs.WordOperations.{comparisonNumber}
+use Rattle.hypoplactic.specs.Starred.{Case, case, counts, lower, numbers, outcome, raise, text, w4323}
+use Rattle.acceptance.specs.Bytes.{narrowed}
 use Rattle.buffers.specs.Copies.{copied}
 use Rattle.buffers.specs.Shifts.{pushed}
 use Rattle.numerals.specs.Bytes.{startsWith}
@@ -27,7 +30,14 @@ use Rattle.run_lines.specs.Runs.{runCells, runWith}
 use Rattle.run_tallies.specs.Tallies as tallies
 use Rattle.run_scans.specs.Lines.{wholeRuns}
 use Rattle.operators.specs.Changes.{moveLettersRun, repeatLettersSays}
+use Rattle.classes.specs.Tables.{sameTables}
+use Rattle.weights.specs.Tables.{compareTables}
+use Rattle.ribbon_orders.specs.Rows.{ordersGiven}
+use Rattle.taken_cells.specs.Removal.{pulled, pulledFree}
+use Rattle.taken_cells.specs.Numbered.{cellOfNumber}
+use Rattle.taken_cells.specs.Lettered.{cellOfLetter}
 use Rattle.admissions.specs.Checks.{insertChecks}
+use Rattle.letter_counts.specs.Cases.{x4323}
 use Rattle.examples.specs.Counted.{countOrder, onCounts, rises, zeros}
 use Rattle.examples.specs.Pinned.{onPairs, pairOrder}
 
@@ -46,6 +56,18 @@ fillingRuns n ss ls ks = let (xs, ms) = filledRuns n (1 ∷ 0 ∷ 2 ∷ []) ss l
 -- What the tally of a C line's items tells: the two leads, the last letter, the capped sum.
 abbrev pub tally : ℕ → List Run → List ℕ
 tally n rs = tallies.insideLead n rs ∷ tallies.risingLead 0 rs ∷ tallies.lastLetter 0 rs ∷ tallies.capped (runCells rs) ∷ []
+
+-- Any 64 numbers and 64 others: whether they are equal, and how their sums compare.
+abbrev pub compared : List ℕ → List ℕ → List ℕ
+compared cs ds = told (sameTables cs ds) ∷ comparisonNumber (compareTables cs ds) ∷ []
+
+-- A cell that goes first, and the number beside it.
+abbrev pub going : ℕ × ℕ → List ℕ
+going c = c .0 ∷ c .1 ∷ []
+
+-- The marks of the tableau of 4323, the first step free. Its words are 3243, 3423, 3432, 4323 and 4332.
+abbrev pub f4323 : List ℕ
+f4323 = 2 ∷ 1 ∷ 0 ∷ 1 ∷ []
 
 -- Items as numbers: letter, count and mark of each.
 abbrev pub itemNumbers : List Run → List ℕ
@@ -82,6 +104,24 @@ sharedCases =
     ∷ case (junctionGiven 4 w4323 ∷ junctionGiven 65 w4323 ∷ junctionGiven 3 w4323 ∷ []) (6 ∷ 0 ∷ 0 ∷ [])
     -- bit a - 1 of a set, none of the letter 0
     ∷ case (map (λ a. told (bitAt 6 a)) (0 ∷ 1 ∷ 2 ∷ 3 ∷ 4 ∷ [])) (0 ∷ 0 ∷ 1 ∷ 1 ∷ 0 ∷ [])
+    -- a letter as a byte: 0 where no byte holds it
+    ∷ case (map narrowed (0 ∷ 255 ∷ 256 ∷ 257 ∷ 65535 ∷ [])) (0 ∷ 255 ∷ 0 ∷ 0 ∷ 0 ∷ [])
+    -- any 64 numbers compared, 0 equal, 1 lower, 2 higher, 3 neither: at the first place, at the last, beyond it nothing, and numbers that no word has
+    ∷ case (compared (counts (1 ∷ [])) (counts (1 ∷ [])) ++ compared (counts []) (counts (1 ∷ []))) (1 ∷ 0 ∷ 0 ∷ 1 ∷ [])
+    ∷ case (compared (set (counts []) 63 1) (counts []) ++ compared (counts [] ++ (9 ∷ [])) (counts [])) (0 ∷ 2 ∷ 1 ∷ 0 ∷ [])
+    ∷ case (compared (replicate 64 65535) (set (replicate 64 65535) 62 65534) ++ compared (1 ∷ 0 ∷ 1 ∷ []) (0 ∷ 2 ∷ [])) (0 ∷ 2 ∷ 0 ∷ 3 ∷ [])
+    -- the orders of a ribbon's marks: of none, of a right, a down and a free first step, of 20 marks, and 0 of more
+    ∷ case (map ordersGiven ([] ∷ (0 ∷ []) ∷ (1 ∷ []) ∷ (2 ∷ []) ∷ (2 ∷ 2 ∷ []) ∷ f4323 ∷ [])) (1 ∷ 1 ∷ 0 ∷ 1 ∷ 2 ∷ 5 ∷ [])
+    ∷ case (ordersGiven (replicate 20 0) ∷ ordersGiven (replicate 21 0) ∷ []) (1 ∷ 0 ∷ [])
+    -- a cell taken out: those after it, up to the last place, move one back; none where the place is the last, or that is past 19; of marks a free step
+    ∷ case (pulled 1 2 (5 ∷ 6 ∷ 7 ∷ 8 ∷ []) ++ pulled 2 2 (5 ∷ 6 ∷ 7 ∷ []) ++ pulled 0 20 (5 ∷ 6 ∷ 7 ∷ [])) (5 ∷ 7 ∷ 7 ∷ 8 ∷ 5 ∷ 6 ∷ 7 ∷ 5 ∷ 6 ∷ 7 ∷ [])
+    ∷ case (pulledFree 1 2 (5 ∷ 6 ∷ 7 ∷ 8 ∷ []) ++ pulledFree 0 20 (5 ∷ 6 ∷ []) ++ pulledFree 2 20 (5 ∷ 6 ∷ [])) (5 ∷ 2 ∷ 7 ∷ 8 ∷ 2 ∷ 6 ∷ 5 ∷ 6 ∷ [])
+    -- the cell with which the word of a number goes on, and what is left of the number; past the last where there is none, or for more than 20 cells
+    ∷ case (going (cellOfNumber 4 f4323 0) ++ going (cellOfNumber 4 f4323 2) ++ going (cellOfNumber 4 f4323 3)) (1 ∷ 0 ∷ 1 ∷ 2 ∷ 3 ∷ 0 ∷ [])
+    ∷ case (going (cellOfNumber 4 f4323 7) ++ going (cellOfNumber 0 [] 7) ++ going (cellOfNumber 21 [] 7)) (4 ∷ 2 ∷ 0 ∷ 7 ∷ 21 ∷ 7 ∷ [])
+    -- the cell of a letter, and how many words come before; the same where there is none
+    ∷ case (going (cellOfLetter 4 x4323 f4323 3) ++ going (cellOfLetter 4 x4323 f4323 4)) (1 ∷ 0 ∷ 3 ∷ 3 ∷ [])
+    ∷ case (going (cellOfLetter 4 x4323 f4323 2) ++ going (cellOfLetter 21 [] [] 2)) (4 ∷ 5 ∷ 21 ∷ 0 ∷ [])
     -- a filling by counts and a set: the letters, then the marks; both as they were where one is too short, or the rank is above 64
     ∷ case (filling 3 1 (9 ∷ 9 ∷ 9 ∷ 9 ∷ []) (8 ∷ 8 ∷ 8 ∷ 8 ∷ [])) (1 ∷ 3 ∷ 3 ∷ 9 ∷ 0 ∷ 1 ∷ 0 ∷ 8 ∷ [])
     ∷ case (filling 3 6 (9 ∷ 9 ∷ 9 ∷ []) (8 ∷ 8 ∷ 8 ∷ [])) (1 ∷ 3 ∷ 3 ∷ 0 ∷ 0 ∷ 0 ∷ [])

@@ -43,10 +43,18 @@ use Rattle.run_scans.specs.declared.line.RunLine.the-variants as runs
 use Rattle.operators.specs.Changes.{moveLettersRun, repeatLettersSays}
 use Rattle.operators.specs.Targets.{moveBy}
 use Rattle.operators.specs.declared.changes.Side.the-variants.{Lowering, Raising}
+use Rattle.classes.specs.Tables.{sameTables}
+use Rattle.weights.specs.Tables.{compareTables}
+use Rattle.numbering.specs.Orders.{orders}
+use Rattle.ribbon_orders.specs.Rows.{ordersGiven}
+use Rattle.taken_cells.specs.Choices.{ordersLeft}
+use Rattle.taken_cells.specs.Removal.{pulled}
+use Rattle.taken_cells.specs.Numbered.{cellOfNumber}
+use Rattle.taken_cells.specs.Lettered.{cellOfLetter}
 use Rattle.examples.specs.Shared.{sharedCases}
 
 pub shared-pinned : map (λ (c : Case). c .meaning) sharedCases ≡ map (λ (c : Case). c .document) sharedCases
-unfolding sharedCases countsOf countsJudged pushed wholeCells wholeRuns begunRuns readRunItem readHead readCounted number junctionSet rankJudged lengthJudged usedJudged lettersJudged risingJudged marksJudged entriesJudged recordingJudged indexJudged inversionJudged letterJudged fullJudged roomJudged checksThen countGiven junctionGiven filled filledLetters filledRuns kept leadAfter nextCount layers moveLettersRun repeatLettersSays
+unfolding sharedCases countsOf countsJudged pushed wholeCells wholeRuns begunRuns readRunItem readHead readCounted number junctionSet rankJudged lengthJudged usedJudged lettersJudged risingJudged marksJudged entriesJudged recordingJudged indexJudged inversionJudged letterJudged fullJudged roomJudged checksThen countGiven junctionGiven filled filledLetters filledRuns kept leadAfter nextCount layers moveLettersRun repeatLettersSays sameTables compareTables orders ordersGiven ordersLeft pulled cellOfNumber cellOfLetter
 shared-pinned = refl
 
 pub sides-named : (i : ℕ) → (moveBy Raising i ≡ raise i) × (moveBy Lowering i ≡ lower i)
