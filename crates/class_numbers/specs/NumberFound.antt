@@ -18,7 +18,8 @@ use borrow.Author.Needs.{needs}
 use Rattle.hypoplactic.proofs.Theory.Pairs.{le-or-lt}
 use Rattle.numbering.specs.Orders.{choices, placeFrom, placeOf}
 use Rattle.taken_cells.specs.Lettered.{Met, cellOfLetter, met-told}
-use Rattle.taken_cells.specs.Removal.{free-told, marksWithout, pulled, pulled-long, pulled-told, pulledFree, without}
+use Rattle.taken_cells.specs.Removal.{free-told, marksWithout, pulled, pulled-long, pulled-told, pulledFree}
+use Rattle.windows.specs.Gaps.{without}
 
 -- The place of a word among those of a ribbon in as many first cells as it has letters.
 abbrev pub placeHeld : List ℕ → List ℕ → List ℕ → ℕ

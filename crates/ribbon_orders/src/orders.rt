@@ -52,8 +52,8 @@ fn sweep(mark: u8, row: &mut [u64])
     }
 }
 
-// How many orders at most 20 marks have with none of their cells before the one left of them: all of them, unless the first step goes down. 0 for more marks. Rows are summed before a step and never after the last one: the last row of 20 marks may add up to
-// 21 factorial, which is past 64 bits.
+// How many orders at most 20 marks have with none of their cells before the one left of them: all of them, unless the first step goes down. 0 for more marks.
+// Rows are summed before a step and never after the last one: the last row of 20 marks may add up to 21 factorial, which is past 64 bits.
 pub fn orders_of(marks: &[u8]) -> u64
     ensures { λ r. ⌜ r ≡ ordersGiven (now (marks .entry)) ⌝ }
 {

@@ -23,7 +23,8 @@ use Rattle.numbering.specs.Orders.{Choice, behind, choices, freed, mayEnter, ma
 use Rattle.numbering.proofs.Theory.Bounds.{orders-19}
 use Rattle.numbering.proofs.Theory.Counting.{length-freed}
 use Rattle.ribbon_orders.specs.Rows.{orders-some, ordersGiven}
-use Rattle.taken_cells.specs.Removal.{free-told, marksWithout, pulledFree, without}
+use Rattle.windows.specs.Gaps.{without}
+use Rattle.taken_cells.specs.Removal.{free-told, marksWithout, pulledFree}
 
 -- ---- choices by places
 

@@ -22,8 +22,9 @@ use mir.Val.{Fits}
 use borrow.Author.Needs.{needs}
 use borrow.Author.Tests.{eq-eqb, le-ltb, lt-ltb, ne-eqb}
 use Rattle.numbering.specs.Orders.{choices, orders, placeFrom, withIf}
+use Rattle.windows.specs.Gaps.{without}
 use Rattle.taken_cells.specs.Choices.{choiceAt, choices-places, choicesFrom, left-bound, mayGo, ordersLeft}
-use Rattle.taken_cells.specs.Removal.{marksWithout, without}
+use Rattle.taken_cells.specs.Removal.{marksWithout}
 
 -- ---- one cell
 

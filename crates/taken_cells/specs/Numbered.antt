@@ -17,8 +17,9 @@ use lib.Seq.{getD-take, length-take-le}
 use borrow.Author.Needs.{needs}
 use borrow.Author.Tests.{le-ltb, lt-ltb}
 use Rattle.numbering.specs.Orders.{Choice, choices, orders, withIf, wordFrom}
+use Rattle.windows.specs.Gaps.{without}
 use Rattle.taken_cells.specs.Choices.{choiceAt, choices-places, choicesFrom, mayGo, ordersLeft}
-use Rattle.taken_cells.specs.Removal.{marksWithout, without}
+use Rattle.taken_cells.specs.Removal.{marksWithout}
 
 abbrev pub soughtFrom : List ℕ → ℕ → ℕ → ℕ → ℕ × ℕ
 soughtFrom ms zero i k = (i, k)

@@ -1,6 +1,5 @@
 -- A cell taken out of lists and out of 20 bytes of which only the first count.
---     without p xs              the list without the element at place p
---     marksWithout p ms         the same of marks, with a free step across the gap
+--     marksWithout p ms         marks without the one at place p, with a free step across the gap
 --     pulled p e xs             20 bytes with the one at place p taken out of those up to place e: those after it, up to e, are one place back
 --     pulledFree p e ms         the same of marks, with a free step across the gap
 --     Pulling p e xs now i      the loop that moves bytes one back: those before i are moved
@@ -22,9 +21,7 @@ use lib.Seq.{drop-drop, drop-set-lt, getD-drop, length-take-le, take-append-seam
 use borrow.Author.Needs.{needs}
 use borrow.Author.Tests.{le-ltb, lt-ltb}
 use Rattle.numbering.specs.Orders.{freed}
-
-abbrev pub without : ℕ → List ℕ → List ℕ
-without p xs = take p xs ++ drop (suc p) xs
+use Rattle.windows.specs.Gaps.{without}
 
 abbrev pub marksWithout : ℕ → List ℕ → List ℕ
 marksWithout p ms = take p ms ++ freed (drop (suc p) ms)
