@@ -1,6 +1,6 @@
-"""Inputs and expected output of the program crates cases, word_operations, ribbon_operations and run_operations.
+"""Inputs and expected output of the program crates cases and operations.
 
-    python3 scripts/expected.py write    makes them: in crates/cases/ {data/*,args,stdout}, in the others {args,stdout}, from the calls in data/table
+    python3 scripts/expected.py write    makes them: in crates/cases/ {data/*,args,stdout}, in crates/operations/ {args,stdout}, from the calls in data/table
     python3 scripts/expected.py check    makes them in memory and says whether what stands in the repository is the same (exit status 1 if not), and halves
     python3 scripts/expected.py halves   whether the program's P lines are its former T and N lines (crates/cases/former), and all else as it was
 
@@ -18,8 +18,6 @@ from lines import program
 from operation_calls import came_of, table_of
 from program_inputs import program_inputs
 
-TABLES = ("word_operations", "ribbon_operations", "run_operations")
-
 
 def files_of_cases():
     """Every input under its name, the names as arguments, and for each its name and what the program prints."""
@@ -30,14 +28,14 @@ def files_of_cases():
     return files
 
 
-def files_of_calls(crate):
-    """The name of a crate's table as the argument, and each of its lines with what came of it."""
-    return {"crates/%s/args" % crate: b"table\n", "crates/%s/stdout" % crate: "".join(map(came_of, table_of(crate))).encode()}
+def files_of_calls():
+    """The name of the table as the argument, and each of its lines with what came of it."""
+    return {"crates/operations/args": b"table\n", "crates/operations/stdout": "".join(map(came_of, table_of())).encode()}
 
 
 def standing():
     """The files that stand in the repository where expected ones belong."""
-    names = ["crates/%s/%s" % (crate, name) for crate in ("cases", *TABLES) for name in ("args", "stdout")]
+    names = ["crates/%s/%s" % (crate, name) for crate in ("cases", "operations") for name in ("args", "stdout")]
     names += ["crates/cases/data/" + name for name in sorted(os.listdir(os.path.join(ROOT, "crates/cases/data")))]
     found = {}
     for name in names:
@@ -69,9 +67,7 @@ def check(expected):
 
 
 def main():
-    expected = files_of_cases()
-    for crate in TABLES:
-        expected.update(files_of_calls(crate))
+    expected = {**files_of_cases(), **files_of_calls()}
     if sys.argv[1:] == ["write"]:
         write(expected)
     elif sys.argv[1:] == ["check"]:

@@ -44,7 +44,7 @@ def converted(tableau, recording):
 
 def halves():
     """Whether each P line is the former T line and the former N line, byte for byte, and what the converter gives for these, and all else as it was; and
-    whether the table of ribbon_operations asks the converter for the former lines."""
+    whether the table of operations asks the converter for the former lines."""
     former, now = printed("former"), printed("stdout")
     wrong = [name for name in former if name not in now]
     wrong += [name for name, case in now.items() if name not in former and accepted(case)]
@@ -53,7 +53,7 @@ def halves():
     wrong += [name for name, was, (pair, *rest) in words if not pair.startswith(b"P,") or cut(pair) + rest != was or converted(*was[:2]) != pair]
     refused = [(name, was, case) for name, was, case in both if not (accepted(was) and accepted(case))]
     wrong += [name for name, was, case in refused if was != case]
-    asked = table_of("ribbon_operations")
+    asked = table_of()
     wrong += [call for call in former_calls() if call not in asked]
     for name in wrong:
         print("not as before: " + name)

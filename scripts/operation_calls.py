@@ -1,10 +1,10 @@
-"""The tables of the crates word_operations, ribbon_operations and run_operations: one call to a line, its notation, and what each call must print.
+"""The table of the crate operations: one call to a line, its notation, and what each call must print.
 
 A line has the operation's name, its numbers, then its lists, parted by single spaces; but for that their order is the header's. A list is items parted by
 commas, an item a number, `v*k` for k times v, or `a-b` for the numbers from a to b; `-` is the empty list. A text stands as it is, with `$` for the line
 feed and `(t)*k` for k times t; `-` is the empty text. Letter counts are a list of up to 64 numbers, to which as many 0 are added as are missing. What came of
 the call follows after ` = `, and each lent list as it is afterwards after ` | `; of counts every number up to the last that is not 0, or `v*64` where all are
-equal. At the end of each table its program is asked for an operation that it does not know.
+equal. At the end of the calls on words, of those on tableaux and of those on C lines stands one of no operation.
 """
 import os
 import re
@@ -18,9 +18,9 @@ FUNCTIONS = header.functions_of(None)
 FUNCTIONS["look_once"] = FUNCTIONS.pop("look")
 
 
-def table_of(crate):
-    """The calls of a crate's table."""
-    with open(os.path.join(header.ROOT, "crates", crate, "data", "table")) as file:
+def table_of():
+    """The calls of the table."""
+    with open(os.path.join(header.ROOT, "crates/operations/data/table")) as file:
         return file.read().splitlines()
 
 

@@ -12,7 +12,7 @@ from page_texts import CRATES, PROMISES, code, find, paths, promises, prose, row
 
 # Programs, and what only they use: no promise of theirs has a row.
 PROGRAMS = {
-    "ribbon", "cases", "word_operations", "ribbon_operations", "run_operations", "brute", "brute_moves", "brute_windows", "notation",
+    "ribbon", "cases", "operations", "brute", "brute_moves", "brute_windows", "notation",
     "plain_words",
 }
 # How a name stands in a text; a function with its contract, if it has one; a theorem with its type; how a definition is declared.

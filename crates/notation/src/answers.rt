@@ -1,31 +1,36 @@
 // Answers, printed: `gives` and the values, or `refused`, number and place.
 use crate::printing::print;
 use crate::printing::print_number;
+use refusals::answers::Cell;
 use refusals::answers::Class;
+use refusals::answers::Junctions;
 use refusals::answers::Move;
 use refusals::answers::Numbered;
+use refusals::answers::PairLine;
 use refusals::answers::Repeat;
 use refusals::answers::TableauLine;
+use refusals::answers::Used;
 use refusals::answers::Verdict;
 use refusals::answers::Weights;
+use refusals::answers::WordLine;
 use refusals::answers::Written;
 use refusals::refusal::Refusal;
 use refusals::refusal::number_and_place;
 
 // A call that gives one value.
-pub fn print_gives(value: usize) {
+fn print_gives(value: usize) {
     print(b"gives");
     print_number(b' ', value);
 }
 
 // A call that gives two values.
-pub fn print_gives_two(value: usize, other: usize) {
+fn print_gives_two(value: usize, other: usize) {
     print_gives(value);
     print_number(b' ', other);
 }
 
 // A refusal: number and place.
-pub fn print_refusal(refusal: Refusal) {
+fn print_refusal(refusal: Refusal) {
     let returned = number_and_place(refusal);
     print(b"refused");
     print_number(b' ', returned.number);
@@ -64,11 +69,55 @@ pub fn print_written(answer: Written) {
     }
 }
 
+// The new used count.
+pub fn print_used(answer: Used) {
+    match answer {
+        Used::Cells(used) => print_gives(used),
+        Used::Refused(refusal) => print_refusal(refusal),
+    }
+}
+
+// The junction set, then the rows.
+pub fn print_junctions(answer: Junctions) {
+    match answer {
+        Junctions::Found(set, rows) => print_gives_two(set as usize, rows),
+        Junctions::Refused(refusal) => print_refusal(refusal),
+    }
+}
+
+// Rank and number of letters of a word that is read.
+pub fn print_word(answer: WordLine) {
+    match answer {
+        WordLine::Word(rank, count) => print_gives_two(rank, count),
+        WordLine::Refused(refusal) => print_refusal(refusal),
+    }
+}
+
+// Rank and number of cells of a pair that is read.
+pub fn print_pair(answer: PairLine) {
+    match answer {
+        PairLine::Pair(rank, cells) => print_gives_two(rank, cells),
+        PairLine::Refused(refusal) => print_refusal(refusal),
+    }
+}
+
 // Rank and number of cells of a tableau that is read.
 pub fn print_tableau(answer: TableauLine) {
     match answer {
         TableauLine::Tableau(rank, cells) => print_gives_two(rank, cells),
         TableauLine::Refused(refusal) => print_refusal(refusal),
+    }
+}
+
+// Letter, row and column; no value where there is no such cell.
+pub fn print_cell(answer: Cell) {
+    match answer {
+        Cell::Found(letter, row, column) => {
+            print_gives_two(letter as usize, row);
+            print_number(b' ', column);
+        }
+        Cell::NoSuchCell => print(b"gives"),
+        Cell::Refused(refusal) => print_refusal(refusal),
     }
 }
 

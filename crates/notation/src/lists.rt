@@ -144,18 +144,13 @@ fn bytes(is_text: bool, list: &[u8], out: &mut [u8]) -> usize
     i
 }
 
-// Whether a kind is that of a text: t, or u for a second one.
-fn names_text(kind: u8) -> bool {
-    kind == b't' || kind == b'u'
-}
-
 // The bytes of a line's argument of one of two kinds, the first perhaps that of a text, by the kinds of all its arguments; answers how many there are, none
-// where it has no such argument.
+// where it has no such argument. The kinds of texts, t and u for a second one, are the last in the alphabet.
 pub fn bytes_of(kinds: &[u8], line: &[u8], kind: u8, other: u8, out: &mut [u8]) -> usize
     ensures { λ r. ⌜ r ≤ length (now (out .exit)) ⌝ }
 {
     let list = field(line, argument(kinds, kind, other));
-    bytes(names_text(kind) && has(kinds, kind), list, out)
+    bytes(b't' <= kind && has(kinds, kind), list, out)
 }
 
 // A number as a 16-bit element.

@@ -78,25 +78,18 @@ fn checksum(list: &[u16]) -> u16 {
     sum
 }
 
-// How many bytes of a text are printed.
-fn shown_of_text(list: &[u16]) -> usize
-    ensures { λ r. ⌜ r ≤ length (now (list .entry)) ⌝ }
-{
-    if list.len() <= 64 {
-        return list.len();
-    }
-    32
-}
-
 // How many elements of a list or a text are printed: one where all of many are equal.
 fn shown(text: bool, list: &[u16]) -> usize
     ensures { λ r. ⌜ r ≤ length (now (list .entry)) ⌝ }
 {
-    if text {
-        return shown_of_text(list);
-    }
     if list.len() <= 16 {
         return list.len();
+    }
+    if text {
+        if list.len() <= 64 {
+            return list.len();
+        }
+        return 32;
     }
     if all_equal(list) {
         return 1;
@@ -157,14 +150,14 @@ fn print_bytes(text: bool, list: &[u8]) {
 }
 
 // Lent bytes after the call, where the operation has an argument of the kind, by the kinds of all; of the kind T as a text.
-pub fn print_lent_bytes(kinds: &[u8], kind: u8, list: &[u8]) {
+fn print_lent_bytes(kinds: &[u8], kind: u8, list: &[u8]) {
     if has(kinds, kind) {
         print_bytes(kind == b'T', list);
     }
 }
 
 // The same for 16-bit elements: an argument of the kind E.
-pub fn print_lent_entries(kinds: &[u8], list: &[u16]) {
+fn print_lent_entries(kinds: &[u8], list: &[u16]) {
     if has(kinds, b'E') {
         print_list(false, list);
     }
@@ -184,12 +177,13 @@ fn without_zeros(list: &[u16]) -> usize
     count
 }
 
-// Letter counts after the call. There is at least one.
-fn print_counts(list: &[u16]) {
-    print(b" | ");
-    if list.len() < 1 {
-        return print_byte(b'-');
+// The same for letter counts: an argument of the kind K.
+fn print_lent_counts(kinds: &[u8], counts: [u16; 64]) {
+    if !has(kinds, b'K') {
+        return;
     }
+    print(b" | ");
+    let list = &counts[0..64];
     if all_equal(list) {
         print_first(false, list, 1);
         return print_number(b'*', list.len());
@@ -197,9 +191,17 @@ fn print_counts(list: &[u16]) {
     print_first(false, list, without_zeros(list));
 }
 
-// The same for letter counts: an argument of the kind K.
-pub fn print_lent_counts(kinds: &[u8], counts: [u16; 64]) {
-    if has(kinds, b'K') {
-        print_counts(&counts[0..64]);
-    }
+// All that is lent, after the call: letters, or a text in their place, marks, entries and counts.
+pub fn print_lent(
+    kinds: &[u8],
+    letters: &[u8],
+    marks: &[u8],
+    entries: &[u16],
+    counts: [u16; 64],
+) {
+    print_lent_bytes(kinds, b'L', letters);
+    print_lent_bytes(kinds, b'T', letters);
+    print_lent_bytes(kinds, b'M', marks);
+    print_lent_entries(kinds, entries);
+    print_lent_counts(kinds, counts);
 }

@@ -1,9 +1,9 @@
--- `run_operations::answer_table` is safe and ends. Assumes nothing.
+-- `operations::answer_table` is safe and ends. Assumes nothing.
 use Prim.Native.Nat.{_-_}
 use lib.ListN.{length}
 use borrow.Author.Needs.{needs}
-use Rattle.run_operations.proofs.answer_table.Statement.{statement}
-use Rattle.run_operations.proofs.answer_table.Tie as tie
+use Rattle.operations.proofs.answer_table.Statement.{statement}
+use Rattle.operations.proofs.answer_table.Tie as tie
 
 abbrev Inv-loop : tie.InvT-loop
 Inv-loop table from₀ from = Unit {0}

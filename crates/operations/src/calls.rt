@@ -1,0 +1,233 @@
+// The calls, by the place of an operation in the list of names. Each takes the numbers of a line and its lists, and prints what came of it.
+use crate::two_tableaux::call_on_two;
+use class_numbers::classes::class_number;
+use class_numbers::classes::class_size;
+use class_numbers::classes::class_word;
+use classes::two_words::same_class;
+use columns::reading::column_reading;
+use conversions::former::convert_lines;
+use departures::departure::remove_oldest;
+use inverses::way_back::word_of_pair;
+use lines::runs::run_line_of_word;
+use lines::tableau::tableau_line_of_word;
+use notation::answers::print_cell;
+use notation::answers::print_class;
+use notation::answers::print_junctions;
+use notation::answers::print_move;
+use notation::answers::print_numbered;
+use notation::answers::print_pair;
+use notation::answers::print_repeat;
+use notation::answers::print_tableau;
+use notation::answers::print_used;
+use notation::answers::print_verdict;
+use notation::answers::print_weights;
+use notation::answers::print_word;
+use notation::answers::print_written;
+use notation::fields::field;
+use notation::fields::large_number;
+use notation::fields::number;
+use operators::moves::lower_count_word;
+use operators::moves::lower_word;
+use operators::moves::raise_count_word;
+use operators::moves::raise_word;
+use pairs::insertion::insert_letter;
+use readers::pair::read_pair_line;
+use readers::tableau::read_tableau_line;
+use ribbons::pair::pair_of_word;
+use run_conversions::forms::runs_to_tableau;
+use run_conversions::forms::tableau_to_runs;
+use run_readers::runs::read_run_line;
+use tableaux::moves::lower_count_tableau;
+use tableaux::moves::lower_tableau;
+use tableaux::moves::raise_count_tableau;
+use tableaux::moves::raise_tableau;
+use validity::counted::check_counted_pair;
+use validity::counted::check_counted_tableau;
+use viewer::viewers::look_once;
+use weights::two_words::compare_weights;
+use word_readers::word::read_word_line;
+use words::junctions::junctions;
+use writers::line::write_junction_line;
+use writers::line::write_pair_line;
+use writers::line::write_run_line;
+use writers::line::write_tableau_line;
+use writers::line::write_word_line;
+
+// Questions about words, 0 to 5.
+fn ask_words(operation: usize, rank: usize, index: usize, a: &[u8], b: &[u8]) {
+    if operation == 0 {
+        return print_repeat(raise_count_word(rank, index, a));
+    }
+    if operation == 1 {
+        return print_repeat(lower_count_word(rank, index, a));
+    }
+    if operation == 2 {
+        return print_class(same_class(rank, a, index, b));
+    }
+    if operation == 3 {
+        return print_weights(compare_weights(rank, a, index, b));
+    }
+    if operation == 4 {
+        return print_junctions(junctions(rank, a));
+    }
+    print_numbered(class_number(rank, a))
+}
+
+// Questions about a tableau, 6 to 10, and about a pair, 11.
+fn ask_tableau(
+    operation: usize,
+    rank: usize,
+    index: usize,
+    a: &[u8],
+    b: &[u8],
+    entries: &[u16],
+    counts: &[u16; 64],
+) {
+    if operation == 6 {
+        return print_numbered(class_size(rank, a, b, counts));
+    }
+    if operation == 7 {
+        return print_repeat(raise_count_tableau(rank, index, a, b, counts));
+    }
+    if operation == 8 {
+        return print_repeat(lower_count_tableau(rank, index, a, b, counts));
+    }
+    if operation == 9 {
+        return print_cell(look_once(rank, a, b, index));
+    }
+    if operation == 10 {
+        return print_verdict(check_counted_tableau(rank, a, b, counts));
+    }
+    print_verdict(check_counted_pair(rank, a, b, entries, counts))
+}
+
+// Moves of a word, 12 and 13, and calls from 14 to 20 that are given a word or a text, and write a word or a line.
+fn call_on_word(operation: usize, rank: usize, index: usize, a: &[u8], out: &mut [u8]) {
+    if operation == 12 {
+        return print_move(raise_word(rank, index, out));
+    }
+    if operation == 13 {
+        return print_move(lower_word(rank, index, out));
+    }
+    if operation == 14 {
+        return print_word(read_word_line(a, out));
+    }
+    if operation == 15 {
+        return print_written(write_word_line(rank, a, out));
+    }
+    if operation == 16 {
+        return print_written(write_junction_line(rank, a, out));
+    }
+    if operation == 17 {
+        return print_written(tableau_line_of_word(rank, a, out));
+    }
+    if operation == 18 {
+        return print_written(run_line_of_word(rank, a, out));
+    }
+    if operation == 19 {
+        return print_written(tableau_to_runs(a, out));
+    }
+    print_written(runs_to_tableau(a, out))
+}
+
+// Calls from 21 to 27 that are given two texts, a tableau or a pair, and write a word or a line. The second number of the last is that of a word.
+fn call_on_tableau(
+    operation: usize,
+    line: &[u8],
+    a: &[u8],
+    b: &[u8],
+    entries: &[u16],
+    counts: &[u16; 64],
+    out: &mut [u8],
+) {
+    let rank = number(line, 1);
+    if operation == 21 {
+        return print_written(convert_lines(a, b, out));
+    }
+    if operation == 22 {
+        return print_written(write_run_line(rank, a, b, out));
+    }
+    if operation == 23 {
+        return print_written(write_tableau_line(rank, a, b, out));
+    }
+    if operation == 24 {
+        return print_written(write_pair_line(rank, a, b, entries, out));
+    }
+    if operation == 25 {
+        return print_written(column_reading(rank, a, b, counts, out));
+    }
+    if operation == 26 {
+        return print_written(word_of_pair(rank, a, b, entries, counts, out));
+    }
+    let asked = large_number(field(line, 2)) as u64;
+    print_written(class_word(rank, a, b, counts, asked, out))
+}
+
+// Calls from 28 to 35, which write into letters and counts, into marks, or into entries too.
+fn call_on_parts(
+    operation: usize,
+    line: &[u8],
+    a: &[u8],
+    letters: &mut [u8],
+    marks: &mut [u8],
+    entries: &mut [u16],
+    counts: &mut [u16; 64],
+) {
+    let rank = number(line, 1);
+    let index = number(line, 2);
+    if operation == 28 {
+        return print_move(raise_tableau(rank, index, letters, a, counts));
+    }
+    if operation == 29 {
+        return print_move(lower_tableau(rank, index, letters, a, counts));
+    }
+    if operation == 30 {
+        return print_tableau(read_tableau_line(a, letters, marks, counts));
+    }
+    if operation == 31 {
+        return print_tableau(read_run_line(a, letters, marks, counts));
+    }
+    if operation == 32 {
+        return print_pair(read_pair_line(a, letters, marks, entries, counts));
+    }
+    if operation == 33 {
+        return print_written(pair_of_word(rank, a, letters, marks, entries, counts));
+    }
+    if operation == 34 {
+        let letter = number(line, 3);
+        return print_used(insert_letter(rank, index, letter, letters, marks, entries, counts));
+    }
+    print_used(remove_oldest(rank, index, letters, marks, entries, counts))
+}
+
+// Any call.
+pub(crate) fn call(
+    operation: usize,
+    kinds: &[u8],
+    line: &[u8],
+    a: &[u8],
+    b: &[u8],
+    letters: &mut [u8],
+    marks: &mut [u8],
+    entries: &mut [u16],
+    counts: &mut [u16; 64],
+) {
+    let rank = number(line, 1);
+    let index = number(line, 2);
+    if operation < 6 {
+        return ask_words(operation, rank, index, a, b);
+    }
+    if operation < 12 {
+        return ask_tableau(operation, rank, index, a, b, entries, counts);
+    }
+    if operation < 21 {
+        return call_on_word(operation, rank, index, a, letters);
+    }
+    if operation < 28 {
+        return call_on_tableau(operation, line, a, b, entries, counts, letters);
+    }
+    if operation < 36 {
+        return call_on_parts(operation, line, a, letters, marks, entries, counts);
+    }
+    call_on_two(operation, kinds, line, a, b, letters, marks, counts)
+}
