@@ -1,9 +1,9 @@
 // How often each answer came, in 16 numbers: moves made at 0, refused at the refusal's number, 9 to 11; words in two classes at 1, in one at 2; weights equal,
 // lower, higher and neither at 3 to 6; words of two ranks in two classes at 7, in one at 8; and at 15 the differences from the kernel.
 use crate::kernel::compare_on_tableau;
-use crate::kernel::compare_on_two;
-use crate::kernel::compare_on_two_tableaux;
 use crate::kernel::compare_on_word;
+use crate::kernel::compare_tableaux;
+use crate::kernel::compare_words;
 use crate::partners::partner;
 use crate::scanning::first_difference;
 use crate::scanning::plain_move;
@@ -90,56 +90,14 @@ pub(crate) fn count_moves(k: usize, word: Word, counts: [usize; 16]) -> [usize; 
     all
 }
 
-// The tableaux of two words, of which is so what is so of the words.
-fn compare_stored(one: Word, other: Word, class: usize, weights: usize) -> usize
-    requires { ⌜ (one .length ≤ 1024) × (other .length ≤ 1024) ⌝ }
-    ensures { λ r. ⌜ r ≤ 2 ⌝ }
-{
-    let word = one.letters;
-    let other_word = other.letters;
-    let first = plain_tableau(one.length, word);
-    let second = plain_tableau(other.length, other_word);
-    let letters = first.letters;
-    let marks = first.marks;
-    let counts = first.counts;
-    let other_letters = second.letters;
-    let other_marks = second.marks;
-    let other_counts = second.counts;
-    compare_on_two_tableaux(
-        one.rank,
-        one.length,
-        letters,
-        marks,
-        counts,
-        other.rank,
-        other.length,
-        other_letters,
-        other_marks,
-        other_counts,
-        class,
-        weights,
-    )
-}
-
-// One word beside another, and their tableaux.
+// One word beside another, and their tableaux, of which is so what is so of the words.
 fn count_two(one: Word, other: Word, counts: [usize; 16]) -> [usize; 16]
     requires { ⌜ (one .length ≤ 1024) × (other .length ≤ 1024) ⌝ }
 {
     let class = plain_class(one, other);
     let weights = plain_weights(one, other);
-    let letters = one.letters;
-    let other_letters = other.letters;
-    let found = compare_on_two(
-        one.rank,
-        one.length,
-        letters,
-        other.rank,
-        other.length,
-        other_letters,
-        class,
-        weights,
-    );
-    let stored = compare_stored(one, other, class, weights);
+    let found = compare_words(one, other, class, weights);
+    let stored = compare_tableaux(one, other, class, weights);
     let all = counted(3 + weights, 0, counted(1 + class, found + stored, counts));
     if one.rank == other.rank {
         return all;

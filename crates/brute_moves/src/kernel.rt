@@ -5,10 +5,12 @@ use classes::two_words::same_class;
 use operators::changes::Side;
 use operators::moves::move_word;
 use operators::moves::repeat_word;
+use plain_words::Word;
 use plain_words::comparing::unlike;
 use plain_words::counts::unlike_counts;
 use plain_words::one_if;
 use plain_words::tableau::Tableau;
+use plain_words::tableau::plain_tableau;
 use refusals::answers::Class;
 use refusals::answers::Move;
 use refusals::answers::Repeat;
@@ -85,6 +87,25 @@ pub(crate) fn compare_on_word(
         + one_if(times_number(count) != times)
 }
 
+// 1 where the repeat count of a move on a tableau is another, else 0.
+fn unlike_times(
+    side: Side,
+    rank: usize,
+    index: usize,
+    length: usize,
+    letters: [u8; 1024],
+    marks: [u8; 1024],
+    counts: [u16; 64],
+    times: usize,
+) -> usize
+    requires { ⌜ length ≤ 1024 ⌝ }
+    ensures { λ r. ⌜ r ≤ 1 ⌝ }
+{
+    let a = &letters[0..length];
+    let b = &marks[0..length];
+    one_if(times_number(repeat_tableau(side, rank, index, a, b, &counts)) != times)
+}
+
 // A move on a tableau: the whole reply as one number (told), letters afterwards, marks, which stay, counts afterwards, and repeat count.
 pub(crate) fn compare_on_tableau(
     side: Side,
@@ -103,14 +124,6 @@ pub(crate) fn compare_on_tableau(
 {
     let mut changed = letters;
     let mut recounted = counts;
-    let repeats = repeat_tableau(
-        side,
-        rank,
-        index,
-        &letters[0..length],
-        &marks[0..length],
-        &counts,
-    );
     let made = move_tableau(
         side,
         rank,
@@ -126,96 +139,60 @@ pub(crate) fn compare_on_tableau(
         + unlike(changed, own_letters)
         + unlike(marks, own_marks)
         + unlike_counts(recounted, own_counts)
-        + one_if(times_number(repeats) != times)
+        + unlike_times(side, rank, index, length, letters, marks, counts, times)
+}
+
+// The first bytes of an array.
+fn first_bytes(bytes: &[u8; 1024], count: usize) -> &[u8]
+    requires { ⌜ count ≤ 1024 ⌝ }
+{
+    let all: &[u8] = bytes;
+    &all[0..count]
 }
 
 // Class and weights of two words.
-pub(crate) fn compare_on_two(
-    rank: usize,
-    length: usize,
-    word: [u8; 1024],
-    other_rank: usize,
-    other_length: usize,
-    other: [u8; 1024],
-    class: usize,
-    weights: usize,
-) -> usize
-    requires { ⌜ (length ≤ 1024) × («other_length» ≤ 1024) ⌝ }
+pub(crate) fn compare_words(one: Word, other: Word, class: usize, weights: usize) -> usize
+    requires { ⌜ (one .length ≤ 1024) × (other .length ≤ 1024) ⌝ }
     ensures { λ r. ⌜ r ≤ 2 ⌝ }
 {
-    let one = &word[0..length];
-    let two = &other[0..other_length];
-    let told = same_class(rank, one, other_rank, two);
-    let compared = compare_weights(rank, one, other_rank, two);
+    let letters = one.letters;
+    let other_letters = other.letters;
+    let a = first_bytes(&letters, one.length);
+    let c = first_bytes(&other_letters, other.length);
+    let told = same_class(one.rank, a, other.rank, c);
+    let compared = compare_weights(one.rank, a, other.rank, c);
     one_if(class_number(told) != class) + one_if(weights_number(compared) != weights)
 }
 
-// Class and weights of two tableaux, from their counts.
-fn compare_tableaux(
-    rank: usize,
-    letters: &[u8],
-    marks: &[u8],
-    counts: &[u16; 64],
-    other_rank: usize,
-    other_letters: &[u8],
-    other_marks: &[u8],
-    other_counts: &[u16; 64],
-    class: usize,
-    weights: usize,
-) -> usize
+// The same of their tableaux, from letter counts.
+pub(crate) fn compare_tableaux(one: Word, other: Word, class: usize, weights: usize) -> usize
+    requires { ⌜ (one .length ≤ 1024) × (other .length ≤ 1024) ⌝ }
     ensures { λ r. ⌜ r ≤ 2 ⌝ }
 {
-    let told = same_class_of_tableaux(
-        rank,
-        letters,
-        marks,
-        counts,
-        other_rank,
-        other_letters,
-        other_marks,
-        other_counts,
-    );
+    let word = one.letters;
+    let other_word = other.letters;
+    let first = plain_tableau(one.length, word);
+    let second = plain_tableau(other.length, other_word);
+    let letters = first.letters;
+    let marks = first.marks;
+    let counts = first.counts;
+    let other_letters = second.letters;
+    let other_marks = second.marks;
+    let other_counts = second.counts;
+    let a = first_bytes(&letters, one.length);
+    let b = first_bytes(&marks, one.length);
+    let c = first_bytes(&other_letters, other.length);
+    let d = first_bytes(&other_marks, other.length);
+    let told = same_class_of_tableaux(one.rank, a, b, &counts, other.rank, c, d, &other_counts);
     let compared = compare_weights_of_tableaux(
-        rank,
-        letters,
-        marks,
-        counts,
-        other_rank,
-        other_letters,
-        other_marks,
-        other_counts,
+        one.rank,
+        a,
+        b,
+        &counts,
+        other.rank,
+        c,
+        d,
+        &other_counts,
     );
     one_if(class_number(told) != class) + one_if(weights_number(compared) != weights)
-}
-
-// The same of tableaux in the first cells of arrays.
-pub(crate) fn compare_on_two_tableaux(
-    rank: usize,
-    length: usize,
-    letters: [u8; 1024],
-    marks: [u8; 1024],
-    counts: [u16; 64],
-    other_rank: usize,
-    other_length: usize,
-    other_letters: [u8; 1024],
-    other_marks: [u8; 1024],
-    other_counts: [u16; 64],
-    class: usize,
-    weights: usize,
-) -> usize
-    requires { ⌜ (length ≤ 1024) × («other_length» ≤ 1024) ⌝ }
-    ensures { λ r. ⌜ r ≤ 2 ⌝ }
-{
-    compare_tableaux(
-        rank,
-        &letters[0..length],
-        &marks[0..length],
-        &counts,
-        other_rank,
-        &other_letters[0..other_length],
-        &other_marks[0..other_length],
-        &other_counts,
-        class,
-        weights,
-    )
 }

@@ -13,7 +13,6 @@ use crate::counting::count_pair;
 use crate::spoiling::SPOILT;
 use crate::spoiling::spoilt_on_tableau;
 use crate::spoiling::spoilt_on_two;
-use crate::spoiling::spoilt_on_two_tableaux;
 use crate::spoiling::spoilt_on_word;
 use libc::STDOUT_FILENO;
 use plain_words::WORDS;
@@ -50,12 +49,16 @@ fn print_moves(counts: [usize; 16]) {
     print(b"moves refused with 11 ", counts[11]);
 }
 
-// How often each answer to two words came.
-fn print_pairs(counts: [usize; 16]) {
+// How often two words were of one class.
+fn print_classes(counts: [usize; 16]) {
     print(b"pairs of one class ", counts[2]);
     print(b"pairs of two classes ", counts[1]);
     print(b"pairs of two ranks and one class ", counts[8]);
     print(b"pairs of two ranks and two classes ", counts[7]);
+}
+
+// How often each answer to two weights came.
+fn print_weights(counts: [usize; 16]) {
     print(b"weights equal ", counts[3]);
     print(b"weights lower ", counts[4]);
     print(b"weights higher ", counts[5]);
@@ -67,10 +70,12 @@ fn main() {
     let counts = compare_all();
     print(b"words ", WORDS);
     print_moves(counts);
-    print_pairs(counts);
+    print_classes(counts);
+    print_weights(counts);
     print(b"differences ", counts[15]);
     print(b"spoilt ", SPOILT);
-    let on_words = spoilt_on_word() + spoilt_on_two();
-    let on_tableaux = spoilt_on_tableau() + spoilt_on_two_tableaux();
-    print(b"found ", on_words + on_tableaux);
+    print(
+        b"found ",
+        spoilt_on_word() + spoilt_on_tableau() + spoilt_on_two(),
+    );
 }

@@ -1,11 +1,12 @@
 // Answers of the second implementation spoilt on purpose, one at a time, to see that the comparison with the kernel finds each: of moves and repeat counts,
 // of two words and of two tableaux.
 use crate::kernel::compare_on_tableau;
-use crate::kernel::compare_on_two;
-use crate::kernel::compare_on_two_tableaux;
 use crate::kernel::compare_on_word;
+use crate::kernel::compare_tableaux;
+use crate::kernel::compare_words;
 use crate::scanning::Moved;
 use operators::changes::Side;
+use plain_words::Word;
 use plain_words::comparing::turned;
 use plain_words::counts::turned_counts;
 use plain_words::one_if;
@@ -108,57 +109,27 @@ pub(crate) fn spoilt_on_tableau() -> usize
         + one_if(times == 1)
 }
 
-// 3243 beside 4323 at rank 4, which are of one class: class and weights; and the class where 4323 has rank 6.
-pub(crate) fn spoilt_on_two() -> usize
-    ensures { λ r. ⌜ r ≤ 3 ⌝ }
-{
-    let one = word_of(12, 0);
-    let other = word_of(0, 0);
-    let letters = one.letters;
-    let other_letters = other.letters;
-    let class = compare_on_two(4, 4, letters, 4, 4, other_letters, 0, 0);
-    let weights = compare_on_two(4, 4, letters, 4, 4, other_letters, 1, 1);
-    let of_ranks = compare_on_two(4, 4, letters, 6, 4, other_letters, 0, 0);
-    one_if(class == 1) + one_if(weights == 1) + one_if(of_ranks == 1)
-}
-
-// The differences for their tableaux, the second at a rank, from a class and weights.
-fn spoilt_stored(other_rank: usize, class: usize, weights: usize) -> usize
+// How many of two comparisons find a class or weights that are wrong for 3243 of rank 4 beside 4323 of a rank, which are of one class: that of the words and
+// that of their tableaux.
+fn spoilt_beside(rank: usize, class: usize, weights: usize) -> usize
     ensures { λ r. ⌜ r ≤ 2 ⌝ }
 {
     let one = word_of(12, 0);
-    let other = word_of(0, 0);
-    let word = one.letters;
-    let other_word = other.letters;
-    let first = plain_tableau(4, word);
-    let second = plain_tableau(4, other_word);
-    let letters = first.letters;
-    let marks = first.marks;
-    let counts = first.counts;
-    let other_letters = second.letters;
-    let other_marks = second.marks;
-    let other_counts = second.counts;
-    compare_on_two_tableaux(
-        4,
-        4,
+    let known = word_of(0, 0);
+    let letters = known.letters;
+    let other = Word {
+        rank,
+        length: known.length,
         letters,
-        marks,
-        counts,
-        other_rank,
-        4,
-        other_letters,
-        other_marks,
-        other_counts,
-        class,
-        weights,
-    )
+        state: 0,
+    };
+    one_if(compare_words(one, other, class, weights) == 1)
+        + one_if(compare_tableaux(one, other, class, weights) == 1)
 }
 
-// The same of their tableaux.
-pub(crate) fn spoilt_on_two_tableaux() -> usize
-    ensures { λ r. ⌜ r ≤ 3 ⌝ }
+// Class and weights at rank 4, and the class where 4323 has rank 6.
+pub(crate) fn spoilt_on_two() -> usize
+    ensures { λ r. ⌜ r ≤ 6 ⌝ }
 {
-    one_if(spoilt_stored(4, 0, 0) == 1)
-        + one_if(spoilt_stored(4, 1, 1) == 1)
-        + one_if(spoilt_stored(6, 0, 0) == 1)
+    spoilt_beside(4, 0, 0) + spoilt_beside(4, 1, 1) + spoilt_beside(6, 0, 0)
 }
