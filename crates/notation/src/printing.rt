@@ -192,13 +192,7 @@ fn print_lent_counts(kinds: &[u8], counts: [u16; 64]) {
 }
 
 // All that is lent, after the call: letters, or a text in their place, marks, entries and counts.
-pub fn print_lent(
-    kinds: &[u8],
-    letters: &[u8],
-    marks: &[u8],
-    entries: &[u16],
-    counts: [u16; 64],
-) {
+pub fn print_lent(kinds: &[u8], letters: &[u8], marks: &[u8], entries: &[u16], counts: [u16; 64]) {
     print_lent_bytes(kinds, b'L', letters);
     print_lent_bytes(kinds, b'T', letters);
     print_lent_bytes(kinds, b'M', marks);

@@ -101,7 +101,7 @@ fn ask_tableau(
     print_verdict(check_counted_pair(rank, a, b, entries, counts))
 }
 
-// Moves of a word, 12 and 13, and calls from 14 to 20 that are given a word or a text, and write a word or a line.
+// Moves of a word, 12 and 13, a W line read, 14, and a word's W line and J line, 15 and 16.
 fn call_on_word(operation: usize, rank: usize, index: usize, a: &[u8], out: &mut [u8]) {
     if operation == 12 {
         return print_move(raise_word(rank, index, out));
@@ -115,9 +115,11 @@ fn call_on_word(operation: usize, rank: usize, index: usize, a: &[u8], out: &mut
     if operation == 15 {
         return print_written(write_word_line(rank, a, out));
     }
-    if operation == 16 {
-        return print_written(write_junction_line(rank, a, out));
-    }
+    print_written(write_junction_line(rank, a, out))
+}
+
+// Calls from 17 to 20, which write a T line or a C line for a word or a text.
+fn call_on_line(operation: usize, rank: usize, a: &[u8], out: &mut [u8]) {
     if operation == 17 {
         return print_written(tableau_line_of_word(rank, a, out));
     }
@@ -163,8 +165,30 @@ fn call_on_tableau(
     print_written(class_word(rank, a, b, counts, asked, out))
 }
 
-// Calls from 28 to 35, which write into letters and counts, into marks, or into entries too.
-fn call_on_parts(
+// Calls from 28 to 31, which write into letters and counts, or into marks too.
+fn call_on_cells(
+    operation: usize,
+    rank: usize,
+    index: usize,
+    a: &[u8],
+    letters: &mut [u8],
+    marks: &mut [u8],
+    counts: &mut [u16; 64],
+) {
+    if operation == 28 {
+        return print_move(raise_tableau(rank, index, letters, a, counts));
+    }
+    if operation == 29 {
+        return print_move(lower_tableau(rank, index, letters, a, counts));
+    }
+    if operation == 30 {
+        return print_tableau(read_tableau_line(a, letters, marks, counts));
+    }
+    print_tableau(read_run_line(a, letters, marks, counts))
+}
+
+// Calls from 32 to 35, which write into entries too. The third number of a line is that of a letter.
+fn call_on_pair(
     operation: usize,
     line: &[u8],
     a: &[u8],
@@ -175,18 +199,6 @@ fn call_on_parts(
 ) {
     let rank = number(line, 1);
     let index = number(line, 2);
-    if operation == 28 {
-        return print_move(raise_tableau(rank, index, letters, a, counts));
-    }
-    if operation == 29 {
-        return print_move(lower_tableau(rank, index, letters, a, counts));
-    }
-    if operation == 30 {
-        return print_tableau(read_tableau_line(a, letters, marks, counts));
-    }
-    if operation == 31 {
-        return print_tableau(read_run_line(a, letters, marks, counts));
-    }
     if operation == 32 {
         return print_pair(read_pair_line(a, letters, marks, entries, counts));
     }
@@ -220,14 +232,20 @@ pub(crate) fn call(
     if operation < 12 {
         return ask_tableau(operation, rank, index, a, b, entries, counts);
     }
-    if operation < 21 {
+    if operation < 17 {
         return call_on_word(operation, rank, index, a, letters);
+    }
+    if operation < 21 {
+        return call_on_line(operation, rank, a, letters);
     }
     if operation < 28 {
         return call_on_tableau(operation, line, a, b, entries, counts, letters);
     }
+    if operation < 32 {
+        return call_on_cells(operation, rank, index, a, letters, marks, counts);
+    }
     if operation < 36 {
-        return call_on_parts(operation, line, a, letters, marks, entries, counts);
+        return call_on_pair(operation, line, a, letters, marks, entries, counts);
     }
     call_on_two(operation, kinds, line, a, b, letters, marks, counts)
 }
