@@ -92,7 +92,7 @@ def check_links():
                 yield page, "a link that leads nowhere: " + target
 
 
-def cases(*lists, crates=("hypoplactic", "examples", "products", "changed_places", "ranks", "numbering", "letter_counts", "former_lines", "windows")):
+def cases(*lists, crates=("outcomes", "examples", "products", "changed_places", "ranks", "numbering", "letter_counts", "former_lines", "windows")):
     """How many computed cases some lists have."""
     text = "".join(file.read_text() for crate in crates for file in CRATES.glob(crate + "/specs/*.antt"))
     bodies = [re.search(rf"^{name} =(.*?)(?=^\S|\Z)", text, re.M | re.S).group(1) for name in lists]

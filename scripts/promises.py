@@ -86,9 +86,9 @@ def numbers(text):
 
 
 def listed():
-    """The refusals that specs/ of hypoplactic, products, numbering, letter_counts, former_lines, windows and run_lines list for definitions: in headers, for a
+    """The refusals that specs/ of outcomes, products, numbering, letter_counts, former_lines, windows and run_lines list for definitions: in headers, for a
     reply with and without memory; in comments above judgements."""
-    specs, found, told = CRATES / "hypoplactic/specs", {}, ""
+    specs, found, told = CRATES / "outcomes/specs", {}, ""
     products, classes = CRATES / "products/specs/Products.antt", CRATES / "numbering/specs/Operations.antt"
     tableaux, former = CRATES / "letter_counts/specs/TwoTableaux.antt", CRATES / "former_lines/specs/Conversion.antt"
     windows, runs = CRATES / "windows/specs/Departures.antt", CRATES / "run_lines/specs/Operations.antt"

@@ -21,9 +21,9 @@ use lib.ListN.{length, getD}
 use borrow.Author.Needs.{needs}
 use borrow.Author.Tests.{le-ltb, leb-true}
 use Rattle.hypoplactic.specs.Words.{Within}
-use Rattle.hypoplactic.specs.Replies.{gives}
-use Rattle.hypoplactic.specs.Judgements.{lettersFrom, lettersJudged, outside}
-use Rattle.hypoplactic.proofs.Theory.FirstPlaces.{letters-scan}
+use Rattle.outcomes.specs.Replies.{gives}
+use Rattle.outcomes.specs.Judgements.{lettersFrom, lettersJudged, outside}
+use Rattle.outcomes.proofs.Theory.FirstPlaces.{letters-scan}
 use Rattle.hypoplactic.proofs.Theory.Pairs.{le-or-lt}
 use Rattle.refusals.specs.Scanning.{Scanning, scan-from, start, turn, found, none, fault-said, fault-decides}
 

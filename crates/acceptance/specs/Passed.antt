@@ -7,9 +7,9 @@ use mathlib.Core.Path.{_≡_, sym, ap, _∙_}
 use mathlib.Core.List.{List}
 use borrow.Author.Needs.{needs}
 use Rattle.hypoplactic.specs.Words.{Accepted}
-use Rattle.hypoplactic.specs.Replies.{passed, first}
-use Rattle.hypoplactic.specs.Judgements.{wordJudgements}
-use Rattle.hypoplactic.proofs.Theory.Judged.{word-judged}
+use Rattle.outcomes.specs.Replies.{passed, first}
+use Rattle.outcomes.specs.Judgements.{wordJudgements}
+use Rattle.outcomes.proofs.Theory.Judged.{word-judged}
 use Rattle.refusals.specs.Chains.{stops, goes-on}
 use Rattle.refusals.specs.Said.{saidVerdict}
 use Rattle.refusals.specs.declared.answers.Verdict.{Verdict}

@@ -6,7 +6,7 @@ use refusals::refusal::Refusal;
 ghost use Prim.Native.Nat.{_<_, max, min};
 ghost use mathlib.Core.Path.{_≡_};
 ghost use lib.ListN.{length};
-ghost use Rattle.hypoplactic.specs.Judgements.{lettersJudged};
+ghost use Rattle.outcomes.specs.Judgements.{lettersJudged};
 ghost use Rattle.acceptance.specs.Letters.{Confirmed, letterFault};
 ghost use Rattle.refusals.specs.Said.{saidFault, saidVerdict};
 

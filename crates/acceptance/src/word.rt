@@ -3,8 +3,8 @@ use crate::letters::check_letters;
 use refusals::answers::Verdict;
 use refusals::chains::check_limits;
 ghost use mathlib.Core.Path.{_≡_};
-ghost use Rattle.hypoplactic.specs.Replies.{first, passed};
-ghost use Rattle.hypoplactic.specs.Judgements.{wordJudgements};
+ghost use Rattle.outcomes.specs.Replies.{first, passed};
+ghost use Rattle.outcomes.specs.Judgements.{wordJudgements};
 ghost use Rattle.refusals.specs.Said.{saidVerdict};
 
 // 1, 2 and 4 of a word.

@@ -18,10 +18,10 @@ use mathlib.Core.Bool.{Bool, true, false}
 use lib.ListN.{length, take}
 use borrow.Author.Needs.{needs}
 use Rattle.hypoplactic.specs.Insertion.{Pair, pairWith}
-use Rattle.hypoplactic.specs.Replies.{Said, passed, orElse, first, refuseIf}
-use Rattle.hypoplactic.specs.Counts.{countsJudged}
-use Rattle.hypoplactic.specs.Judgements.{entriesJudged, fullJudged, lengthJudged, lettersFrom, lettersJudged, marksJudged, outside, pairRooms, rankJudged, recordingJudged, risingJudged, usedJudged}
-use Rattle.hypoplactic.proofs.Theory.Judgements.{length-judged, rank-judged, used-judged}
+use Rattle.outcomes.specs.Replies.{Said, passed, orElse, first, refuseIf}
+use Rattle.outcomes.specs.Counts.{countsJudged}
+use Rattle.outcomes.specs.Judgements.{entriesJudged, fullJudged, lengthJudged, lettersFrom, lettersJudged, marksJudged, outside, pairRooms, rankJudged, recordingJudged, risingJudged, usedJudged}
+use Rattle.outcomes.proofs.Theory.Judgements.{length-judged, rank-judged, used-judged}
 use Rattle.refusals.specs.Chains.{chained}
 use Rattle.refusals.specs.Running.{checksThen, checked-then, stops-there, goes-further, all-passing}
 use Rattle.refusals.specs.Said.{saidRefusal, saidVerdict}

@@ -17,8 +17,8 @@ ghost use mathlib.Core.Path.{_≡_};
 ghost use mathlib.Core.List.{[], _∷_, _++_};
 ghost use lib.ListN.{length};
 ghost use Rattle.hypoplactic.specs.Insertion.{pairWith};
-ghost use Rattle.hypoplactic.specs.Replies.{first, passed};
-ghost use Rattle.hypoplactic.specs.Judgements.{lettersJudged};
+ghost use Rattle.outcomes.specs.Replies.{first, passed};
+ghost use Rattle.outcomes.specs.Judgements.{lettersJudged};
 ghost use Rattle.refusals.specs.Said.{saidVerdict};
 ghost use Rattle.admissions.specs.Checks.{Sized, cellJudgements, insertChecks, roomJudgements, sizeJudgements, usedChecks};
 

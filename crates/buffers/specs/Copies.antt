@@ -14,7 +14,7 @@ use native.Mathlib.Omega.{arith}
 use lib.ListN.{length, getD, set, take, length-set}
 use lib.Seq.{length-take-le, take-all, take-length, take-suc}
 use borrow.Author.Needs.{needs}
-use Rattle.hypoplactic.specs.Replies.{written}
+use Rattle.outcomes.specs.Replies.{written}
 use Rattle.refusals.specs.Running.{written-element}
 
 abbrev pub copied : List ℕ → List ℕ → List ℕ

@@ -19,8 +19,8 @@ use writers::line::write_word_line;
 ghost use mathlib.Core.Path.{_≡_};
 ghost use Rattle.former_lines.specs.Conversion.{convertRun};
 ghost use Rattle.hypoplactic.specs.Insertion.{pairWith};
-ghost use Rattle.hypoplactic.specs.LineOperations.{eLineRun, jLineRun, pLineRun, tLineRun, tableauLineRun, wLineRun};
-ghost use Rattle.hypoplactic.specs.LineReadings.{answerRun, readPRun, readTRun, readWRun};
+ghost use Rattle.outcomes.specs.LineOperations.{eLineRun, jLineRun, pLineRun, tLineRun, tableauLineRun, wLineRun};
+ghost use Rattle.outcomes.specs.LineReadings.{answerRun, readPRun, readTRun, readWRun};
 ghost use Rattle.structs.specs.Replies.{countOf, lineOf, replied};
 
 // The tableau line of a word.

@@ -12,9 +12,9 @@ use validity::counted::check_counted_pair;
 use validity::tableau::check_pair;
 ghost use mathlib.Core.Path.{_≡_};
 ghost use Rattle.hypoplactic.specs.Insertion.{pairWith};
-ghost use Rattle.hypoplactic.specs.Judgements.{countedPairJudgements, pairJudgements};
-ghost use Rattle.hypoplactic.specs.Replies.{first, passed};
-ghost use Rattle.hypoplactic.specs.TableauOperations.{insertRun, wordRun};
+ghost use Rattle.outcomes.specs.Judgements.{countedPairJudgements, pairJudgements};
+ghost use Rattle.outcomes.specs.Replies.{first, passed};
+ghost use Rattle.outcomes.specs.TableauOperations.{insertRun, wordRun};
 ghost use Rattle.structs.specs.Replies.{countOf, doneOf, replied};
 ghost use Rattle.windows.specs.Departures.{departRun};
 

@@ -19,10 +19,10 @@ use validity::counted::check_counted_tableau;
 use validity::tableau::check_tableau;
 use viewer::viewers::look_once;
 ghost use mathlib.Core.Path.{_≡_};
-ghost use Rattle.hypoplactic.specs.Judgements.{countedJudgements, tableauJudgements};
+ghost use Rattle.outcomes.specs.Judgements.{countedJudgements, tableauJudgements};
 ghost use Rattle.hypoplactic.specs.Moves.{lowering, raising};
-ghost use Rattle.hypoplactic.specs.Replies.{first, gives, passed};
-ghost use Rattle.hypoplactic.specs.TableauOperations.{cellAt, lookSays, moveTableauRun, readingRun, repeatTableauSays};
+ghost use Rattle.outcomes.specs.Replies.{first, gives, passed};
+ghost use Rattle.outcomes.specs.TableauOperations.{cellAt, lookSays, moveTableauRun, readingRun, repeatTableauSays};
 ghost use Rattle.structs.specs.Replies.{cellOf, countOf, doneOf, moveOf, replied};
 
 // 1 to 6 of a tableau: the making of a ribbon viewer.

@@ -24,11 +24,11 @@ use weights::two_words::compare_weights;
 use words::junctions::junctions;
 ghost use mathlib.Core.Path.{_≡_};
 ghost use Rattle.hypoplactic.specs.Insertion.{pairWith};
-ghost use Rattle.hypoplactic.specs.Judgements.{wordJudgements};
+ghost use Rattle.outcomes.specs.Judgements.{wordJudgements};
 ghost use Rattle.hypoplactic.specs.Moves.{lowering, raising};
-ghost use Rattle.hypoplactic.specs.Replies.{first, passed};
-ghost use Rattle.hypoplactic.specs.TableauOperations.{pairRun};
-ghost use Rattle.hypoplactic.specs.WordOperations.{junctionSays, moveWordRun, repeatWordSays, sameClassSays, weightsSays};
+ghost use Rattle.outcomes.specs.Replies.{first, passed};
+ghost use Rattle.outcomes.specs.TableauOperations.{pairRun};
+ghost use Rattle.outcomes.specs.WordOperations.{junctionSays, moveWordRun, repeatWordSays, sameClassSays, weightsSays};
 ghost use Rattle.structs.specs.Replies.{classOf, countOf, doneOf, junctionOf, moveOf, orderOf, replied};
 
 // 1, 2 and 4 of a word.

@@ -6,10 +6,10 @@ use Prim.Native.Nat.{ℕ}
 use mathlib.Core.List.{List, [], _∷_, _++_}
 use Rattle.hypoplactic.specs.Insertion.{lettersOf, marksOf, recordingOf}
 use Rattle.hypoplactic.specs.Moves.{Move}
-use Rattle.hypoplactic.specs.Counts.{countsOf}
-use Rattle.hypoplactic.specs.WordOperations.{moveWordRun}
-use Rattle.hypoplactic.specs.TableauOperations.{moveTableauRun}
-use Rattle.hypoplactic.specs.Starred.{Case, case, counts, lower, numbers, outcome, outcomes, raise, r12446553275, w12446553275}
+use Rattle.outcomes.specs.Counts.{countsOf}
+use Rattle.outcomes.specs.WordOperations.{moveWordRun}
+use Rattle.outcomes.specs.TableauOperations.{moveTableauRun}
+use Rattle.outcomes.specs.Starred.{Case, case, counts, lower, numbers, outcome, outcomes, raise, r12446553275, w12446553275}
 
 abbrev pub besideOf : ℕ → Move → List ℕ → List ℕ
 besideOf n m w = numbers ((moveWordRun n m w) .0) ++ numbers ((moveTableauRun n m (lettersOf w) (marksOf w) (countsOf w)) .0) ++ recordingOf w

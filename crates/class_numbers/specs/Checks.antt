@@ -5,7 +5,7 @@
 use Prim.Native.Nat.{ℕ}
 use mathlib.Core.Path.{_≡_}
 use lib.Dec.{leb, ltb}
-use Rattle.hypoplactic.specs.Replies.{Said, passed, refuseIf}
+use Rattle.outcomes.specs.Replies.{Said, passed, refuseIf}
 use Rattle.numbering.specs.Operations.{numberJudged, smallJudged}
 use Rattle.refusals.specs.Running.{following}
 

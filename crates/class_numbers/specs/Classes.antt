@@ -13,15 +13,15 @@ use borrow.Author.Needs.{needs}
 use Rattle.hypoplactic.specs.Words.{Accepted}
 use Rattle.hypoplactic.specs.Ribbons.{Tableau, TableauAt}
 use Rattle.hypoplactic.specs.Insertion.{Pair, lettersOf, marksOf, pairOf, pairWith}
-use Rattle.hypoplactic.specs.Replies.{Said, first, gives, passed, ranTo, written}
-use Rattle.hypoplactic.specs.Judgements.{countedJudgements, roomJudged, wordJudgements}
-use Rattle.hypoplactic.specs.TableauOperations.{pairRun, writtenPair}
-use Rattle.hypoplactic.proofs.Theory.Judged.{counted-passing, word-passing}
-use Rattle.hypoplactic.proofs.Theory.Judgements.{alike-judged, room-judged}
-use Rattle.hypoplactic.proofs.Theory.Memory.{written-needed}
+use Rattle.outcomes.specs.Replies.{Said, first, gives, passed, ranTo, written}
+use Rattle.outcomes.specs.Judgements.{countedJudgements, roomJudged, wordJudgements}
+use Rattle.outcomes.specs.TableauOperations.{pairRun, writtenPair}
+use Rattle.outcomes.proofs.Theory.Judged.{counted-passing, word-passing}
+use Rattle.outcomes.proofs.Theory.Judgements.{alike-judged, room-judged}
+use Rattle.outcomes.proofs.Theory.Memory.{written-needed}
 use Rattle.hypoplactic.proofs.Theory.Pairs.{length-letters, length-marks}
-use Rattle.hypoplactic.proofs.Theory.Passing.{Passing, first-else, first-past, ran-answer}
-use Rattle.hypoplactic.proofs.Theory.Results.{pair-result}
+use Rattle.outcomes.proofs.Theory.Passing.{Passing, first-else, first-past, ran-answer}
+use Rattle.outcomes.proofs.Theory.Results.{pair-result}
 use Rattle.numbering.specs.Dictionary.{classNumber, classSize, classWord}
 use Rattle.numbering.specs.Operations.{classJudgements, classNumberSays, classSizeSays, classWordRun, classWordSays, numberJudged, smallJudged}
 use Rattle.numbering.specs.Orders.{across, freed, headOf, orders, placeOf, tally, wordAt}

@@ -9,7 +9,7 @@ use mathlib.Core.List.{List, [], _∷_}
 use native.Mathlib.Omega.{arith}
 use lib.ListN.{length, set, take}
 use borrow.Author.Needs.{needs}
-use Rattle.hypoplactic.proofs.Theory.Memory.{written-needed}
+use Rattle.outcomes.proofs.Theory.Memory.{written-needed}
 use Rattle.numbering.specs.Orders.{freed}
 use Rattle.buffers.specs.Copies.{copied, copied-all}
 

@@ -9,7 +9,7 @@ use native.Mathlib.Omega.{arith}
 use lib.ListN.{length, getD, set, take, length-append, length-set}
 use lib.Seq.{append-snoc}
 use borrow.Author.Needs.{needs}
-use Rattle.hypoplactic.specs.Replies.{written}
+use Rattle.outcomes.specs.Replies.{written}
 use Rattle.numbering.specs.Orders.{choices, wordAt, wordFrom}
 use Rattle.refusals.specs.Running.{written-element}
 use Rattle.taken_cells.specs.Numbered.{Sought, cellOfNumber, sought-told}

@@ -7,7 +7,7 @@ use taken_cells::removal::pulled_free;
 ghost use Prim.Native.Nat.{_≤_};
 ghost use mathlib.Core.Path.{_≡_};
 ghost use lib.ListN.{length, take};
-ghost use Rattle.hypoplactic.specs.Replies.{written};
+ghost use Rattle.outcomes.specs.Replies.{written};
 ghost use Rattle.numbering.specs.Orders.{placeOf, wordAt};
 ghost use Rattle.class_numbers.specs.Held.{Holds};
 ghost use Rattle.class_numbers.specs.NumberFound.{Placed};

@@ -10,9 +10,9 @@ use mathlib.Core.Bool.{Bool, true, false, and-false}
 use borrow.Author.Tests.{eq-eqb, ne-eqb, not-false, not-true}
 use Rattle.hypoplactic.specs.Words.{Accepted, tick}
 use Rattle.hypoplactic.specs.Junctions.{sameClass, sameCounts}
-use Rattle.hypoplactic.specs.Replies.{Said, gives, passed, orElse, first}
-use Rattle.hypoplactic.specs.WordOperations.{sameClassSays, wordsJudgements}
-use Rattle.hypoplactic.proofs.Theory.Passing.{first-else}
+use Rattle.outcomes.specs.Replies.{Said, gives, passed, orElse, first}
+use Rattle.outcomes.specs.WordOperations.{sameClassSays, wordsJudgements}
+use Rattle.outcomes.proofs.Theory.Passing.{first-else}
 use Rattle.second_inputs.specs.Passed.{judging}
 use Rattle.words.specs.Given.{accepted-set, accepted-true, countGiven, junctionGiven}
 use Rattle.words.specs.Tables.{Table}

@@ -16,7 +16,7 @@ use mathlib.Core.Bool.{Bool, true, false, _&&_}
 use lib.Dec.{eqb}
 use lib.ListN.{getD}
 use borrow.Author.Needs.{needs}
-use Rattle.hypoplactic.specs.Counts.{TrueCounts}
+use Rattle.outcomes.specs.Counts.{TrueCounts}
 use Rattle.hypoplactic.specs.Junctions.{sameCounts}
 
 -- Whether n numbers, from place j on, are equal.

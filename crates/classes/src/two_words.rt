@@ -8,8 +8,8 @@ use words::tables::letter_counts;
 ghost use mathlib.Core.List.{[], _∷_};
 ghost use mathlib.Core.Path.{_≡_};
 ghost use Rattle.hypoplactic.specs.Junctions.{sameClass};
-ghost use Rattle.hypoplactic.specs.Replies.{gives};
-ghost use Rattle.hypoplactic.specs.WordOperations.{sameClassSays};
+ghost use Rattle.outcomes.specs.Replies.{gives};
+ghost use Rattle.outcomes.specs.WordOperations.{sameClassSays};
 ghost use Rattle.hypoplactic.specs.Words.{Accepted, tick};
 ghost use Rattle.refusals.specs.Said.{saidClass};
 

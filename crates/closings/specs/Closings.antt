@@ -21,7 +21,7 @@ use lib.Seq.{drop-append-le, drop-at, drop-drop, getD-take, length-take-le, set-
 use borrow.Author.Needs.{needs}
 use borrow.Author.Tests.{le-ltb, lt-ltb}
 use borrow.Rule.Slice.PartMut.{midOf, put-same, putMid, post-is}
-use Rattle.hypoplactic.specs.Replies.{written}
+use Rattle.outcomes.specs.Replies.{written}
 use Rattle.hypoplactic.proofs.Theory.Pairs.{le-or-lt}
 use Rattle.windows.specs.Gaps.{joint, lowered, without}
 use Rattle.buffers.specs.Pulls.{pulled}

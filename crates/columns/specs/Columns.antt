@@ -19,7 +19,7 @@ use borrow.Author.Count.{below-more}
 use borrow.Author.Needs.{needs}
 use borrow.Rule.Slice.PartMut.{midOf}
 use Rattle.hypoplactic.specs.Reading.{readFrom}
-use Rattle.hypoplactic.specs.Replies.{written}
+use Rattle.outcomes.specs.Replies.{written}
 use Rattle.refusals.specs.Running.{written-element}
 
 -- ---- a column's end

@@ -14,10 +14,10 @@ use lib.Seq.{drop-cons, drop-at, drop-append-le, drop-append-seam, take-append-l
 use borrow.Author.Needs.{needs}
 use borrow.Rule.Slice.PartMut.{midOf, putMid, mid-len, put-same, same-len-mid}
 use Rattle.hypoplactic.specs.Reading.{columnReading, readFrom}
-use Rattle.hypoplactic.specs.Replies.{gives, written}
-use Rattle.hypoplactic.specs.Judgements.{countedJudgements, roomJudged}
-use Rattle.hypoplactic.specs.TableauOperations.{readingRun, readingSays}
-use Rattle.hypoplactic.proofs.Theory.Judgements.{alike-judged, room-judged}
+use Rattle.outcomes.specs.Replies.{gives, written}
+use Rattle.outcomes.specs.Judgements.{countedJudgements, roomJudged}
+use Rattle.outcomes.specs.TableauOperations.{readingRun, readingSays}
+use Rattle.outcomes.proofs.Theory.Judgements.{alike-judged, room-judged}
 use Rattle.buffers.specs.Copies.{copied, copied-all}
 use Rattle.refusals.specs.Running.{checksThen, then-passing, run-refused, run-passed, written-part}
 use Rattle.refusals.specs.Said.{saidRefusal, saidVerdict}

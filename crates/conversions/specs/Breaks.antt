@@ -7,7 +7,7 @@ use Prim.Native.Nat.{ℕ, _+_, _^_, _<_}
 use mathlib.Core.Path.{_≡_}
 use native.Mathlib.Omega.{arith}
 use borrow.Author.Needs.{needs}
-use Rattle.hypoplactic.specs.Replies.{refused}
+use Rattle.outcomes.specs.Replies.{refused}
 use Rattle.scans.specs.declared.line.Line.{Line}
 use Rattle.scans.specs.declared.line.Line.the-variants as line
 

@@ -13,9 +13,9 @@ use native.Mathlib.Omega.{arith}
 use lib.ListN.{length, take}
 use borrow.Author.Needs.{needs}
 use Rattle.grammar.specs.Reading.{Read, letters, marks}
-use Rattle.hypoplactic.specs.Replies.{Said, first, gives, passed, refused}
-use Rattle.hypoplactic.proofs.Theory.Judgements.{length-judged}
-use Rattle.hypoplactic.proofs.Theory.Passing.{Passing, passing-first}
+use Rattle.outcomes.specs.Replies.{Said, first, gives, passed, refused}
+use Rattle.outcomes.proofs.Theory.Judgements.{length-judged}
+use Rattle.outcomes.proofs.Theory.Passing.{Passing, passing-first}
 use Rattle.former_lines.specs.Conversion.{convertRun, converted}
 use Rattle.refusals.specs.Said.{saidRefusal}
 use Rattle.refusals.specs.declared.refusal.Refusal.{Refusal}

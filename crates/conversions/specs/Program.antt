@@ -13,9 +13,10 @@ use Rattle.hypoplactic.specs.Words.{Accepted}
 use Rattle.hypoplactic.specs.Insertion.{lettersOf, marksOf, recordingOf}
 use Rattle.hypoplactic.specs.Reading.{columnReading}
 use Rattle.hypoplactic.specs.Junctions.{junctionSet, rowsOf}
-use Rattle.hypoplactic.specs.LineOperations.{pairLine, tableauLine}
-use Rattle.hypoplactic.specs.LineReadings.{output}
-use Rattle.hypoplactic.specs.Classes.{elements}
+use Rattle.outcomes.specs.LineOperations.{pairLine}
+use Rattle.hypoplactic.specs.Classes.{tableauLine}
+use Rattle.outcomes.specs.LineReadings.{output}
+use Rattle.outcomes.specs.WrittenClasses.{elements}
 use Rattle.writers.specs.Lengths.{w-length}
 use Rattle.former_lines.specs.Conversion.{convertRun}
 use Rattle.former_lines.proofs.Theory.Conversions.{convert-program, output-halves}

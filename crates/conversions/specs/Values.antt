@@ -18,11 +18,11 @@ use lib.ListN.{length, take, length-map}
 use lib.Seq.{length-take-le}
 use borrow.Author.Needs.{needs}
 use Rattle.grammar.specs.Lines.{pLine}
-use Rattle.hypoplactic.specs.Judgements.{alikeJudged, entriesJudged, lengthJudged, lettersJudged, marksJudged, rankJudged, recordingJudged, risingJudged, roomJudged}
-use Rattle.hypoplactic.specs.LineOperations.{pLineRun}
-use Rattle.hypoplactic.specs.Replies.{Said, first, gives, passed, refused, written}
-use Rattle.hypoplactic.proofs.Theory.Judgements.{length-judged, rank-judged}
-use Rattle.hypoplactic.proofs.Theory.Passing.{Passing, first-append, first-passed}
+use Rattle.outcomes.specs.Judgements.{alikeJudged, entriesJudged, lengthJudged, lettersJudged, marksJudged, rankJudged, recordingJudged, risingJudged, roomJudged}
+use Rattle.outcomes.specs.LineOperations.{pLineRun}
+use Rattle.outcomes.specs.Replies.{Said, first, gives, passed, refused, written}
+use Rattle.outcomes.proofs.Theory.Judgements.{length-judged, rank-judged}
+use Rattle.outcomes.proofs.Theory.Passing.{Passing, first-append, first-passed}
 use Rattle.former_lines.specs.Conversion.{converted}
 use Rattle.former_lines.proofs.Theory.Conversions.{convert-as-written}
 use Rattle.refusals.specs.Running.{all-passing}

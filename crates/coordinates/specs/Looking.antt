@@ -13,12 +13,12 @@ use lib.ListN.{length, getD, take, drop, length-drop}
 use lib.Seq.{take-all}
 use borrow.Author.Needs.{needs}
 use borrow.Author.Tests.{lt-ltb, le-ltb}
-use Rattle.hypoplactic.specs.Replies.{Said, gives, passed, first}
+use Rattle.outcomes.specs.Replies.{Said, gives, passed, first}
 use Rattle.hypoplactic.specs.Ribbons.{stepsTo}
 use Rattle.hypoplactic.specs.Words.{count}
-use Rattle.hypoplactic.specs.TableauOperations.{cellAt, lookSays, throughSays, viewerSays}
-use Rattle.hypoplactic.specs.Judgements.{tableauJudgements}
-use Rattle.hypoplactic.proofs.Theory.Looks.{look-through}
+use Rattle.outcomes.specs.TableauOperations.{cellAt, lookSays, throughSays, viewerSays}
+use Rattle.outcomes.specs.Judgements.{tableauJudgements}
+use Rattle.outcomes.proofs.Theory.Looks.{look-through}
 use Rattle.refusals.specs.Said.{saidRefusal, saidVerdict}
 use Rattle.refusals.specs.Chains.{goes-on, stops}
 use Rattle.refusals.specs.declared.refusal.Refusal.{Refusal}

@@ -3,9 +3,9 @@ use occurrences::counts::count_letters;
 use refusals::answers::Cell;
 use refusals::answers::Verdict;
 ghost use mathlib.Core.Path.{_≡_};
-ghost use Rattle.hypoplactic.specs.Replies.{gives};
+ghost use Rattle.outcomes.specs.Replies.{gives};
 ghost use Rattle.hypoplactic.specs.Ribbons.{stepsTo};
-ghost use Rattle.hypoplactic.specs.TableauOperations.{cellAt, throughSays};
+ghost use Rattle.outcomes.specs.TableauOperations.{cellAt, throughSays};
 ghost use Rattle.refusals.specs.Said.{saidCell, saidVerdict};
 
 // The steps with a mark on the way to the cell at a place: with 1 the cell's row, with 0 its column. The first cell's mark is no step.

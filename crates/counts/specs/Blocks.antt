@@ -20,11 +20,10 @@ use lib.Seq.{take-suc, take-length}
 use borrow.Author.Needs.{needs}
 use borrow.Author.Tests.{eqb-true, eqb-false, ltb-false}
 use Rattle.hypoplactic.specs.Words.{count}
-use Rattle.hypoplactic.specs.Replies.{Passes, passed, refuseIf}
-use Rattle.hypoplactic.specs.Judgements.{risingFrom, risingJudged}
-use Rattle.hypoplactic.specs.Counts.{TrueCounts}
-use Rattle.hypoplactic.proofs.Theory.Pairs.{le-or-lt}
-use Rattle.hypoplactic.proofs.Theory.Pairs.{Rising}
+use Rattle.outcomes.specs.Replies.{Passes, passed, refuseIf}
+use Rattle.outcomes.specs.Judgements.{risingFrom, risingJudged}
+use Rattle.outcomes.specs.Counts.{TrueCounts}
+use Rattle.hypoplactic.proofs.Theory.Pairs.{le-or-lt, Rising}
 use Rattle.counts.specs.Tallies.{count-more, count-other}
 
 -- ---- rising letters

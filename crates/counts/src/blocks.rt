@@ -3,8 +3,8 @@
 use crate::tally::place_of;
 ghost use Prim.Native.Nat.{_<_};
 ghost use mathlib.Core.Path.{_≡_};
-ghost use Rattle.hypoplactic.specs.Judgements.{risingJudged};
-ghost use Rattle.hypoplactic.specs.Replies.{passed};
+ghost use Rattle.outcomes.specs.Judgements.{risingJudged};
+ghost use Rattle.outcomes.specs.Replies.{passed};
 ghost use Rattle.counts.specs.Blocks.{Block, Confirmed};
 
 // A count, wide enough to be added up.

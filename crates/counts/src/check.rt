@@ -8,9 +8,9 @@ use shapes::rising::rising_fault;
 ghost use mathlib.Core.Bool.{not};
 ghost use mathlib.Core.Path.{_≡_};
 ghost use lib.Dec.{eqb};
-ghost use Rattle.hypoplactic.specs.Counts.{countsJudged};
-ghost use Rattle.hypoplactic.specs.Judgements.{risingJudged};
-ghost use Rattle.hypoplactic.specs.Replies.{passed};
+ghost use Rattle.outcomes.specs.Counts.{countsJudged};
+ghost use Rattle.outcomes.specs.Judgements.{risingJudged};
+ghost use Rattle.outcomes.specs.Replies.{passed};
 ghost use Rattle.refusals.specs.Said.{saidFault, saidVerdict};
 
 // Whether a number differs from how often a letter stands.

@@ -6,9 +6,9 @@ use shapes::marks::check_marks;
 use shapes::rising::check_rising;
 ghost use mathlib.Core.List.{[], _∷_};
 ghost use mathlib.Core.Path.{_≡_};
-ghost use Rattle.hypoplactic.specs.Counts.{countsJudged};
-ghost use Rattle.hypoplactic.specs.Judgements.{marksJudged, risingJudged};
-ghost use Rattle.hypoplactic.specs.Replies.{first, passed};
+ghost use Rattle.outcomes.specs.Counts.{countsJudged};
+ghost use Rattle.outcomes.specs.Judgements.{marksJudged, risingJudged};
+ghost use Rattle.outcomes.specs.Replies.{first, passed};
 ghost use Rattle.refusals.specs.Said.{saidVerdict};
 
 // 5, 6 and 17.

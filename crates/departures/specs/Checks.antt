@@ -14,10 +14,10 @@ use lib.ListN.{drop, length, take}
 use lib.Seq.{length-take-le}
 use borrow.Author.Needs.{needs}
 use Rattle.hypoplactic.specs.Insertion.{Pair, pairWith}
-use Rattle.hypoplactic.specs.Replies.{Said, passed, orElse, first, refuseIf}
-use Rattle.hypoplactic.specs.Judgements.{alikeJudged, countedPairJudgements, lengthJudged, rankJudged}
-use Rattle.hypoplactic.proofs.Theory.Judgements.{alike-judged, length-judged, rank-judged}
-use Rattle.hypoplactic.proofs.Theory.Passing.{Passing, first-past}
+use Rattle.outcomes.specs.Replies.{Said, passed, orElse, first, refuseIf}
+use Rattle.outcomes.specs.Judgements.{alikeJudged, countedPairJudgements, lengthJudged, rankJudged}
+use Rattle.outcomes.proofs.Theory.Judgements.{alike-judged, length-judged, rank-judged}
+use Rattle.outcomes.proofs.Theory.Passing.{Passing, first-past}
 use Rattle.refusals.specs.Running.{checksThen, checked-last, stops-there, goes-further}
 use Rattle.refusals.specs.Said.{saidRefusal, saidVerdict}
 use Rattle.refusals.specs.declared.refusal.Refusal.{Refusal}

@@ -12,9 +12,9 @@ use lib.ListN.{length, getD, take}
 use lib.Seq.{getD-take, length-take-le}
 use borrow.Author.Needs.{needs}
 use Rattle.hypoplactic.specs.Insertion.{Pair, pairWith}
-use Rattle.hypoplactic.specs.Replies.{gives}
-use Rattle.hypoplactic.specs.Counts.{oneLess}
-use Rattle.hypoplactic.specs.TableauOperations.{writtenPair}
+use Rattle.outcomes.specs.Replies.{gives}
+use Rattle.outcomes.specs.Counts.{oneLess}
+use Rattle.outcomes.specs.TableauOperations.{writtenPair}
 use Rattle.refusals.specs.Running.{then-passing, run-refused, run-passed}
 use Rattle.refusals.specs.Said.{saidRefusal, saidVerdict}
 use Rattle.refusals.specs.declared.refusal.Refusal.{Refusal}

@@ -8,7 +8,7 @@ use closings::oldest::oldest_cell;
 use refusals::answers::Used;
 use refusals::answers::Verdict;
 ghost use mathlib.Core.Path.{_≡_};
-ghost use Rattle.hypoplactic.specs.Counts.{oneLess};
+ghost use Rattle.outcomes.specs.Counts.{oneLess};
 ghost use Rattle.hypoplactic.specs.Insertion.{pairWith};
 ghost use Rattle.refusals.specs.Said.{saidUsed};
 ghost use Rattle.windows.specs.Departures.{departRun};

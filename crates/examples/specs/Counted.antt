@@ -9,12 +9,12 @@ use Prim.Native.Nat.{ℕ}
 use mathlib.Core.List.{List, [], _∷_, _++_}
 use lib.ListN.{length, replicate, set, take}
 use Rattle.hypoplactic.specs.Insertion.{pairWith}
-use Rattle.hypoplactic.specs.Replies.{Said, first, passed}
-use Rattle.hypoplactic.specs.Counts.{countsJudged}
-use Rattle.hypoplactic.specs.Judgements.{countedJudgements, countedPairJudgements}
-use Rattle.hypoplactic.specs.TableauOperations.{insertRun, insertSays, moveTableauRun, moveTableauSays, pairRun, readingSays, repeatTableauSays, wordSays}
-use Rattle.hypoplactic.specs.LineReadings.{readPRun, readTRun}
-use Rattle.hypoplactic.specs.Starred.{Case, c4323, case, counts, lent, lentPair, lower, numbers, outcomes, pairOutcome, raise, tableauOutcome, text}
+use Rattle.outcomes.specs.Replies.{Said, first, passed}
+use Rattle.outcomes.specs.Counts.{countsJudged}
+use Rattle.outcomes.specs.Judgements.{countedJudgements, countedPairJudgements}
+use Rattle.outcomes.specs.TableauOperations.{insertRun, insertSays, moveTableauRun, moveTableauSays, pairRun, readingSays, repeatTableauSays, wordSays}
+use Rattle.outcomes.specs.LineReadings.{readPRun, readTRun}
+use Rattle.outcomes.specs.Starred.{Case, c4323, case, counts, lent, lentPair, lower, numbers, outcomes, pairOutcome, raise, tableauOutcome, text}
 use Rattle.letter_counts.specs.Cases.{m4323, x4323}
 
 -- ---- wrong counts

@@ -13,15 +13,15 @@ use Rattle.hypoplactic.specs.Insertion.{pairWith}
 use Rattle.hypoplactic.specs.Words.{tick}
 use Rattle.hypoplactic.specs.Moves.{below}
 use Rattle.hypoplactic.specs.Junctions.{junctionSet}
-use Rattle.hypoplactic.specs.Replies.{Said, first, gives, passed, refused}
-use Rattle.hypoplactic.specs.Classes.{elements}
-use Rattle.hypoplactic.specs.Counts.{countsOf}
-use Rattle.hypoplactic.specs.Judgements.{fullJudged, recordingJudged, roomJudged}
-use Rattle.hypoplactic.specs.WordOperations.{junctionSays, moveJudgements, moveWordRun, moveWordSays, repeatWordSays, sameClassSays, weightsSays}
-use Rattle.hypoplactic.specs.TableauOperations.{cellAt, insertRun, insertSays, lookSays, moveTableauSays, pairRun, pairSays, readingRun, readingSays, repeatTableauSays, throughSays, viewerSays, wordRun, wordSays}
-use Rattle.hypoplactic.specs.LineOperations.{eLineRun, jLineRun, pLineRun, program, roomRun, tLineRun, tableauLineRun, wLineRun}
-use Rattle.hypoplactic.specs.LineReadings.{answerRun, output, pairRead, readPRun, readTRun, readWRun, tableauRead, wordRead}
-use Rattle.hypoplactic.specs.Starred.{Case, case, counts, lent, lentPair, lower, numbers, outcome, pairOutcome, raise, tableauOutcome, text, w4323, w433}
+use Rattle.outcomes.specs.Replies.{Said, first, gives, passed, refused}
+use Rattle.outcomes.specs.WrittenClasses.{elements}
+use Rattle.outcomes.specs.Counts.{countsOf}
+use Rattle.outcomes.specs.Judgements.{fullJudged, recordingJudged, roomJudged}
+use Rattle.outcomes.specs.WordOperations.{junctionSays, moveJudgements, moveWordRun, moveWordSays, repeatWordSays, sameClassSays, weightsSays}
+use Rattle.outcomes.specs.TableauOperations.{cellAt, insertRun, insertSays, lookSays, moveTableauSays, pairRun, pairSays, readingRun, readingSays, repeatTableauSays, throughSays, viewerSays, wordRun, wordSays}
+use Rattle.outcomes.specs.LineOperations.{eLineRun, jLineRun, pLineRun, program, roomRun, tLineRun, tableauLineRun, wLineRun}
+use Rattle.outcomes.specs.LineReadings.{answerRun, output, pairRead, readPRun, readTRun, readWRun, tableauRead, wordRead}
+use Rattle.outcomes.specs.Starred.{Case, case, counts, lent, lentPair, lower, numbers, outcome, pairOutcome, raise, tableauOutcome, text, w4323, w433}
 
 -- ---- inputs that break two checks
 

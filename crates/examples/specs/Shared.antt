@@ -1,4 +1,4 @@
--- Cases for the definitions of code crates that public contracts rest on beside those of hypoplactic, in the form of the starred ones: what crates lend each
+-- Cases for the definitions of code crates that public contracts rest on beside those of hypoplactic and outcomes, in the form of the starred ones: what crates lend each
 -- other, each in its smallest inputs.
 --     sharedCases     the cases; tests stand as 1 and 0 (told), lent letters and marks one after the other (filling), an item as its three numbers
 --                     (itemNumbers), numbers compared as two (compared), a cell and the number beside it as two (going)
@@ -12,9 +12,9 @@ use Rattle.grammar.specs.Lines.{Run}
 use Rattle.grammar.specs.Reading.{letters, marks}
 use Rattle.hypoplactic.specs.Insertion.{pairWith}
 use Rattle.hypoplactic.specs.Words.{tick}
-use Rattle.hypoplactic.specs.Counts.{countsOf}
-use Rattle.hypoplactic.specs.WordOperations.{comparisonNumber}
-use Rattle.hypoplactic.specs.Starred.{Case, case, counts, lower, numbers, outcome, raise, text, w4323}
+use Rattle.outcomes.specs.Counts.{countsOf}
+use Rattle.outcomes.specs.WordOperations.{comparisonNumber}
+use Rattle.outcomes.specs.Starred.{Case, case, counts, lower, numbers, outcome, raise, text, w4323}
 use Rattle.acceptance.specs.Bytes.{narrowed}
 use Rattle.buffers.specs.Copies.{copied}
 use Rattle.buffers.specs.Shifts.{pushed}

@@ -7,7 +7,7 @@ use crate::tableau::write_letters;
 ghost use mathlib.Core.Path.{_≡_};
 ghost use lib.ListN.{length};
 ghost use Rattle.hypoplactic.specs.Places.{layers};
-ghost use Rattle.hypoplactic.specs.Replies.{written};
+ghost use Rattle.outcomes.specs.Replies.{written};
 ghost use Rattle.fillings.specs.Filled.{filledRuns};
 ghost use Rattle.fillings.specs.Layers.{Fitted, stepsIn};
 

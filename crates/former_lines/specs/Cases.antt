@@ -6,9 +6,9 @@ use Prim.Native.Nat.{ℕ}
 use Prim.Native.String.{String}
 use mathlib.Core.List.{List, [], _∷_, _++_}
 use lib.ListN.{replicate}
-use Rattle.hypoplactic.specs.Starred.{Case, case, lent, numbers, outcome, text}
+use Rattle.outcomes.specs.Starred.{Case, case, lent, numbers, outcome, text}
 use Rattle.former_lines.specs.Conversion.{convertRun, formerJudgements}
-use Rattle.hypoplactic.specs.Replies.{first, passed}
+use Rattle.outcomes.specs.Replies.{first, passed}
 
 abbrev pub converts : String → String → List ℕ
 converts t r = outcome (convertRun (text t) (text r) (lent 16))

@@ -2,16 +2,16 @@
 --     formerJudgements n xs ms rs    1, 2 of either number of items, 3 where these differ, then 4 to 8
 --     secondRun k text run old       the reader of a second text: its bytes count on from the k bytes of the first
 --     convertRun                     14, 1 to 8, 13: 14 over the T text, then over the N text, formerJudgements, 13; gives the bytes of the P line
--- The lines and their grammar are those of the crate grammar, readers of one text those of hypoplactic. Assumes nothing.
+-- The lines and their grammar are those of the crate grammar, readers of one text those of outcomes. Assumes nothing.
 use Prim.Native.Nat.{ℕ}
 use mathlib.Core.List.{List, [], _∷_}
 use lib.ListN.{length}
 use Rattle.grammar.specs.Lines.{pLine}
 use Rattle.grammar.specs.Reading.{Read, got, broken, readT, readN}
-use Rattle.hypoplactic.specs.Replies.{Said, countOn, refused}
-use Rattle.hypoplactic.specs.Judgements.{alikeJudged, entriesJudged, lengthJudged, lettersJudged, marksJudged, rankJudged, recordingJudged, risingJudged}
-use Rattle.hypoplactic.specs.LineOperations.{lineRun}
-use Rattle.hypoplactic.specs.LineReadings.{breakPlace, readRun}
+use Rattle.outcomes.specs.Replies.{Said, countOn, refused}
+use Rattle.outcomes.specs.Judgements.{alikeJudged, entriesJudged, lengthJudged, lettersJudged, marksJudged, rankJudged, recordingJudged, risingJudged}
+use Rattle.outcomes.specs.LineOperations.{lineRun}
+use Rattle.outcomes.specs.LineReadings.{breakPlace, readRun}
 
 -- The values of a T line, and of an N line, which has a number of items of its own.
 abbrev pub formerJudgements : ℕ → List ℕ → List ℕ → List ℕ → List Said

@@ -7,6 +7,7 @@ pub mod Marks
 pub mod Layers
 pub mod Places
 pub mod Contents
+pub mod Once
 pub mod Limits
 -- ---- tableaux as cells, column reading
 pub mod Cells
@@ -30,6 +31,7 @@ pub mod MoveCounts
 pub mod Targets
 pub mod MoveTableau
 pub mod MoveValid
+pub mod Closure
 pub mod Repeats
 -- ---- classes
 pub mod Invariants
@@ -41,27 +43,5 @@ pub mod Rows
 pub mod SameClass
 pub mod OneClass
 pub mod WeightOrder
--- ---- replies
-pub mod Passing
-pub mod Memory
-pub mod Once
-pub mod Judgements
-pub mod StepJudgements
-pub mod FirstPlaces
-pub mod Counts
-pub mod Judged
-pub mod Results
-pub mod Looks
-pub mod MoveResults
-pub mod LineResults
-pub mod WrittenClasses
-pub mod OtherNumbers
-pub mod LineReadings
-pub mod Outputs
-pub mod JoinedReplies
-pub mod Closure
-pub mod RepeatReplies
-pub mod Together
 -- ---- cases
 pub mod Examples
-pub mod Starred

@@ -7,14 +7,4 @@ pub mod Places
 pub mod Moves
 pub mod Junctions
 pub mod Weights
-pub mod Replies
-pub mod Judgements
-pub mod FirstPlaces
-pub mod Counts
-pub mod WordOperations
-pub mod TableauOperations
-pub mod Repeats
-pub mod LineOperations
-pub mod LineReadings
 pub mod Classes
-pub mod Starred

@@ -1,1 +1,1 @@
-// The written meaning and the theory of the kernel: no code. Definitions stand in specs/, theorems in proofs/.
+// The mathematics of the kernel: no code. Definitions stand in specs/, theorems in proofs/.

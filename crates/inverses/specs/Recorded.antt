@@ -19,9 +19,9 @@ use lib.Dec.{eqb}
 use lib.ListN.{length, getD, List·getD-append}
 use Rattle.hypoplactic.specs.Words.{Within, count, tick}
 use Rattle.hypoplactic.specs.Insertion.{letterWith, wordFrom, wordOf}
-use Rattle.hypoplactic.specs.Replies.{written}
+use Rattle.outcomes.specs.Replies.{written}
 use Rattle.hypoplactic.proofs.Theory.Limits.{count-outside}
-use Rattle.hypoplactic.proofs.Theory.Memory.{written-old}
+use Rattle.outcomes.proofs.Theory.Memory.{written-old}
 use Rattle.hypoplactic.proofs.Theory.Once.{once-entries}
 use Rattle.hypoplactic.proofs.Theory.Placing.{Once}
 

@@ -21,13 +21,13 @@ use borrow.Author.Tests.{eqb-true, eqb-false, eq-eqb}
 use Rattle.hypoplactic.specs.Words.{Within, count}
 use Rattle.hypoplactic.specs.Ribbons.{PairAt}
 use Rattle.hypoplactic.specs.Insertion.{wordOf}
-use Rattle.hypoplactic.specs.Replies.{gives, written}
-use Rattle.hypoplactic.specs.Judgements.{countedPairJudgements, roomJudged}
-use Rattle.hypoplactic.specs.TableauOperations.{wordRun, wordSays}
+use Rattle.outcomes.specs.Replies.{gives, written}
+use Rattle.outcomes.specs.Judgements.{countedPairJudgements, roomJudged}
+use Rattle.outcomes.specs.TableauOperations.{wordRun, wordSays}
 use Rattle.hypoplactic.proofs.Theory.Contents.{within-at}
-use Rattle.hypoplactic.proofs.Theory.Judged.{counted-pair-passing}
-use Rattle.hypoplactic.proofs.Theory.Judgements.{alike-judged, room-judged}
-use Rattle.hypoplactic.proofs.Theory.Memory.{written-length}
+use Rattle.outcomes.proofs.Theory.Judged.{counted-pair-passing}
+use Rattle.outcomes.proofs.Theory.Judgements.{alike-judged, room-judged}
+use Rattle.outcomes.proofs.Theory.Memory.{written-length}
 use Rattle.hypoplactic.proofs.Theory.Occurrences.{count-tail}
 use Rattle.hypoplactic.proofs.Theory.Once.{once-entries}
 use Rattle.refusals.specs.Running.{checksThen, then-passing, run-refused, run-passed}

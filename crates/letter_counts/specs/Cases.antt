@@ -6,9 +6,9 @@
 use Prim.Native.Nat.{ℕ}
 use mathlib.Core.List.{List, [], _∷_, _++_}
 use lib.ListN.{replicate, set}
-use Rattle.hypoplactic.specs.Counts.{countsOf}
-use Rattle.hypoplactic.specs.Replies.{Said}
-use Rattle.hypoplactic.specs.Starred.{Case, c4323, case, counts, numbers, w4323}
+use Rattle.outcomes.specs.Counts.{countsOf}
+use Rattle.outcomes.specs.Replies.{Said}
+use Rattle.outcomes.specs.Starred.{Case, c4323, case, counts, numbers, w4323}
 use Rattle.letter_counts.specs.TwoTableaux.{sameClassTableauxSays, weightsTableauxSays}
 
 -- The tableau of 4323: its letters and its marks.

@@ -10,12 +10,12 @@ use Prim.Native.Nat.{ℕ}
 use mathlib.Core.Path.{_≡_}
 use mathlib.Core.List.{List, [], _∷_}
 use lib.ListN.{length, take}
-use Rattle.hypoplactic.specs.Counts.{countsOf}
+use Rattle.outcomes.specs.Counts.{countsOf}
 use Rattle.hypoplactic.specs.Insertion.{Pair}
-use Rattle.hypoplactic.specs.LineReadings.{readPRun, readTRun}
+use Rattle.outcomes.specs.LineReadings.{readPRun, readTRun}
 use Rattle.hypoplactic.specs.Moves.{Move}
-use Rattle.hypoplactic.specs.Replies.{Passes, Said, gives, refused}
-use Rattle.hypoplactic.specs.TableauOperations.{insertRun, moveTableauRun, pairRun}
+use Rattle.outcomes.specs.Replies.{Passes, Said, gives, refused}
+use Rattle.outcomes.specs.TableauOperations.{insertRun, moveTableauRun, pairRun}
 use Rattle.products.specs.Products.{productRun}
 use Rattle.windows.specs.Departures.{departRun}
 

@@ -12,10 +12,10 @@ use lib.ListN.{length}
 use Rattle.hypoplactic.specs.Words.{tick}
 use Rattle.hypoplactic.specs.Junctions.{sameCounts}
 use Rattle.hypoplactic.specs.Weights.{compareWeights}
-use Rattle.hypoplactic.specs.Counts.{countsJudged}
-use Rattle.hypoplactic.specs.Replies.{Said, gives, countOn, first}
-use Rattle.hypoplactic.specs.Judgements.{rankJudged, lengthJudged, alikeJudged, lettersJudged, risingJudged, marksJudged}
-use Rattle.hypoplactic.specs.WordOperations.{comparisonNumber}
+use Rattle.outcomes.specs.Counts.{countsJudged}
+use Rattle.outcomes.specs.Replies.{Said, gives, countOn, first}
+use Rattle.outcomes.specs.Judgements.{rankJudged, lengthJudged, alikeJudged, lettersJudged, risingJudged, marksJudged}
+use Rattle.outcomes.specs.WordOperations.{comparisonNumber}
 use Rattle.numbering.specs.Dictionary.{sameList}
 
 -- 1 to 6 and 17 of two tableaux with letter counts, each at its rank.

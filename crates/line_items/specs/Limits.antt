@@ -6,9 +6,9 @@ use mathlib.Core.Path.{_≡_}
 use mathlib.Core.List.{List, [], _∷_}
 use native.Mathlib.Omega.{arith}
 use lib.ListN.{length}
-use Rattle.hypoplactic.specs.Judgements.{lengthJudged, rankJudged}
-use Rattle.hypoplactic.specs.Replies.{first, passed}
-use Rattle.hypoplactic.proofs.Theory.Judgements.{length-judged, rank-judged}
+use Rattle.outcomes.specs.Judgements.{lengthJudged, rankJudged}
+use Rattle.outcomes.specs.Replies.{first, passed}
+use Rattle.outcomes.proofs.Theory.Judgements.{length-judged, rank-judged}
 use Rattle.refusals.specs.Running.{all-passing}
 use Rattle.refusals.specs.Said.{saidVerdict}
 use Rattle.refusals.specs.declared.answers.Verdict.{Verdict}

@@ -11,8 +11,8 @@ use mathlib.Core.Logic.{_⊎_, inl, inr}
 use native.Mathlib.Omega.{arith}
 use lib.Dec.{ltb}
 use borrow.Author.Tests.{ltb-false, lt-ltb}
-use Rattle.hypoplactic.specs.Judgements.{lettersFrom, lettersJudged, outside}
-use Rattle.hypoplactic.specs.Replies.{Said, first, gives, passed, ranTo, refused}
+use Rattle.outcomes.specs.Judgements.{lettersFrom, lettersJudged, outside}
+use Rattle.outcomes.specs.Replies.{Said, first, gives, passed, ranTo, refused}
 use Rattle.acceptance.specs.Bytes.{narrowed}
 
 -- They are the letters, or 4 refuses both at one place.

@@ -9,7 +9,7 @@ use native.Mathlib.Omega.{arith}
 use lib.ListN.{length, take}
 use borrow.Author.Needs.{needs}
 use Rattle.hypoplactic.specs.Insertion.{pairWith}
-use Rattle.hypoplactic.specs.TableauOperations.{pairRun}
+use Rattle.outcomes.specs.TableauOperations.{pairRun}
 use Rattle.refusals.specs.Said.{saidWritten}
 use Rattle.refusals.specs.declared.refusal.Refusal.{Refusal}
 use Rattle.refusals.specs.declared.answers.Written.{Written}

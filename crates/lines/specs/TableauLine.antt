@@ -15,18 +15,19 @@ use borrow.Author.Needs.{needs}
 use Rattle.grammar.specs.Lines.{tLine}
 use Rattle.hypoplactic.specs.Words.{Accepted}
 use Rattle.hypoplactic.specs.Insertion.{Pair, lettersOf, marksOf, pairWith}
-use Rattle.hypoplactic.specs.Replies.{Said, gives, written}
-use Rattle.hypoplactic.specs.Judgements.{pairRooms, roomJudged, tableauJudgements, wordJudgements}
-use Rattle.hypoplactic.specs.TableauOperations.{pairRun, pairSays}
-use Rattle.hypoplactic.specs.LineOperations.{lineRun, tableauLine, tableauLineRun, tLineRun}
+use Rattle.outcomes.specs.Replies.{Said, gives, written}
+use Rattle.outcomes.specs.Judgements.{pairRooms, roomJudged, tableauJudgements, wordJudgements}
+use Rattle.outcomes.specs.TableauOperations.{pairRun, pairSays}
+use Rattle.outcomes.specs.LineOperations.{lineRun, tableauLineRun, tLineRun}
+use Rattle.hypoplactic.specs.Classes.{tableauLine}
 use Rattle.hypoplactic.proofs.Theory.Closure.{word-tableau-at}
-use Rattle.hypoplactic.proofs.Theory.Judged.{tableau-passing, word-passing}
-use Rattle.hypoplactic.proofs.Theory.Judgements.{room-judged}
-use Rattle.hypoplactic.proofs.Theory.LineResults.{past-checks}
-use Rattle.hypoplactic.proofs.Theory.Memory.{written-length, written-needed}
+use Rattle.outcomes.proofs.Theory.Judged.{tableau-passing, word-passing}
+use Rattle.outcomes.proofs.Theory.Judgements.{room-judged}
+use Rattle.outcomes.proofs.Theory.LineResults.{past-checks}
+use Rattle.outcomes.proofs.Theory.Memory.{written-length, written-needed}
 use Rattle.hypoplactic.proofs.Theory.Pairs.{length-letters, length-marks}
-use Rattle.hypoplactic.proofs.Theory.Passing.{Passing}
-use Rattle.hypoplactic.proofs.Theory.Results.{pair-result}
+use Rattle.outcomes.proofs.Theory.Passing.{Passing}
+use Rattle.outcomes.proofs.Theory.Results.{pair-result}
 use Rattle.refusals.specs.Outcomes.{Outcome, accepted, stopped, outcome, not-both, wrote-elements}
 use Rattle.refusals.specs.Said.{saidWritten}
 use Rattle.refusals.specs.declared.refusal.Refusal.{Refusal}

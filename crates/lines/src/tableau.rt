@@ -4,7 +4,7 @@ use ribbons::pair::pair_of_word;
 use writers::line::write_tableau_line;
 ghost use mathlib.Core.Path.{_≡_};
 ghost use lib.ListN.{length, take};
-ghost use Rattle.hypoplactic.specs.LineOperations.{tLineRun, tableauLineRun};
+ghost use Rattle.outcomes.specs.LineOperations.{tLineRun, tableauLineRun};
 ghost use Rattle.refusals.specs.Said.{saidWritten};
 ghost use Rattle.lines.specs.TableauLine.{Reached};
 

@@ -19,7 +19,7 @@ use lib.Bits.{bitOr}
 use lib.Dec.{ltb}
 use lib.ListN.{getD}
 use borrow.Author.Needs.{needs}
-use Rattle.hypoplactic.specs.Counts.{TrueCounts}
+use Rattle.outcomes.specs.Counts.{TrueCounts}
 use Rattle.hypoplactic.specs.Junctions.{downOut, junction, junctionSet, nextLarger, number}
 use Rattle.hypoplactic.specs.Ribbons.{TableauAt}
 use Rattle.hypoplactic.specs.Words.{count, occurs, tick}

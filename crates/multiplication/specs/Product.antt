@@ -14,18 +14,18 @@ use lib.ListN.{length}
 use mir.Syntax.{w64}
 use mir.Val.{Fits}
 use borrow.Author.Needs.{needs}
-use Rattle.hypoplactic.specs.Counts.{TrueCounts, countsOf}
+use Rattle.outcomes.specs.Counts.{TrueCounts, countsOf}
 use Rattle.hypoplactic.specs.Junctions.{downOut}
-use Rattle.hypoplactic.specs.Judgements.{roomJudged, tableauRooms}
-use Rattle.hypoplactic.specs.Replies.{Said, gives, first, orElse, passed, written}
+use Rattle.outcomes.specs.Judgements.{roomJudged, tableauRooms}
+use Rattle.outcomes.specs.Replies.{Said, gives, first, orElse, passed, written}
 use Rattle.hypoplactic.specs.Ribbons.{LetterStep, TableauAt}
 use Rattle.hypoplactic.specs.Words.{Within, tick}
-use Rattle.hypoplactic.proofs.Theory.Counts.{counts-whole}
-use Rattle.hypoplactic.proofs.Theory.Judgements.{room-judged}
+use Rattle.outcomes.proofs.Theory.Counts.{counts-whole}
+use Rattle.outcomes.proofs.Theory.Judgements.{room-judged}
 use Rattle.hypoplactic.proofs.Theory.Limits.{accepted-within}
 use Rattle.hypoplactic.proofs.Theory.Occurrences.{count-length}
-use Rattle.hypoplactic.proofs.Theory.Passing.{first-append}
-use Rattle.hypoplactic.proofs.Theory.StepJudgements.{ribbon-length}
+use Rattle.outcomes.proofs.Theory.Passing.{first-append}
+use Rattle.outcomes.proofs.Theory.StepJudgements.{ribbon-length}
 use Rattle.products.specs.Products.{factorsJudgements, productLetters, productMarks, productRun, productSays, productWord}
 use Rattle.products.proofs.Theory.ProductContents.{product-accepted, product-count, product-length}
 use Rattle.products.proofs.Theory.ProductReplies.{factors-passing}

@@ -17,7 +17,7 @@ fn print_byte(byte: u8) {
 }
 
 // A number after a mark.
-pub fn print_number(mark: u8, number: usize) {
+pub(crate) fn print_number(mark: u8, number: usize) {
     print_byte(mark);
     io::print_decimal(STDOUT_FILENO, number as u64);
 }

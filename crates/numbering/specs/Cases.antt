@@ -5,7 +5,7 @@
 use Prim.Native.Nat.{ℕ}
 use mathlib.Core.List.{List, [], _∷_, _++_}
 use lib.ListN.{replicate, set}
-use Rattle.hypoplactic.specs.Starred.{Case, c4323, case, counts, lent, numbers, outcome, w4323}
+use Rattle.outcomes.specs.Starred.{Case, c4323, case, counts, lent, numbers, outcome, w4323}
 use Rattle.numbering.specs.Dictionary.{classWords, words}
 use Rattle.numbering.specs.Operations.{classNumberSays, classSizeSays, classWordRun}
 

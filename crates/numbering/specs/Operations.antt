@@ -9,8 +9,8 @@ use Prim.Native.Nat.{ℕ}
 use mathlib.Core.List.{List, [], _∷_, _++_}
 use lib.Dec.{ltb, leb}
 use lib.ListN.{length}
-use Rattle.hypoplactic.specs.Replies.{Said, gives, passed, refuseIf, first, ranTo, written}
-use Rattle.hypoplactic.specs.Judgements.{countedJudgements, roomJudged, wordJudgements}
+use Rattle.outcomes.specs.Replies.{Said, gives, passed, refuseIf, first, ranTo, written}
+use Rattle.outcomes.specs.Judgements.{countedJudgements, roomJudged, wordJudgements}
 use Rattle.numbering.specs.Dictionary.{classSize, classWord, classNumber}
 
 -- 15: more than 20 cells or letters.

@@ -19,11 +19,11 @@ use lib.ListN.{length, set}
 use borrow.Author.Needs.{needs}
 use Rattle.hypoplactic.specs.Words.{count}
 use Rattle.hypoplactic.specs.Moves.{Move, taken, given, changedPlace, moved, remaining, replaced, target}
-use Rattle.hypoplactic.specs.Replies.{Said, gives, refused, passed, Passes, orElse, first, refuseIf, ranTo}
-use Rattle.hypoplactic.specs.Judgements.{rankJudged, lengthJudged, indexJudged, inversionJudged, letterJudged}
-use Rattle.hypoplactic.specs.WordOperations.{moveJudgements, orSame, placeTold}
-use Rattle.hypoplactic.proofs.Theory.Judgements.{rank-judged, length-judged, index-judged}
-use Rattle.hypoplactic.proofs.Theory.Passing.{Passing, first-append, first-past}
+use Rattle.outcomes.specs.Replies.{Said, gives, refused, passed, Passes, orElse, first, refuseIf, ranTo}
+use Rattle.outcomes.specs.Judgements.{rankJudged, lengthJudged, indexJudged, inversionJudged, letterJudged}
+use Rattle.outcomes.specs.WordOperations.{moveJudgements, orSame, placeTold}
+use Rattle.outcomes.proofs.Theory.Judgements.{rank-judged, length-judged, index-judged}
+use Rattle.outcomes.proofs.Theory.Passing.{Passing, first-append, first-past}
 use Rattle.refusals.specs.Running.{all-passing, run-stopped}
 use Rattle.refusals.specs.Said.{saidRefusal, saidVerdict}
 use Rattle.refusals.specs.declared.refusal.Refusal.{Refusal}

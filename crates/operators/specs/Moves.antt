@@ -10,10 +10,10 @@ use mathlib.Core.Option.{Option}
 use native.Mathlib.Numerals.{add-one}
 use borrow.Author.Needs.{needs}
 use Rattle.hypoplactic.specs.Moves.{inverted, leftmost, rightmost, movedWord, repeatWord}
-use Rattle.hypoplactic.specs.Replies.{Said, gives}
-use Rattle.hypoplactic.specs.Judgements.{lettersJudged, indexJudged, wordJudgements}
-use Rattle.hypoplactic.specs.WordOperations.{moveWordRun, moveWordSays, orSame, repeatWordSays}
-use Rattle.hypoplactic.proofs.Theory.Passing.{Passing, first-append}
+use Rattle.outcomes.specs.Replies.{Said, gives}
+use Rattle.outcomes.specs.Judgements.{lettersJudged, indexJudged, wordJudgements}
+use Rattle.outcomes.specs.WordOperations.{moveWordRun, moveWordSays, orSame, repeatWordSays}
+use Rattle.outcomes.proofs.Theory.Passing.{Passing, first-append}
 use Rattle.refusals.specs.Running.{checksThen, then-passing, run-stopped}
 use Rattle.refusals.specs.Said.{saidRefusal, saidVerdict}
 use Rattle.refusals.specs.declared.refusal.Refusal.{Refusal}

@@ -16,7 +16,7 @@ ghost use mathlib.Core.Path.{_≡_};
 ghost use Prim.Native.Nat.{_<_};
 ghost use lib.ListN.{length};
 ghost use Rattle.hypoplactic.specs.Moves.{given, remaining, taken};
-ghost use Rattle.hypoplactic.specs.Replies.{first, passed};
+ghost use Rattle.outcomes.specs.Replies.{first, passed};
 ghost use Rattle.refusals.specs.Said.{saidMove, saidRepeat, saidVerdict};
 ghost use Rattle.operators.specs.Changes.{changeJudgements, moveLettersRun, moveRan, repeatLettersSays};
 ghost use Rattle.occurrences.specs.Places.{foundPlace};

@@ -11,13 +11,13 @@ use native.Mathlib.Omega.{arith}
 use lib.ListN.{length, take}
 use borrow.Author.Needs.{needs}
 use Rattle.grammar.specs.Lines.{eLine}
-use Rattle.hypoplactic.specs.Replies.{Said, gives, refused, written}
-use Rattle.hypoplactic.specs.Judgements.{roomJudged}
-use Rattle.hypoplactic.specs.LineOperations.{eLineRun, threeLines, roomRun}
-use Rattle.hypoplactic.specs.LineReadings.{answerRun, output, readWRun}
-use Rattle.hypoplactic.proofs.Theory.Judgements.{room-judged}
-use Rattle.hypoplactic.proofs.Theory.LineResults.{e-line-result}
-use Rattle.hypoplactic.proofs.Theory.Memory.{written-length, written-needed}
+use Rattle.outcomes.specs.Replies.{Said, gives, refused, written}
+use Rattle.outcomes.specs.Judgements.{roomJudged}
+use Rattle.outcomes.specs.LineOperations.{eLineRun, threeLines, roomRun}
+use Rattle.outcomes.specs.LineReadings.{answerRun, output, readWRun}
+use Rattle.outcomes.proofs.Theory.Judgements.{room-judged}
+use Rattle.outcomes.proofs.Theory.LineResults.{e-line-result}
+use Rattle.outcomes.proofs.Theory.Memory.{written-length, written-needed}
 use Rattle.refusals.specs.Chains.{ends}
 use Rattle.buffers.specs.Copies.{copied, copied-all}
 use Rattle.refusals.specs.Running.{checksThen, run-passed, run-refused, then-passing}

@@ -14,12 +14,12 @@ use Rattle.grammar.specs.Lines.{jLine, wLine}
 use Rattle.hypoplactic.specs.Words.{Accepted}
 use Rattle.hypoplactic.specs.Insertion.{lettersOf, marksOf}
 use Rattle.hypoplactic.specs.Junctions.{junction, junctionSet, rowsOf}
-use Rattle.hypoplactic.specs.LineOperations.{pairLine, threeLines}
-use Rattle.hypoplactic.specs.LineReadings.{Outputs, lines, output, refusal}
+use Rattle.outcomes.specs.LineOperations.{pairLine, threeLines}
+use Rattle.outcomes.specs.LineReadings.{Outputs, lines, output, refusal}
 use Rattle.hypoplactic.specs.Reading.{columnReading}
 use Rattle.hypoplactic.proofs.Theory.Bits.{number-below}
 use Rattle.hypoplactic.proofs.Theory.Closure.{reading-accepted, word-pair-at, word-tableau-at}
-use Rattle.hypoplactic.proofs.Theory.Outputs.{output-accepted, outputs}
+use Rattle.outcomes.proofs.Theory.Outputs.{output-accepted, outputs}
 use Rattle.writers.specs.Lengths.{e-length, j-length, p-length, w-length}
 use Rattle.outputs.specs.Printing.{Ready}
 

@@ -13,14 +13,14 @@ use borrow.Author.Tests.{lt-ltb, le-ltb}
 use Rattle.grammar.specs.Lines.{eLine}
 use Rattle.grammar.specs.Reading.{Read, got, broken, readW}
 use Rattle.hypoplactic.specs.Words.{Accepted}
-use Rattle.hypoplactic.specs.Replies.{Said, gives, refused, passed, first, written}
-use Rattle.hypoplactic.specs.Judgements.{roomJudged, wordJudgements}
-use Rattle.hypoplactic.specs.LineOperations.{threeLines, program}
-use Rattle.hypoplactic.specs.LineReadings.{output, printedFor, readRun, readWRun, wordRead}
-use Rattle.hypoplactic.proofs.Theory.Judgements.{room-judged}
-use Rattle.hypoplactic.proofs.Theory.LineResults.{program-result}
-use Rattle.hypoplactic.proofs.Theory.Memory.{written-length, written-needed}
-use Rattle.hypoplactic.proofs.Theory.Passing.{Passing}
+use Rattle.outcomes.specs.Replies.{Said, gives, refused, passed, first, written}
+use Rattle.outcomes.specs.Judgements.{roomJudged, wordJudgements}
+use Rattle.outcomes.specs.LineOperations.{threeLines, program}
+use Rattle.outcomes.specs.LineReadings.{output, printedFor, readRun, readWRun, wordRead}
+use Rattle.outcomes.proofs.Theory.Judgements.{room-judged}
+use Rattle.outcomes.proofs.Theory.LineResults.{program-result}
+use Rattle.outcomes.proofs.Theory.Memory.{written-length, written-needed}
+use Rattle.outcomes.proofs.Theory.Passing.{Passing}
 use Rattle.refusals.specs.Said.{number, place, saidWordLine}
 use Rattle.refusals.specs.declared.refusal.Refusal.{Refusal}
 use Rattle.refusals.specs.declared.answers.WordLine.{WordLine}

@@ -13,8 +13,8 @@ use lib.ListN.{length, drop, length-append, length-drop}
 use lib.Seq.{drop-append-seam, drop-drop, drop-length, take-length}
 use borrow.Rule.Slice.PartMut.{midOf, putMid, mid-len}
 use Rattle.hypoplactic.specs.Words.{Accepted}
-use Rattle.hypoplactic.specs.Replies.{Said, gives, written}
-use Rattle.hypoplactic.proofs.Theory.Memory.{written-length}
+use Rattle.outcomes.specs.Replies.{Said, gives, written}
+use Rattle.outcomes.proofs.Theory.Memory.{written-length}
 use Rattle.refusals.specs.Outcomes.{wrote-elements, wrote-memory, wrote-refused}
 use Rattle.refusals.specs.Running.{written-part}
 use Rattle.refusals.specs.Said.{saidWritten}

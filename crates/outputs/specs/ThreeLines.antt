@@ -15,20 +15,20 @@ use borrow.Rule.Slice.PartMut.{midOf, putMid}
 use Rattle.grammar.specs.Lines.{jLine, pLine, wLine}
 use Rattle.hypoplactic.specs.Words.{Accepted}
 use Rattle.hypoplactic.specs.Insertion.{Pair, lettersOf, marksOf, pairOf, pairWith, recordingOf}
-use Rattle.hypoplactic.specs.Counts.{TrueCounts, countsOf}
+use Rattle.outcomes.specs.Counts.{TrueCounts, countsOf}
 use Rattle.hypoplactic.specs.Junctions.{junctionSet, rowsOf}
 use Rattle.hypoplactic.specs.Reading.{columnReading}
-use Rattle.hypoplactic.specs.Replies.{Said, gives, written}
+use Rattle.outcomes.specs.Replies.{Said, gives, written}
 use Rattle.hypoplactic.specs.Ribbons.{PairAt, TableauAt}
-use Rattle.hypoplactic.specs.TableauOperations.{pairRun, readingRun, writtenPair}
-use Rattle.hypoplactic.specs.LineOperations.{jLineRun, pLineRun, pairLine, threeLines, wLineRun}
+use Rattle.outcomes.specs.TableauOperations.{pairRun, readingRun, writtenPair}
+use Rattle.outcomes.specs.LineOperations.{jLineRun, pLineRun, pairLine, threeLines, wLineRun}
 use Rattle.hypoplactic.proofs.Theory.Closure.{reading-accepted, word-pair-at, word-tableau-at}
-use Rattle.hypoplactic.proofs.Theory.Counts.{letters-true}
-use Rattle.hypoplactic.proofs.Theory.LineResults.{j-line-result, p-line-result, w-line-result}
-use Rattle.hypoplactic.proofs.Theory.Memory.{written-length, written-needed}
+use Rattle.outcomes.proofs.Theory.Counts.{letters-true}
+use Rattle.outcomes.proofs.Theory.LineResults.{j-line-result, p-line-result, w-line-result}
+use Rattle.outcomes.proofs.Theory.Memory.{written-length, written-needed}
 use Rattle.hypoplactic.proofs.Theory.Pairs.{length-letters, length-marks, length-recording}
 use Rattle.hypoplactic.proofs.Theory.ReadBack.{reading-length}
-use Rattle.hypoplactic.proofs.Theory.Results.{pair-result, reading-result}
+use Rattle.outcomes.proofs.Theory.Results.{pair-result, reading-result}
 use Rattle.refusals.specs.Outcomes.{wrote-elements, wrote-memory, wrote-refused}
 use Rattle.refusals.specs.Said.{saidWritten}
 use Rattle.refusals.specs.declared.refusal.Refusal.{Refusal}

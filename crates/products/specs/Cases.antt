@@ -1,4 +1,4 @@
--- Cases of the product: what the written meaning gives beside what is expected, in the form of hypoplactic's specs/Starred. A reply stands as its numbers:
+-- Cases of the product: what the written meaning gives beside what is expected, in the form of outcomes' specs/Starred. A reply stands as its numbers:
 -- 0 and the values, or the refusal's number and place; what lent letters, marks and counts then hold follows.
 --     productCases      products, with one element of lent memory beyond those needed
 --     productRefusals      every refusal number in both factors, at its place and in its order
@@ -7,9 +7,9 @@
 use Prim.Native.Nat.{ℕ}
 use mathlib.Core.List.{List, [], _∷_}
 use lib.ListN.{replicate, set}
-use Rattle.hypoplactic.specs.Counts.{countsOf}
-use Rattle.hypoplactic.specs.Replies.{Said}
-use Rattle.hypoplactic.specs.Starred.{Case, case, counts, lent, m12446553275, numbers, tableauOutcome, x12446553275}
+use Rattle.outcomes.specs.Counts.{countsOf}
+use Rattle.outcomes.specs.Replies.{Said}
+use Rattle.outcomes.specs.Starred.{Case, case, counts, lent, m12446553275, numbers, tableauOutcome, x12446553275}
 use Rattle.products.specs.Products.{productRun, productSays}
 
 -- ---- factors with true letter counts

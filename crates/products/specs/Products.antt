@@ -11,11 +11,11 @@
 use Prim.Native.Nat.{ℕ, _+_}
 use mathlib.Core.List.{List, [], _∷_, _++_}
 use lib.ListN.{length, take}
-use Rattle.hypoplactic.specs.Counts.{countsJudged, countsOf}
+use Rattle.outcomes.specs.Counts.{countsJudged, countsOf}
 use Rattle.hypoplactic.specs.Insertion.{Pair, lettersOf, marksOf}
 use Rattle.hypoplactic.specs.Reading.{columnReading}
-use Rattle.hypoplactic.specs.Replies.{Said, gives, countOn, first, ranTo, written}
-use Rattle.hypoplactic.specs.Judgements.{rankJudged, lengthJudged, alikeJudged, lettersJudged, risingJudged, marksJudged, tableauRooms}
+use Rattle.outcomes.specs.Replies.{Said, gives, countOn, first, ranTo, written}
+use Rattle.outcomes.specs.Judgements.{rankJudged, lengthJudged, alikeJudged, lettersJudged, risingJudged, marksJudged, tableauRooms}
 
 -- The two column readings, one after the other.
 unfoldable pub productWord : List ℕ → List ℕ → List ℕ → List ℕ → List ℕ

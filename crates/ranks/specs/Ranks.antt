@@ -1,4 +1,4 @@
--- Demand 3 for words of two ranks (document 02, N5): records in the form of hypoplactic's specs/Classes.antt, field by field, with a rank for each word, and
+-- Demand 3 for words of two ranks (document 02, N5): records in the form of hypoplactic's specs/Classes.antt and outcomes' specs/WrittenClasses.antt, field by field, with a rank for each word, and
 -- the claims that they hold of any two words, each accepted at its own rank.
 --     Has n k                        the index of the move k is one of rank n
 --     FaithfulAcross line move n m u v    lines and moves tell of u at rank n and of v at rank m what the rewriting rules tell
@@ -19,11 +19,12 @@ use Rattle.hypoplactic.specs.Insertion.{Pair, recordingOf}
 use Rattle.hypoplactic.specs.Words.{Accepted}
 use Rattle.hypoplactic.specs.Moves.{Move, Defined, given, indexOf, moveWord}
 use Rattle.hypoplactic.specs.Rewriting.{Joined}
-use Rattle.hypoplactic.specs.Replies.{Said}
-use Rattle.hypoplactic.specs.WordOperations.{moveWordRun}
-use Rattle.hypoplactic.specs.TableauOperations.{pairRun}
-use Rattle.hypoplactic.specs.LineOperations.{tableauLine, tableauLineRun}
-use Rattle.hypoplactic.specs.Classes.{MovedTogether, OneRecording, lineBytes, moveLeft}
+use Rattle.outcomes.specs.Replies.{Said}
+use Rattle.outcomes.specs.WordOperations.{moveWordRun}
+use Rattle.outcomes.specs.TableauOperations.{pairRun}
+use Rattle.hypoplactic.specs.Classes.{tableauLine}
+use Rattle.outcomes.specs.LineOperations.{tableauLineRun}
+use Rattle.outcomes.specs.WrittenClasses.{MovedTogether, OneRecording, lineBytes, moveLeft}
 use Rattle.ranks.specs.Unranked.{withoutRank}
 
 -- The index of a move is allowed at a rank.

@@ -12,12 +12,12 @@ use lib.ListN.{length, drop, take, length-map}
 use borrow.Author.Needs.{needs}
 use Rattle.grammar.specs.Reading.{broken, got, letters, marks}
 use Rattle.numerals.specs.Numbers.{Told}
-use Rattle.hypoplactic.specs.Counts.{countsOf}
+use Rattle.outcomes.specs.Counts.{countsOf}
 use Rattle.hypoplactic.specs.Insertion.{Pair, pairWith}
-use Rattle.hypoplactic.specs.Judgements.{alikeJudged, entriesJudged, lengthJudged, lettersJudged, marksJudged, pairRooms, rankJudged, recordingJudged, risingJudged}
-use Rattle.hypoplactic.specs.LineReadings.{pairRead, readPRun}
-use Rattle.hypoplactic.specs.Replies.{Said, first, gives, passed, refused}
-use Rattle.hypoplactic.specs.TableauOperations.{writtenPair}
+use Rattle.outcomes.specs.Judgements.{alikeJudged, entriesJudged, lengthJudged, lettersJudged, marksJudged, pairRooms, rankJudged, recordingJudged, risingJudged}
+use Rattle.outcomes.specs.LineReadings.{pairRead, readPRun}
+use Rattle.outcomes.specs.Replies.{Said, first, gives, passed, refused}
+use Rattle.outcomes.specs.TableauOperations.{writtenPair}
 use Rattle.acceptance.specs.Bytes.{narrowed}
 use Rattle.refusals.specs.Running.{run-stopped}
 use Rattle.refusals.specs.Said.{saidRefusal, saidVerdict}

@@ -10,12 +10,12 @@ use native.Mathlib.Omega.{arith}
 use lib.ListN.{length}
 use borrow.Author.Needs.{needs}
 use Rattle.hypoplactic.specs.Insertion.{pairWith}
-use Rattle.hypoplactic.specs.Judgements.{pairJudgements, pairRooms}
-use Rattle.hypoplactic.specs.LineReadings.{pairRead}
-use Rattle.hypoplactic.specs.Replies.{gives}
+use Rattle.outcomes.specs.Judgements.{pairJudgements, pairRooms}
+use Rattle.outcomes.specs.LineReadings.{pairRead}
+use Rattle.outcomes.specs.Replies.{gives}
 use Rattle.hypoplactic.specs.Words.{Accepted}
-use Rattle.hypoplactic.proofs.Theory.Judged.{pair-passing}
-use Rattle.hypoplactic.proofs.Theory.Judgements.{alike-judged, room-judged}
+use Rattle.outcomes.proofs.Theory.Judged.{pair-passing}
+use Rattle.outcomes.proofs.Theory.Judgements.{alike-judged, room-judged}
 use Rattle.buffers.specs.Copies.{copied, copied-all}
 use Rattle.refusals.specs.Running.{checksThen, run-passed, run-refused, then-passing}
 use Rattle.refusals.specs.Said.{saidRefusal, saidVerdict}

@@ -10,10 +10,10 @@ use mathlib.Core.List.{List, [], _∷_, map}
 use lib.ListN.{length, take, length-map}
 use borrow.Author.Needs.{needs}
 use Rattle.grammar.specs.Reading.{letters, marks}
-use Rattle.hypoplactic.specs.Counts.{countsOf}
-use Rattle.hypoplactic.specs.Judgements.{alikeJudged, lengthJudged, lettersJudged, marksJudged, rankJudged, risingJudged, roomJudged}
-use Rattle.hypoplactic.specs.LineReadings.{readTRun, tableauRead}
-use Rattle.hypoplactic.specs.Replies.{Said, first, gives, passed, refused, written}
+use Rattle.outcomes.specs.Counts.{countsOf}
+use Rattle.outcomes.specs.Judgements.{alikeJudged, lengthJudged, lettersJudged, marksJudged, rankJudged, risingJudged, roomJudged}
+use Rattle.outcomes.specs.LineReadings.{readTRun, tableauRead}
+use Rattle.outcomes.specs.Replies.{Said, first, gives, passed, refused, written}
 use Rattle.refusals.specs.Running.{run-stopped}
 use Rattle.refusals.specs.Said.{saidRefusal, saidVerdict}
 use Rattle.refusals.specs.declared.refusal.Refusal.{Refusal}

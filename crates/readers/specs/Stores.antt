@@ -10,11 +10,11 @@ use native.Mathlib.Omega.{arith}
 use lib.ListN.{length}
 use borrow.Author.Needs.{needs}
 use Rattle.hypoplactic.specs.Words.{Accepted}
-use Rattle.hypoplactic.specs.Judgements.{roomJudged, tableauJudgements}
-use Rattle.hypoplactic.specs.LineReadings.{tableauRead}
-use Rattle.hypoplactic.specs.Replies.{gives}
-use Rattle.hypoplactic.proofs.Theory.Judged.{tableau-passing}
-use Rattle.hypoplactic.proofs.Theory.Judgements.{alike-judged, room-judged}
+use Rattle.outcomes.specs.Judgements.{roomJudged, tableauJudgements}
+use Rattle.outcomes.specs.LineReadings.{tableauRead}
+use Rattle.outcomes.specs.Replies.{gives}
+use Rattle.outcomes.proofs.Theory.Judged.{tableau-passing}
+use Rattle.outcomes.proofs.Theory.Judgements.{alike-judged, room-judged}
 use Rattle.buffers.specs.Copies.{copied, copied-all}
 use Rattle.refusals.specs.Running.{checksThen, run-passed, run-refused, then-passing}
 use Rattle.refusals.specs.Said.{saidRefusal, saidVerdict}

@@ -15,10 +15,10 @@ use lib.ListN.{length, getD, take}
 use lib.Seq.{take-suc}
 use borrow.Author.Needs.{needs}
 use Rattle.hypoplactic.specs.Words.{occurs}
-use Rattle.hypoplactic.specs.Judgements.{outside, entriesJudged, stepBroken, recordingJudged}
-use Rattle.hypoplactic.specs.FirstPlaces.{shorter}
-use Rattle.hypoplactic.specs.Replies.{gives, refused}
-use Rattle.hypoplactic.proofs.Theory.FirstPlaces.{entries-scan, recording-scan}
+use Rattle.outcomes.specs.Judgements.{outside, entriesJudged, stepBroken, recordingJudged}
+use Rattle.outcomes.specs.FirstPlaces.{shorter}
+use Rattle.outcomes.specs.Replies.{gives, refused}
+use Rattle.outcomes.proofs.Theory.FirstPlaces.{entries-scan, recording-scan}
 use Rattle.refusals.specs.Scanning.{Scanning, scanFrom, scan-from, start, turn, found, none}
 use Rattle.shapes.specs.Clear.{clearing}
 use Rattle.recordings.specs.Seen.{InTable, Judged, Met, Reaches, Seen}

@@ -25,7 +25,7 @@ use mir.Val.{Fits}
 use borrow.Author.Needs.{needs}
 use borrow.Author.Tests.{eqb-true, eqb-false, eq-eqb, ne-eqb, lt-ltb, le-ltb}
 use Rattle.hypoplactic.specs.Words.{occurs, tick}
-use Rattle.hypoplactic.specs.Judgements.{outside}
+use Rattle.outcomes.specs.Judgements.{outside}
 use Rattle.hypoplactic.proofs.Theory.Occurrences.{occurs-append}
 
 -- The bit of an entry.

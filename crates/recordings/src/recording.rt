@@ -7,7 +7,7 @@ ghost use Prim.Native.Nat.{_<_, _≤_, min};
 ghost use mathlib.Core.Path.{_≡_};
 ghost use mathlib.Core.List.{[]};
 ghost use lib.ListN.{length};
-ghost use Rattle.hypoplactic.specs.Judgements.{entriesJudged, recordingJudged};
+ghost use Rattle.outcomes.specs.Judgements.{entriesJudged, recordingJudged};
 ghost use Rattle.shapes.specs.Clear.{Cleared};
 ghost use Rattle.recordings.specs.Entries.{stepFault};
 ghost use Rattle.recordings.specs.Seen.{InTable, Judged, Met, Reaches, Seen};

@@ -13,8 +13,8 @@ use lib.Dec.{ltb, eqb, leb}
 use borrow.Author.Needs.{needs}
 use borrow.Author.Tests.{lt-ltb, le-ltb, le-leb, lt-leb}
 use Rattle.hypoplactic.specs.Moves.{indexOf}
-use Rattle.hypoplactic.specs.Replies.{Said, refused, passed, refuseIf}
-use Rattle.hypoplactic.specs.Judgements.{outside, rankJudged, lengthJudged, alikeJudged, usedJudged, indexJudged, fullJudged, roomJudged}
+use Rattle.outcomes.specs.Replies.{Said, refused, passed, refuseIf}
+use Rattle.outcomes.specs.Judgements.{outside, rankJudged, lengthJudged, alikeJudged, usedJudged, indexJudged, fullJudged, roomJudged}
 use Rattle.hypoplactic.proofs.Theory.Pairs.{le-or-lt}
 
 -- A refusal by one of two tests.

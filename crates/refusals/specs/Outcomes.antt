@@ -11,10 +11,10 @@ use mathlib.Core.Logic.{⊎-elim, _⊎_, inl, inr}
 use native.Mathlib.Omega.{arith}
 use lib.ListN.{getD}
 use Rattle.hypoplactic.specs.Words.{Accepted}
-use Rattle.hypoplactic.specs.Replies.{Said, gives, refused, first}
-use Rattle.hypoplactic.specs.Judgements.{wordJudgements}
-use Rattle.hypoplactic.proofs.Theory.Judged.{word-passing}
-use Rattle.hypoplactic.proofs.Theory.Passing.{Passing, first-both}
+use Rattle.outcomes.specs.Replies.{Said, gives, refused, first}
+use Rattle.outcomes.specs.Judgements.{wordJudgements}
+use Rattle.outcomes.proofs.Theory.Judged.{word-passing}
+use Rattle.outcomes.proofs.Theory.Passing.{Passing, first-both}
 use Rattle.refusals.specs.Said.{saidWritten}
 use Rattle.refusals.specs.declared.refusal.Refusal.{Refusal}
 use Rattle.refusals.specs.declared.answers.Written.{Written}

@@ -16,8 +16,8 @@ use native.Mathlib.Omega.{arith}
 use lib.ListN.{length, drop, set, length-append}
 use lib.Seq.{take-append-seam, drop-append-seam, set-append-seam, append-snoc, drop-drop, drop-cons}
 use borrow.Rule.Slice.PartMut.{putMid}
-use Rattle.hypoplactic.specs.Replies.{Said, gives, passed, orElse, first, ranTo, written}
-use Rattle.hypoplactic.proofs.Theory.Passing.{Passing, first-append, first-else, first-passed}
+use Rattle.outcomes.specs.Replies.{Said, gives, passed, orElse, first, ranTo, written}
+use Rattle.outcomes.proofs.Theory.Passing.{Passing, first-append, first-else, first-passed}
 use Rattle.refusals.specs.Chains.{chained, chaining, ends, goes-on, stops}
 use Rattle.refusals.specs.Said.{saidRefusal, saidVerdict}
 use Rattle.refusals.specs.declared.refusal.Refusal.{Refusal}

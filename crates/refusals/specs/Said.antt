@@ -9,7 +9,7 @@
 -- That each of them tells all cases apart is proofs/Theory/Apart. Assumes nothing.
 use Prim.Native.Nat.{ℕ}
 use mathlib.Core.List.{[], _∷_}
-use Rattle.hypoplactic.specs.Replies.{Said, gives, refused}
+use Rattle.outcomes.specs.Replies.{Said, gives, refused}
 use Rattle.refusals.specs.declared.refusal.Refusal.{Refusal}
 use Rattle.refusals.specs.declared.refusal.Refusal.the-variants.{Rank, Length, Parts, Letter, Falling, Mark, Entry, Step, Index, Inversion, NoLetter, Full, Room, Line, Large, PastLast, Count, Empty, Item, Sum}
 use Rattle.refusals.specs.declared.answers.Verdict.{Verdict}

@@ -1,4 +1,4 @@
--- Checks that scan places for the first fault. Each of 4 to 8 is one scan (hypoplactic, FirstPlaces), so one invariant and four laws serve them all.
+-- Checks that scan places for the first fault. Each of 4 to 8 is one scan (outcomes, FirstPlaces), so one invariant and four laws serve them all.
 --     scanFrom k fault i n         refused with k at the first of the n places from i on whose fault stands; passed where none does
 --     Scanning                     the loop's invariant: what is left of the scan gives the whole
 --     start, turn, found, none     where it begins, after a place without fault, at a fault, past the last place
@@ -10,8 +10,8 @@ use mathlib.Core.Bool.{Bool, true, false}
 use mathlib.Core.List.{[]}
 use native.Mathlib.Omega.{arith}
 use native.Mathlib.Numerals.{add-one}
-use Rattle.hypoplactic.specs.Replies.{Said, gives, refused, passed, refuseIf}
-use Rattle.hypoplactic.specs.FirstPlaces.{scan}
+use Rattle.outcomes.specs.Replies.{Said, gives, refused, passed, refuseIf}
+use Rattle.outcomes.specs.FirstPlaces.{scan}
 use Rattle.refusals.specs.declared.answers.Verdict.{Verdict}
 use Rattle.refusals.specs.declared.answers.Fault.{Fault}
 use Rattle.refusals.specs.declared.answers.Fault.the-variants.{At}

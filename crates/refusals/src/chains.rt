@@ -5,8 +5,8 @@ use crate::numbers::check_rank;
 use crate::numbers::check_room;
 ghost use mathlib.Core.Path.{_≡_};
 ghost use mathlib.Core.List.{[], _∷_};
-ghost use Rattle.hypoplactic.specs.Replies.{first, orElse, passed};
-ghost use Rattle.hypoplactic.specs.Judgements.{lengthJudged, pairRooms, rankJudged};
+ghost use Rattle.outcomes.specs.Replies.{first, orElse, passed};
+ghost use Rattle.outcomes.specs.Judgements.{lengthJudged, pairRooms, rankJudged};
 ghost use Rattle.refusals.specs.Said.{saidVerdict};
 
 // The first verdict if it refuses, else the second.

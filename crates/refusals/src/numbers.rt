@@ -5,8 +5,8 @@ ghost use Prim.Native.Nat.{_+_, min};
 ghost use mathlib.Core.Path.{_≡_};
 ghost use mathlib.Core.Bool.{_&&_, _||_};
 ghost use mathlib.Core.List.{[], _∷_};
-ghost use Rattle.hypoplactic.specs.Replies.{passed, refuseIf};
-ghost use Rattle.hypoplactic.specs.Judgements.{rankJudged, lengthJudged, alikeJudged, usedJudged, indexJudged, fullJudged, roomJudged};
+ghost use Rattle.outcomes.specs.Replies.{passed, refuseIf};
+ghost use Rattle.outcomes.specs.Judgements.{rankJudged, lengthJudged, alikeJudged, usedJudged, indexJudged, fullJudged, roomJudged};
 ghost use Rattle.refusals.specs.Said.{number, place, saidVerdict};
 
 // The smaller of two numbers: of two lengths, how many places both lists have.

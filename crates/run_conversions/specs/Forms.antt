@@ -15,14 +15,14 @@ use mathlib.Core.List.{List, [], _∷_, _++_}
 use native.Mathlib.Omega.{arith}
 use lib.ListN.{length, getD, take}
 use Rattle.grammar.specs.Reading.{Read, broken, got}
-use Rattle.hypoplactic.specs.Counts.{countsOf}
-use Rattle.hypoplactic.specs.Judgements.{roomJudged, tableauRooms}
-use Rattle.hypoplactic.specs.LineOperations.{lineRun}
-use Rattle.hypoplactic.specs.LineReadings.{readRun}
-use Rattle.hypoplactic.specs.Replies.{Passes, Said, first, gives, ranTo, refused, written}
-use Rattle.hypoplactic.proofs.Theory.Judgements.{room-judged}
-use Rattle.hypoplactic.proofs.Theory.Memory.{written-length, written-needed}
-use Rattle.hypoplactic.proofs.Theory.Passing.{Passing, first-answer, passing-before, ran-answer}
+use Rattle.outcomes.specs.Counts.{countsOf}
+use Rattle.outcomes.specs.Judgements.{roomJudged, tableauRooms}
+use Rattle.outcomes.specs.LineOperations.{lineRun}
+use Rattle.outcomes.specs.LineReadings.{readRun}
+use Rattle.outcomes.specs.Replies.{Passes, Said, first, gives, ranTo, refused, written}
+use Rattle.outcomes.proofs.Theory.Judgements.{room-judged}
+use Rattle.outcomes.proofs.Theory.Memory.{written-length, written-needed}
+use Rattle.outcomes.proofs.Theory.Passing.{Passing, first-answer, passing-before, ran-answer}
 use Rattle.refusals.specs.Outcomes.{not-both, same-values}
 use Rattle.refusals.specs.Said.{saidRefusal, saidTableauLine}
 use Rattle.refusals.specs.declared.refusal.Refusal.{Refusal}

@@ -8,8 +8,8 @@ use mathlib.Core.Path.{_≡_}
 use mathlib.Core.List.{List, [], _∷_}
 use lib.ListN.{length}
 use Rattle.grammar.specs.Lines.{tLine}
-use Rattle.hypoplactic.specs.LineReadings.{readTRun}
-use Rattle.hypoplactic.specs.Replies.{Passes, gives, written}
+use Rattle.outcomes.specs.LineReadings.{readTRun}
+use Rattle.outcomes.specs.Replies.{Passes, gives, written}
 use Rattle.run_lines.specs.Operations.{readCRun, runLine, runsToTableauRun, tableauToRunsRun}
 use Rattle.run_lines.proofs.Theory.Trips.{LineOf, bytesOf, read-c-held, read-t-held, runs-back, tableau-back}
 use Rattle.writers.specs.Lengths.{c-length, t-length}

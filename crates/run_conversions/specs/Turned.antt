@@ -10,14 +10,14 @@ use lib.ListN.{length, take}
 use borrow.Author.Needs.{needs}
 use Rattle.grammar.specs.Lines.{Run, tLine}
 use Rattle.grammar.specs.Reading.{got, readC, readT}
-use Rattle.hypoplactic.specs.Judgements.{tableauJudgements}
-use Rattle.hypoplactic.specs.LineOperations.{tLineRun}
-use Rattle.hypoplactic.specs.LineReadings.{readRun, readTRun}
-use Rattle.hypoplactic.specs.Replies.{Said}
-use Rattle.hypoplactic.proofs.Theory.Judged.{tableau-passing}
-use Rattle.hypoplactic.proofs.Theory.Judgements.{alike-judged, length-judged}
-use Rattle.hypoplactic.proofs.Theory.LineResults.{past-checks}
-use Rattle.hypoplactic.proofs.Theory.Passing.{Passing}
+use Rattle.outcomes.specs.Judgements.{tableauJudgements}
+use Rattle.outcomes.specs.LineOperations.{tLineRun}
+use Rattle.outcomes.specs.LineReadings.{readRun, readTRun}
+use Rattle.outcomes.specs.Replies.{Said}
+use Rattle.outcomes.proofs.Theory.Judged.{tableau-passing}
+use Rattle.outcomes.proofs.Theory.Judgements.{alike-judged, length-judged}
+use Rattle.outcomes.proofs.Theory.LineResults.{past-checks}
+use Rattle.outcomes.proofs.Theory.Passing.{Passing}
 use Rattle.refusals.specs.Said.{saidTableauLine}
 use Rattle.refusals.specs.declared.refusal.Refusal.{Refusal}
 use Rattle.refusals.specs.declared.answers.TableauLine.{TableauLine}

@@ -9,8 +9,8 @@ use Prim.Native.String.{String}
 use mathlib.Core.List.{List, [], _∷_, _++_}
 use lib.ListN.{replicate}
 use Rattle.grammar.specs.Lines.{Run}
-use Rattle.hypoplactic.specs.Replies.{first, passed}
-use Rattle.hypoplactic.specs.Starred.{Case, c4323, case, counts, lent, m12446553275, numbers, outcome, tableauOutcome, text, w12446553275, w4323, w433, x12446553275}
+use Rattle.outcomes.specs.Replies.{first, passed}
+use Rattle.outcomes.specs.Starred.{Case, c4323, case, counts, lent, m12446553275, numbers, outcome, tableauOutcome, text, w12446553275, w4323, w433, x12446553275}
 use Rattle.run_lines.specs.Runs.{runCells, runLetters, runMarks, runWith, runsOf}
 use Rattle.run_lines.specs.Judgements.{runJudgements}
 use Rattle.run_lines.specs.Operations.{cLineRun, readCRun, runsToTableauRun, tableauToRunsRun, wordRunLineRun}

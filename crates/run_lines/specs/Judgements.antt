@@ -9,8 +9,8 @@ use mathlib.Core.Bool.{_||_, not}
 use mathlib.Core.List.{List, [], _∷_, map}
 use lib.Dec.{eqb, leb}
 use Rattle.grammar.specs.Lines.{Run}
-use Rattle.hypoplactic.specs.Replies.{Said, passed, refuseIf}
-use Rattle.hypoplactic.specs.Judgements.{lengthJudged, lettersJudged, rankJudged}
+use Rattle.outcomes.specs.Replies.{Said, passed, refuseIf}
+use Rattle.outcomes.specs.Judgements.{lengthJudged, lettersJudged, rankJudged}
 use Rattle.run_lines.specs.Runs.{runCells}
 
 -- The letter of each item.

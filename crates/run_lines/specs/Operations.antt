@@ -13,11 +13,11 @@ use lib.ListN.{length}
 use Rattle.grammar.specs.Lines.{Run, cLine, tLine}
 use Rattle.grammar.specs.Reading.{readC, readT}
 use Rattle.hypoplactic.specs.Insertion.{lettersOf, marksOf}
-use Rattle.hypoplactic.specs.Counts.{countsOf}
-use Rattle.hypoplactic.specs.Replies.{Said, first, gives, ranTo, written}
-use Rattle.hypoplactic.specs.Judgements.{tableauJudgements, tableauRooms, wordJudgements}
-use Rattle.hypoplactic.specs.LineOperations.{lineRun}
-use Rattle.hypoplactic.specs.LineReadings.{readRun}
+use Rattle.outcomes.specs.Counts.{countsOf}
+use Rattle.outcomes.specs.Replies.{Said, first, gives, ranTo, written}
+use Rattle.outcomes.specs.Judgements.{tableauJudgements, tableauRooms, wordJudgements}
+use Rattle.outcomes.specs.LineOperations.{lineRun}
+use Rattle.outcomes.specs.LineReadings.{readRun}
 use Rattle.run_lines.specs.Runs.{runLetters, runMarks, runsOf}
 use Rattle.run_lines.specs.Judgements.{runJudgements}
 

@@ -8,7 +8,7 @@ use mathlib.Core.List.{List}
 use borrow.Author.Needs.{needs}
 use Rattle.grammar.specs.Reading.{readC}
 use Rattle.grammar.proofs.Theory.Sound.{c-sound}
-use Rattle.hypoplactic.specs.Replies.{refused}
+use Rattle.outcomes.specs.Replies.{refused}
 use Rattle.refusals.specs.Said.{saidTableauLine}
 use Rattle.refusals.specs.declared.answers.TableauLine.{TableauLine}
 use Rattle.line_items.specs.Items.{break-place}

@@ -13,10 +13,10 @@ use lib.ListN.{length}
 use borrow.Author.Needs.{needs}
 use Rattle.grammar.specs.Lines.{Run}
 use Rattle.grammar.specs.Values.{MarkedRuns}
-use Rattle.hypoplactic.specs.Judgements.{tableauRooms}
-use Rattle.hypoplactic.specs.Replies.{first, orElse, passed}
+use Rattle.outcomes.specs.Judgements.{tableauRooms}
+use Rattle.outcomes.specs.Replies.{first, orElse, passed}
 use Rattle.hypoplactic.specs.Words.{Within}
-use Rattle.hypoplactic.proofs.Theory.Judgements.{letters-judged, rank-judged, room-judged}
+use Rattle.outcomes.proofs.Theory.Judgements.{letters-judged, rank-judged, room-judged}
 use Rattle.refusals.specs.Running.{checked-then, checksThen, following, run-passed, run-refused, then-passing}
 use Rattle.refusals.specs.Said.{saidTableauLine, saidVerdict}
 use Rattle.refusals.specs.declared.refusal.Refusal.{Refusal}

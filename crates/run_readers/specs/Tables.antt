@@ -15,11 +15,11 @@ use lib.ListN.{length, getD, replicate, getD-replicate, length-replicate}
 use borrow.Author.Tests.{eqb-true, eqb-false, eq-eqb, le-ltb, ne-eqb}
 use Rattle.grammar.specs.Lines.{Run}
 use Rattle.grammar.specs.Values.{Items, MarkedRuns}
-use Rattle.hypoplactic.specs.Counts.{countsOf}
+use Rattle.outcomes.specs.Counts.{countsOf}
 use Rattle.hypoplactic.specs.Places.{layers, run}
-use Rattle.hypoplactic.specs.Replies.{written}
+use Rattle.outcomes.specs.Replies.{written}
 use Rattle.hypoplactic.specs.Words.{Within, count, tick}
-use Rattle.hypoplactic.proofs.Theory.Counts.{counts-whole}
+use Rattle.outcomes.proofs.Theory.Counts.{counts-whole}
 use Rattle.hypoplactic.proofs.Theory.Occurrences.{count-append}
 use Rattle.words.specs.Tables.{Table, sumOf, table-store}
 use Rattle.fillings.specs.Filled.{filled-runs-is, filledRuns}

@@ -18,9 +18,9 @@ use lib.Dec.{eqb, leb, ltb}
 use lib.ListN.{length, length-append}
 use borrow.Author.Tests.{le-ltb, lt-ltb, ne-eqb}
 use Rattle.grammar.specs.Lines.{Run}
-use Rattle.hypoplactic.specs.Judgements.{lengthJudged, lettersFrom, lettersJudged, outside, rankJudged}
-use Rattle.hypoplactic.specs.Replies.{Passes, Said, first, gives, orElse, passed, refused, refuseIf}
-use Rattle.hypoplactic.proofs.Theory.Judgements.{length-judged}
+use Rattle.outcomes.specs.Judgements.{lengthJudged, lettersFrom, lettersJudged, outside, rankJudged}
+use Rattle.outcomes.specs.Replies.{Passes, Said, first, gives, orElse, passed, refused, refuseIf}
+use Rattle.outcomes.proofs.Theory.Judgements.{length-judged}
 use Rattle.hypoplactic.proofs.Theory.Pairs.{le-or-lt}
 use Rattle.refusals.specs.Chains.{chained-two, chaining}
 use Rattle.refusals.specs.Said.{saidVerdict}

@@ -15,7 +15,7 @@ use lib.ListN.{set}
 use borrow.Author.Needs.{needs}
 use borrow.Author.Tests.{ltb-false}
 use Rattle.grammar.specs.Lines.{Run}
-use Rattle.hypoplactic.specs.Judgements.{outside}
+use Rattle.outcomes.specs.Judgements.{outside}
 use Rattle.hypoplactic.specs.Words.{Inside}
 use Rattle.run_tallies.specs.Tallies.{kept, tabled}
 

@@ -19,8 +19,8 @@ use mathlib.Core.List.{List, [], _∷_}
 use lib.Dec.{eqb, leb, ltb}
 use lib.ListN.{length, set}
 use Rattle.grammar.specs.Lines.{Run}
-use Rattle.hypoplactic.specs.Judgements.{lengthJudged, outside, rankJudged}
-use Rattle.hypoplactic.specs.Replies.{Said, first, passed, refuseIf}
+use Rattle.outcomes.specs.Judgements.{lengthJudged, outside, rankJudged}
+use Rattle.outcomes.specs.Replies.{Said, first, passed, refuseIf}
 use Rattle.run_lines.specs.Runs.{runCells}
 use Rattle.run_tallies.specs.declared.tally.Tally.{Tally}
 

@@ -6,7 +6,7 @@ use refusals::chains::or_else;
 use refusals::numbers::refuse_if;
 use refusals::refusal::Refusal;
 ghost use mathlib.Core.Path.{_≡_};
-ghost use Rattle.hypoplactic.specs.Replies.{first, passed};
+ghost use Rattle.outcomes.specs.Replies.{first, passed};
 ghost use Rattle.refusals.specs.Said.{saidVerdict};
 ghost use Rattle.run_tallies.specs.Tallies.{tallyJudgements, tallySays};
 

@@ -5,7 +5,7 @@ ghost use Prim.Native.Nat.{_+_};
 ghost use mathlib.Core.Path.{_≡_};
 ghost use mathlib.Core.Bool.{_||_};
 ghost use lib.Dec.{eqb, leb};
-ghost use Rattle.hypoplactic.specs.Judgements.{outside};
+ghost use Rattle.outcomes.specs.Judgements.{outside};
 ghost use Rattle.run_tallies.specs.Tallies.{Added, Fresh, capped, leadAfter, nextCount};
 
 // How many items there are; how many before the first whose letter is outside the rank; how many before the first whose letter is not above the one before it

@@ -16,11 +16,11 @@ use lib.ListN.{length}
 use mir.Syntax.{w64}
 use mir.Val.{Fits}
 use borrow.Author.Needs.{needs}
-use Rattle.hypoplactic.specs.Counts.{countFault, countsJudged}
-use Rattle.hypoplactic.specs.Replies.{Said, countOn}
-use Rattle.hypoplactic.specs.Judgements.{lettersJudged, marksJudged, risingJudged}
-use Rattle.hypoplactic.specs.FirstPlaces.{scan, shorter}
-use Rattle.hypoplactic.proofs.Theory.FirstPlaces.{scan-first, letters-scan, marks-scan, rising-scan}
+use Rattle.outcomes.specs.Counts.{countFault, countsJudged}
+use Rattle.outcomes.specs.Replies.{Said, countOn}
+use Rattle.outcomes.specs.Judgements.{lettersJudged, marksJudged, risingJudged}
+use Rattle.outcomes.specs.FirstPlaces.{scan, shorter}
+use Rattle.outcomes.proofs.Theory.FirstPlaces.{scan-first, letters-scan, marks-scan, rising-scan}
 use Rattle.refusals.specs.declared.answers.Fault.{Fault}
 use Rattle.refusals.specs.declared.answers.Fault.the-variants.{At, Nowhere}
 use Rattle.refusals.specs.declared.answers.Verdict.{Verdict}

@@ -8,11 +8,11 @@ use mathlib.Core.List.{List}
 use lib.ListN.{length}
 use borrow.Author.Needs.{needs}
 use Rattle.hypoplactic.specs.Words.{Accepted}
-use Rattle.hypoplactic.specs.Replies.{passed, Passes, first}
-use Rattle.hypoplactic.specs.Judgements.{lettersJudged}
-use Rattle.hypoplactic.specs.WordOperations.{wordsJudgements}
-use Rattle.hypoplactic.proofs.Theory.Judged.{word-passing}
-use Rattle.hypoplactic.proofs.Theory.Passing.{passes-nearer}
+use Rattle.outcomes.specs.Replies.{passed, Passes, first}
+use Rattle.outcomes.specs.Judgements.{lettersJudged}
+use Rattle.outcomes.specs.WordOperations.{wordsJudgements}
+use Rattle.outcomes.proofs.Theory.Judged.{word-passing}
+use Rattle.outcomes.proofs.Theory.Passing.{passes-nearer}
 use Rattle.refusals.specs.Chains.{stops, goes-on}
 use Rattle.refusals.specs.Running.{all-passing}
 use Rattle.refusals.specs.Said.{saidVerdict}

@@ -12,9 +12,9 @@ use shapes::rising::rising_fault;
 use shapes::rising::rising_verdict;
 ghost use mathlib.Core.Path.{_≡_};
 ghost use lib.ListN.{length};
-ghost use Rattle.hypoplactic.specs.Counts.{countsJudged};
-ghost use Rattle.hypoplactic.specs.Replies.{countOn};
-ghost use Rattle.hypoplactic.specs.Judgements.{lettersJudged, marksJudged, risingJudged};
+ghost use Rattle.outcomes.specs.Counts.{countsJudged};
+ghost use Rattle.outcomes.specs.Replies.{countOn};
+ghost use Rattle.outcomes.specs.Judgements.{lettersJudged, marksJudged, risingJudged};
 ghost use Rattle.refusals.specs.Said.{saidVerdict};
 ghost use Rattle.second_inputs.specs.Counting.{FurtherFits, further};
 

@@ -8,9 +8,9 @@ use refusals::numbers::check_length;
 use refusals::numbers::check_rank;
 ghost use mathlib.Core.List.{[], _∷_};
 ghost use mathlib.Core.Path.{_≡_};
-ghost use Rattle.hypoplactic.specs.Replies.{first, passed};
-ghost use Rattle.hypoplactic.specs.Judgements.{lengthJudged, rankJudged};
-ghost use Rattle.hypoplactic.specs.WordOperations.{wordsJudgements};
+ghost use Rattle.outcomes.specs.Replies.{first, passed};
+ghost use Rattle.outcomes.specs.Judgements.{lengthJudged, rankJudged};
+ghost use Rattle.outcomes.specs.WordOperations.{wordsJudgements};
 ghost use Rattle.refusals.specs.Said.{saidVerdict};
 
 // 1 and 2 of two words or tableaux: each over the first, then over the second.

@@ -8,10 +8,10 @@ use Prim.Native.Nat.{ℕ}
 use mathlib.Core.Path.{_≡_, refl, sym, ap, subst, _∙_}
 use mathlib.Core.List.{List, [], _∷_}
 use lib.ListN.{length}
-use Rattle.hypoplactic.specs.Counts.{countsJudged}
-use Rattle.hypoplactic.specs.Replies.{Passes, Said, countOn, first, orElse, passed}
-use Rattle.hypoplactic.specs.Judgements.{lettersJudged, marksJudged, risingJudged}
-use Rattle.hypoplactic.proofs.Theory.Passing.{first-answer, passes-further}
+use Rattle.outcomes.specs.Counts.{countsJudged}
+use Rattle.outcomes.specs.Replies.{Passes, Said, countOn, first, orElse, passed}
+use Rattle.outcomes.specs.Judgements.{lettersJudged, marksJudged, risingJudged}
+use Rattle.outcomes.proofs.Theory.Passing.{first-answer, passes-further}
 use Rattle.refusals.specs.Running.{all-passing}
 use Rattle.refusals.specs.Said.{saidVerdict}
 use Rattle.refusals.specs.declared.answers.Verdict.{Verdict}

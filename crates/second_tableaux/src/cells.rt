@@ -15,9 +15,9 @@ use shapes::rising::check_rising;
 ghost use mathlib.Core.List.{[], _∷_};
 ghost use mathlib.Core.Path.{_≡_};
 ghost use lib.ListN.{length};
-ghost use Rattle.hypoplactic.specs.Counts.{countsJudged};
-ghost use Rattle.hypoplactic.specs.Judgements.{alikeJudged, lettersJudged};
-ghost use Rattle.hypoplactic.specs.Replies.{countOn, first, passed};
+ghost use Rattle.outcomes.specs.Counts.{countsJudged};
+ghost use Rattle.outcomes.specs.Judgements.{alikeJudged, lettersJudged};
+ghost use Rattle.outcomes.specs.Replies.{countOn, first, passed};
 ghost use Rattle.refusals.specs.Said.{saidVerdict};
 ghost use Rattle.second_tableaux.specs.Cells.{cellsJudgements, shapesJudgements};
 

@@ -8,8 +8,8 @@ use refusals::numbers::check_together;
 ghost use Prim.Native.Nat.{_+_};
 ghost use mathlib.Core.List.{[], _∷_};
 ghost use mathlib.Core.Path.{_≡_};
-ghost use Rattle.hypoplactic.specs.Judgements.{alikeJudged, lengthJudged, rankJudged};
-ghost use Rattle.hypoplactic.specs.Replies.{first, passed};
+ghost use Rattle.outcomes.specs.Judgements.{alikeJudged, lengthJudged, rankJudged};
+ghost use Rattle.outcomes.specs.Replies.{first, passed};
 ghost use Rattle.products.specs.Products.{factorsJudgements};
 ghost use Rattle.refusals.specs.Said.{saidVerdict};
 

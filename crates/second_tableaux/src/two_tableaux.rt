@@ -5,7 +5,7 @@ use crate::cells::check_cells;
 use refusals::answers::Verdict;
 use second_inputs::two_words::check_two_limits;
 ghost use mathlib.Core.Path.{_≡_};
-ghost use Rattle.hypoplactic.specs.Replies.{first, passed};
+ghost use Rattle.outcomes.specs.Replies.{first, passed};
 ghost use Rattle.letter_counts.specs.TwoTableaux.{tableauxJudgements};
 ghost use Rattle.refusals.specs.Said.{saidVerdict};
 

@@ -11,7 +11,7 @@ use mathlib.Core.Path.{_≡_, refl, sym, _∙_}
 use mathlib.Core.Bool.{Bool, true, false, not, _||_, true≢false}
 use mathlib.Core.List.{[]}
 use borrow.Author.Needs.{needs}
-use Rattle.hypoplactic.specs.Replies.{Said, gives}
+use Rattle.outcomes.specs.Replies.{Said, gives}
 use Rattle.refusals.specs.Scanning.{Scanning, turn, none}
 
 -- What a pass shows where it saw nothing wrong. Of one that saw something wrong nothing is said.

@@ -1,5 +1,5 @@
 -- The faults that the checks 5 and 6 look for at a place, and that each check is the scan for its fault.
---     fallFault, markFault (hypoplactic, FirstPlaces)      5, 6
+--     fallFault, markFault (outcomes, FirstPlaces)      5, 6
 --     shorter-size                                         how many places two lists have in common
 --     largestMark x y                                      the largest mark of a step between two letters
 --     start-rising, start-marks                            where the two scans begin
@@ -14,9 +14,9 @@ use lib.Dec.{eqb, ltb}
 use lib.ListN.{length, getD}
 use borrow.Author.Needs.{needs}
 use borrow.Author.Tests.{eq-eqb, lt-ltb, ne-eqb}
-use Rattle.hypoplactic.specs.Judgements.{risingJudged, marksJudged}
-use Rattle.hypoplactic.specs.FirstPlaces.{markFault, shorter}
-use Rattle.hypoplactic.proofs.Theory.FirstPlaces.{rising-scan, marks-scan}
+use Rattle.outcomes.specs.Judgements.{risingJudged, marksJudged}
+use Rattle.outcomes.specs.FirstPlaces.{markFault, shorter}
+use Rattle.outcomes.proofs.Theory.FirstPlaces.{rising-scan, marks-scan}
 use Rattle.refusals.specs.Scanning.{Scanning, scanFrom, scan-from, start, turn, found, none, fault-said, fault-decides}
 use Rattle.shapes.specs.Clear.{clearing}
 

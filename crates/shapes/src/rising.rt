@@ -6,7 +6,7 @@ use refusals::refusal::Refusal;
 ghost use Prim.Native.Nat.{_<_, _≤_};
 ghost use mathlib.Core.Path.{_≡_};
 ghost use lib.ListN.{length};
-ghost use Rattle.hypoplactic.specs.Judgements.{risingJudged};
+ghost use Rattle.outcomes.specs.Judgements.{risingJudged};
 ghost use Rattle.refusals.specs.Said.{saidFault, saidVerdict};
 ghost use Rattle.shapes.specs.Clear.{Cleared};
 ghost use Rattle.shapes.specs.Faults.{fallFault};

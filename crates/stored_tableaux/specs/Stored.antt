@@ -10,12 +10,12 @@ use mathlib.Core.List.{List, [], _∷_}
 use mathlib.Core.Bool.{Bool, true, false, _&&_}
 use borrow.Author.Needs.{needs}
 use borrow.Author.Tests.{not-false, not-true}
-use Rattle.hypoplactic.specs.Counts.{TrueCounts}
-use Rattle.hypoplactic.specs.Replies.{Said, gives, passed, first}
+use Rattle.outcomes.specs.Counts.{TrueCounts}
+use Rattle.outcomes.specs.Replies.{Said, gives, passed, first}
 use Rattle.hypoplactic.specs.Weights.{Comparison}
-use Rattle.hypoplactic.specs.WordOperations.{comparisonNumber}
+use Rattle.outcomes.specs.WordOperations.{comparisonNumber}
 use Rattle.hypoplactic.specs.Words.{tick}
-use Rattle.hypoplactic.proofs.Theory.Passing.{first-else}
+use Rattle.outcomes.proofs.Theory.Passing.{first-else}
 use Rattle.numbering.specs.Dictionary.{sameList}
 use Rattle.letter_counts.specs.TwoTableaux.{sameClassTableauxSays, sameStored, tableauxJudgements, weightsTableauxSays}
 use Rattle.letter_counts.proofs.Theory.TwoTableaux.{tableaux-passing}

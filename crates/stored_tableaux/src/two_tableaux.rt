@@ -9,7 +9,7 @@ use second_tableaux::two_tableaux::check_tableaux;
 use weights::tables::compare_counts;
 ghost use mathlib.Core.List.{[], _∷_};
 ghost use mathlib.Core.Path.{_≡_};
-ghost use Rattle.hypoplactic.specs.Replies.{gives};
+ghost use Rattle.outcomes.specs.Replies.{gives};
 ghost use Rattle.hypoplactic.specs.Words.{tick};
 ghost use Rattle.letter_counts.specs.TwoTableaux.{sameClassTableauxSays, weightsTableauxSays};
 ghost use Rattle.refusals.specs.Said.{saidClass, saidWeights};

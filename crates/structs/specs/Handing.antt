@@ -10,7 +10,7 @@
 use Prim.Native.Nat.{ℕ}
 use mathlib.Core.Path.{_≡_, _∙_}
 use borrow.Author.Needs.{needs}
-use Rattle.hypoplactic.specs.Replies.{Said, refused}
+use Rattle.outcomes.specs.Replies.{Said, refused}
 use Rattle.refusals.specs.Said.{number, place, saidRefusal, saidVerdict, saidMove, saidWritten, saidUsed, saidRepeat, saidClass, saidWeights, saidJunctions, saidNumbered, saidWordLine, saidTableauLine, saidPairLine, saidCell}
 use Rattle.refusals.specs.declared.refusal.Refusal.{Refusal}
 use Rattle.refusals.specs.declared.refusal.Refusal.the-variants.{Line}

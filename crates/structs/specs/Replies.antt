@@ -12,7 +12,7 @@
 use Prim.Native.Nat.{ℕ, zero, suc}
 use mathlib.Core.List.{List, [], _∷_}
 use lib.ListN.{getD}
-use Rattle.hypoplactic.specs.Replies.{Said, gives, refused}
+use Rattle.outcomes.specs.Replies.{Said, gives, refused}
 use Rattle.structs.specs.declared.replies.DoneReply.{DoneReply}
 use Rattle.structs.specs.declared.replies.MoveReply.{MoveReply}
 use Rattle.structs.specs.declared.replies.CountReply.{CountReply}

@@ -15,7 +15,7 @@ use mir.Syntax.{w16}
 use mir.Val.{Fits}
 use lib.ListN.{getD, set}
 use borrow.Author.Needs.{needs}
-use Rattle.hypoplactic.specs.Counts.{oneOver}
+use Rattle.outcomes.specs.Counts.{oneOver}
 use Rattle.hypoplactic.specs.Moves.{Side, given, taken}
 use Rattle.operators.specs.Targets.{sideOf}
 use Rattle.operators.specs.declared.changes.Side.{Side as Chosen}

@@ -16,15 +16,15 @@ use borrow.Author.Needs.{needs}
 use Rattle.hypoplactic.specs.Words.{count}
 use Rattle.hypoplactic.specs.Ribbons.{TableauAt}
 use Rattle.hypoplactic.specs.Moves.{Move, Side, raising, lowering, below, changedPlace, given, movedTableau, repeatTableau, taken}
-use Rattle.hypoplactic.specs.Replies.{Said, gives, refused, passed, Passes, orElse, first, ranTo}
-use Rattle.hypoplactic.specs.Counts.{TrueCounts, countsJudged, oneOver}
-use Rattle.hypoplactic.specs.Judgements.{alikeJudged, countedJudgements, indexJudged, lettersJudged, marksJudged, risingJudged}
-use Rattle.hypoplactic.specs.WordOperations.{moveJudgements, orSame, placeTold}
-use Rattle.hypoplactic.specs.TableauOperations.{moveTableauRun, moveTableauSays, repeatTableauSays}
-use Rattle.hypoplactic.proofs.Theory.Judged.{counted-passing}
-use Rattle.hypoplactic.proofs.Theory.Judgements.{index-judged, letter-judged}
+use Rattle.outcomes.specs.Replies.{Said, gives, refused, passed, Passes, orElse, first, ranTo}
+use Rattle.outcomes.specs.Counts.{TrueCounts, countsJudged, oneOver}
+use Rattle.outcomes.specs.Judgements.{alikeJudged, countedJudgements, indexJudged, lettersJudged, marksJudged, risingJudged}
+use Rattle.outcomes.specs.WordOperations.{moveJudgements, orSame, placeTold}
+use Rattle.outcomes.specs.TableauOperations.{moveTableauRun, moveTableauSays, repeatTableauSays}
+use Rattle.outcomes.proofs.Theory.Judged.{counted-passing}
+use Rattle.outcomes.proofs.Theory.Judgements.{index-judged, letter-judged}
 use Rattle.hypoplactic.proofs.Theory.Occurrences.{count-length}
-use Rattle.hypoplactic.proofs.Theory.Passing.{Passing, first-else, passing-append, passing-first}
+use Rattle.outcomes.proofs.Theory.Passing.{Passing, first-else, passing-append, passing-first}
 use Rattle.refusals.specs.Running.{all-passing, checksThen, run-stopped, then-passing}
 use Rattle.refusals.specs.Said.{number, place, saidMove, saidRefusal, saidVerdict}
 use Rattle.refusals.specs.declared.refusal.Refusal.{Refusal}

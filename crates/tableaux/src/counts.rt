@@ -3,7 +3,7 @@ use operators::changes::Side;
 ghost use Prim.Native.Nat.{_-_, _<_};
 ghost use mathlib.Core.Path.{_≡_};
 ghost use lib.ListN.{getD};
-ghost use Rattle.hypoplactic.specs.Counts.{oneOver};
+ghost use Rattle.outcomes.specs.Counts.{oneOver};
 ghost use Rattle.hypoplactic.specs.Moves.{given, taken};
 ghost use Rattle.operators.specs.Targets.{sideOf};
 ghost use Rattle.tableaux.specs.Counts.{Movable, Slot};

@@ -9,9 +9,9 @@ use refusals::answers::Verdict;
 use refusals::chains::or_else;
 ghost use mathlib.Core.Path.{_≡_};
 ghost use mathlib.Core.List.{[], _∷_};
-ghost use Rattle.hypoplactic.specs.Replies.{first, passed};
-ghost use Rattle.hypoplactic.specs.Counts.{countsJudged};
-ghost use Rattle.hypoplactic.specs.Judgements.{countedJudgements, countedPairJudgements, lettersJudged, marksJudged, risingJudged};
+ghost use Rattle.outcomes.specs.Replies.{first, passed};
+ghost use Rattle.outcomes.specs.Counts.{countsJudged};
+ghost use Rattle.outcomes.specs.Judgements.{countedJudgements, countedPairJudgements, lettersJudged, marksJudged, risingJudged};
 ghost use Rattle.refusals.specs.Said.{saidVerdict};
 
 // 4, 5, 6 and 17: the cells of a tableau or of a pair, and its letter counts.

@@ -12,8 +12,8 @@ use shapes::marks::check_marks;
 use shapes::rising::check_rising;
 ghost use mathlib.Core.Path.{_≡_};
 ghost use mathlib.Core.List.{[], _∷_};
-ghost use Rattle.hypoplactic.specs.Replies.{first, passed};
-ghost use Rattle.hypoplactic.specs.Judgements.{alikeJudged, entriesJudged, lengthJudged, lettersJudged, marksJudged, pairJudgements, rankJudged, recordingJudged, risingJudged, tableauJudgements};
+ghost use Rattle.outcomes.specs.Replies.{first, passed};
+ghost use Rattle.outcomes.specs.Judgements.{alikeJudged, entriesJudged, lengthJudged, lettersJudged, marksJudged, pairJudgements, rankJudged, recordingJudged, risingJudged, tableauJudgements};
 ghost use Rattle.refusals.specs.Said.{saidVerdict};
 
 // 4, 5 and 6: the cells of a tableau or of a pair.

@@ -4,7 +4,7 @@ use refusals::answers::Cell;
 use refusals::answers::Verdict;
 use validity::tableau::check_tableau;
 ghost use mathlib.Core.Path.{_≡_};
-ghost use Rattle.hypoplactic.specs.TableauOperations.{lookSays, throughSays, viewerSays};
+ghost use Rattle.outcomes.specs.TableauOperations.{lookSays, throughSays, viewerSays};
 ghost use Rattle.refusals.specs.Said.{saidCell, saidVerdict};
 
 // Letters and marks may be lent for different times.

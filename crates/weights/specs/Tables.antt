@@ -18,8 +18,8 @@ use lib.Dec.{leb}
 use lib.ListN.{getD}
 use borrow.Author.Needs.{needs}
 use Rattle.hypoplactic.specs.Weights.{Comparison, comparison}
-use Rattle.hypoplactic.specs.Replies.{Said, gives}
-use Rattle.hypoplactic.specs.WordOperations.{comparisonNumber}
+use Rattle.outcomes.specs.Replies.{Said, gives}
+use Rattle.outcomes.specs.WordOperations.{comparisonNumber}
 use Rattle.words.specs.Tables.{sumOf}
 use Rattle.weights.specs.Sums.{Grown, Stepped, stepped-sums}
 

@@ -11,11 +11,11 @@ use mathlib.Core.List.{List, [], _∷_}
 use mathlib.Core.Bool.{_&&_}
 use lib.Dec.{leb}
 use Rattle.hypoplactic.specs.Words.{Accepted}
-use Rattle.hypoplactic.specs.Counts.{TrueCounts}
+use Rattle.outcomes.specs.Counts.{TrueCounts}
 use Rattle.hypoplactic.specs.Weights.{atMost, Comparison, comparison, compareWeights}
-use Rattle.hypoplactic.specs.Replies.{Said, gives, passed, orElse, first}
-use Rattle.hypoplactic.specs.WordOperations.{comparisonNumber, wordsJudgements, weightsSays}
-use Rattle.hypoplactic.proofs.Theory.Passing.{first-else}
+use Rattle.outcomes.specs.Replies.{Said, gives, passed, orElse, first}
+use Rattle.outcomes.specs.WordOperations.{comparisonNumber, wordsJudgements, weightsSays}
+use Rattle.outcomes.proofs.Theory.Passing.{first-else}
 use Rattle.words.specs.Given.{accepted-true, countGiven}
 use Rattle.words.specs.Tables.{Table, table-sum}
 use Rattle.second_inputs.specs.Passed.{judging}

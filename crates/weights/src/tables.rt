@@ -6,9 +6,9 @@ ghost use mathlib.Core.Path.{_≡_};
 ghost use mathlib.Core.List.{[], _∷_};
 ghost use mathlib.Core.Bool.{_&&_};
 ghost use lib.Dec.{leb};
-ghost use Rattle.hypoplactic.specs.Replies.{gives};
+ghost use Rattle.outcomes.specs.Replies.{gives};
 ghost use Rattle.hypoplactic.specs.Weights.{comparison};
-ghost use Rattle.hypoplactic.specs.WordOperations.{comparisonNumber};
+ghost use Rattle.outcomes.specs.WordOperations.{comparisonNumber};
 ghost use Rattle.refusals.specs.Said.{saidWeights};
 ghost use Rattle.weights.specs.Tables.{compareTables};
 

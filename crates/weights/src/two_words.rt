@@ -7,9 +7,9 @@ use words::tables::letter_counts;
 ghost use mathlib.Core.Path.{_≡_};
 ghost use mathlib.Core.List.{[], _∷_};
 ghost use Rattle.hypoplactic.specs.Words.{Accepted};
-ghost use Rattle.hypoplactic.specs.Replies.{gives};
+ghost use Rattle.outcomes.specs.Replies.{gives};
 ghost use Rattle.hypoplactic.specs.Weights.{compareWeights};
-ghost use Rattle.hypoplactic.specs.WordOperations.{comparisonNumber, weightsSays};
+ghost use Rattle.outcomes.specs.WordOperations.{comparisonNumber, weightsSays};
 ghost use Rattle.refusals.specs.Said.{saidWeights};
 
 // The comparison of two accepted words.

@@ -1,4 +1,4 @@
--- Cases of a window: what the written meaning gives beside what is expected, in the form of hypoplactic's specs/Starred. A reply stands as its numbers: 0 and
+-- Cases of a window: what the written meaning gives beside what is expected, in the form of outcomes' specs/Starred. A reply stands as its numbers: 0 and
 -- the values, or the refusal's number and place; what lent letters, marks, recording entries and counts then hold follows.
 --     departureCases       departures, with one element of lent memory beyond the used ones, and the vacated one before it
 --     departureRefusals    every refusal number at its place and in its order
@@ -9,9 +9,9 @@ use Prim.Native.Nat.{ℕ, suc}
 use mathlib.Core.List.{List, [], _∷_, _++_}
 use lib.ListN.{length, set}
 use Rattle.hypoplactic.specs.Insertion.{Pair, emptyPair, pairWith}
-use Rattle.hypoplactic.specs.Counts.{countsOf}
-use Rattle.hypoplactic.specs.TableauOperations.{pairRun}
-use Rattle.hypoplactic.specs.Starred.{Case, case, counts, lent, lentPair, numbers, pairOutcome}
+use Rattle.outcomes.specs.Counts.{countsOf}
+use Rattle.outcomes.specs.TableauOperations.{pairRun}
+use Rattle.outcomes.specs.Starred.{Case, case, counts, lent, lentPair, numbers, pairOutcome}
 use Rattle.windows.specs.Departures.{departRun, departSays}
 use Rattle.windows.specs.Windows.{Call, Window, arrive, called, calledWord, leave, windowAfter, wordAfter}
 

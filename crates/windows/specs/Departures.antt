@@ -5,17 +5,17 @@
 --     WindowAt n used p cs  what they let through: a pair within the limits of rank n in the used cells, with true counts
 --     departSays, departRun     1 2 3 4 5 6 17 7 8 18     gives the new used count; one letter is counted less
 -- A window is the pair in the first cells of three lent lists, of which so many are used, with its 64 letter counts. A lent list keeps its elements beyond
--- those of the word that is left, so also the last used one. The arrival of a letter is insertion (insertRun of hypoplactic). Assumes nothing.
+-- those of the word that is left, so also the last used one. The arrival of a letter is insertion (insertRun of outcomes). Assumes nothing.
 use Prim.Native.Nat.{ℕ, _-_, _≤_}
 use mathlib.Core.List.{List, [], _∷_, _++_}
 use lib.Dec.{eqb}
 use lib.ListN.{length, take, drop, getD}
 use Rattle.hypoplactic.specs.Ribbons.{PairAt}
 use Rattle.hypoplactic.specs.Insertion.{Pair, pairOf, wordOf}
-use Rattle.hypoplactic.specs.Replies.{Said, gives, passed, first, ranTo, refuseIf}
-use Rattle.hypoplactic.specs.Counts.{TrueCounts, countsJudged, oneLess}
-use Rattle.hypoplactic.specs.Judgements.{rankJudged, lengthJudged, usedJudged, lettersJudged, risingJudged, marksJudged, entriesJudged, recordingJudged}
-use Rattle.hypoplactic.specs.TableauOperations.{writtenPair}
+use Rattle.outcomes.specs.Replies.{Said, gives, passed, first, ranTo, refuseIf}
+use Rattle.outcomes.specs.Counts.{TrueCounts, countsJudged, oneLess}
+use Rattle.outcomes.specs.Judgements.{rankJudged, lengthJudged, usedJudged, lettersJudged, risingJudged, marksJudged, entriesJudged, recordingJudged}
+use Rattle.outcomes.specs.TableauOperations.{writtenPair}
 
 -- 18: a departure from an empty window.
 unfoldable pub emptyJudged : ℕ → Said

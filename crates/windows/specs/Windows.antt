@@ -14,9 +14,9 @@ use mathlib.Core.Path.{_≡_}
 use mathlib.Core.List.{List, [], _∷_, _++_}
 use lib.ListN.{drop, length}
 use Rattle.hypoplactic.specs.Insertion.{Pair}
-use Rattle.hypoplactic.specs.Replies.{Passes, Said, after, gives, refused}
-use Rattle.hypoplactic.specs.Judgements.{fullJudged, lettersFrom, pairRooms}
-use Rattle.hypoplactic.specs.TableauOperations.{insertRun, pairRun}
+use Rattle.outcomes.specs.Replies.{Passes, Said, after, gives, refused}
+use Rattle.outcomes.specs.Judgements.{fullJudged, lettersFrom, pairRooms}
+use Rattle.outcomes.specs.TableauOperations.{insertRun, pairRun}
 use Rattle.windows.specs.Departures.{departRun}
 
 pub record Window : Type 0 where

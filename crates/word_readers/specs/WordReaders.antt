@@ -12,10 +12,10 @@ use mathlib.Core.List.{List, [], _∷_, map}
 use lib.ListN.{length, take, length-map}
 use borrow.Author.Needs.{needs}
 use Rattle.grammar.specs.Reading.{letters}
-use Rattle.hypoplactic.specs.Judgements.{lengthJudged, lettersJudged, rankJudged, roomJudged, wordJudgements}
-use Rattle.hypoplactic.specs.LineReadings.{readWRun, wordRead}
-use Rattle.hypoplactic.specs.Replies.{Said, first, gives, passed, refused, written}
-use Rattle.hypoplactic.proofs.Theory.Judgements.{room-judged}
+use Rattle.outcomes.specs.Judgements.{lengthJudged, lettersJudged, rankJudged, roomJudged, wordJudgements}
+use Rattle.outcomes.specs.LineReadings.{readWRun, wordRead}
+use Rattle.outcomes.specs.Replies.{Said, first, gives, passed, refused, written}
+use Rattle.outcomes.proofs.Theory.Judgements.{room-judged}
 use Rattle.buffers.specs.Copies.{copied, copied-all}
 use Rattle.refusals.specs.Running.{checksThen, run-passed, run-refused, run-stopped, then-passing}
 use Rattle.refusals.specs.Said.{saidRefusal, saidVerdict}

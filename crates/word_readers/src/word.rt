@@ -14,8 +14,8 @@ use scans::line::scan_line;
 ghost use mathlib.Core.List.{[], _∷_};
 ghost use mathlib.Core.Path.{_≡_};
 ghost use lib.ListN.{length};
-ghost use Rattle.hypoplactic.specs.Judgements.{roomJudged, wordJudgements};
-ghost use Rattle.hypoplactic.specs.LineReadings.{readWRun, wordRead};
+ghost use Rattle.outcomes.specs.Judgements.{roomJudged, wordJudgements};
+ghost use Rattle.outcomes.specs.LineReadings.{readWRun, wordRead};
 ghost use Rattle.refusals.specs.Running.{checksThen};
 ghost use Rattle.refusals.specs.Said.{saidVerdict, saidWordLine};
 

@@ -13,12 +13,12 @@ use mathlib.Core.List.{List}
 use lib.ListN.{length, replicate, getD-replicate}
 use borrow.Author.Needs.{needs}
 use Rattle.hypoplactic.specs.Words.{Accepted, Within, count}
-use Rattle.hypoplactic.specs.Counts.{TrueCounts, countsOf}
+use Rattle.outcomes.specs.Counts.{TrueCounts, countsOf}
 use Rattle.hypoplactic.specs.Junctions.{junctionSet}
-use Rattle.hypoplactic.specs.Replies.{Said, passed, first, after}
-use Rattle.hypoplactic.specs.Judgements.{wordJudgements}
-use Rattle.hypoplactic.proofs.Theory.Counts.{counts-whole}
-use Rattle.hypoplactic.proofs.Theory.Judged.{word-judged}
+use Rattle.outcomes.specs.Replies.{Said, passed, first, after}
+use Rattle.outcomes.specs.Judgements.{wordJudgements}
+use Rattle.outcomes.proofs.Theory.Counts.{counts-whole}
+use Rattle.outcomes.proofs.Theory.Judged.{word-judged}
 use Rattle.hypoplactic.proofs.Theory.Limits.{accepted-within}
 use Rattle.refusals.specs.declared.refusal.Refusal.{Refusal}
 use Rattle.refusals.specs.declared.answers.Verdict.{Verdict}

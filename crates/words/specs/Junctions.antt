@@ -27,15 +27,15 @@ use borrow.Author.Tests.{lt-ltb, le-ltb}
 use Rattle.hypoplactic.specs.Words.{Accepted, Within, count, occurs, tick}
 use Rattle.hypoplactic.specs.Places.{firstPlace, lastPlace, orPlace}
 use Rattle.hypoplactic.specs.Junctions.{nextLarger, leftOf, junction, number, junctionSet, rowsOf}
-use Rattle.hypoplactic.specs.Replies.{Said, gives, first, passed, orElse}
-use Rattle.hypoplactic.specs.Judgements.{wordJudgements}
-use Rattle.hypoplactic.specs.WordOperations.{junctionSays}
+use Rattle.outcomes.specs.Replies.{Said, gives, first, passed, orElse}
+use Rattle.outcomes.specs.Judgements.{wordJudgements}
+use Rattle.outcomes.specs.WordOperations.{junctionSays}
 use Rattle.hypoplactic.proofs.Theory.Bits.{number-below}
 use Rattle.hypoplactic.proofs.Theory.Limits.{accepted-within, count-outside, occurs-none}
 use Rattle.hypoplactic.proofs.Theory.NextLarger.{Next, next-larger, next-is}
 use Rattle.hypoplactic.proofs.Theory.Occurrences.{occurs-count}
 use Rattle.hypoplactic.proofs.Theory.Places.{places-absent, first-bounds, last-bound, before-places}
-use Rattle.hypoplactic.proofs.Theory.Passing.{first-else}
+use Rattle.outcomes.proofs.Theory.Passing.{first-else}
 use Rattle.acceptance.specs.Passed.{judging}
 use Rattle.words.specs.Bits.{number-digit, number-none, number-more, under-power, or-bit, ones-fit, ones-more-fit}
 use Rattle.words.specs.Tables.{Placed, tabling, or-place-first}

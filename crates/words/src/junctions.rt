@@ -8,7 +8,7 @@ ghost use mathlib.Core.Path.{_≡_};
 ghost use lib.Dec.{ltb};
 ghost use Rattle.hypoplactic.specs.Words.{Accepted, tick};
 ghost use Rattle.hypoplactic.specs.Junctions.{junctionSet, rowsOf};
-ghost use Rattle.hypoplactic.specs.WordOperations.{junctionSays};
+ghost use Rattle.outcomes.specs.WordOperations.{junctionSays};
 ghost use Rattle.refusals.specs.Said.{saidJunctions};
 ghost use Rattle.words.specs.Given.{junctionGiven};
 ghost use Rattle.words.specs.Junctions.{bitAt};

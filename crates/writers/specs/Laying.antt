@@ -12,7 +12,7 @@ use native.Mathlib.Nat.{add-zero}
 use native.Mathlib.Omega.{arith}
 use lib.ListN.{length, set, length-append, length-set}
 use lib.Seq.{sets, set-comm, sets-eq}
-use Rattle.hypoplactic.specs.Replies.{written}
+use Rattle.outcomes.specs.Replies.{written}
 
 -- Stored from a place on, with room for all of them.
 pub record Laid (vs old : List ℕ) (at : ℕ) (now : List ℕ) (end : ℕ) : Type 0 where

@@ -21,7 +21,7 @@ use Rattle.hypoplactic.proofs.Theory.Limits.{within-more}
 use Rattle.hypoplactic.proofs.Theory.Once.{once-entries}
 use Rattle.hypoplactic.proofs.Theory.Pairs.{le-or-lt}
 use Rattle.hypoplactic.proofs.Theory.Placing.{Once}
-use Rattle.hypoplactic.proofs.Theory.StepJudgements.{ribbon-length}
+use Rattle.outcomes.proofs.Theory.StepJudgements.{ribbon-length}
 use Rattle.line_sizes.specs.Digits.{decimal-short}
 use Rattle.run_lines.specs.Judgements.{itemLetters}
 use Rattle.run_lines.specs.Operations.{runLine}

@@ -15,11 +15,11 @@ use lib.Dec.{T, leb, leb→le}
 use lib.ListN.{length, set, length-append, length-set}
 use borrow.Author.Needs.{needs}
 use Rattle.grammar.specs.Lines.{field, line}
-use Rattle.hypoplactic.specs.Judgements.{roomJudged}
-use Rattle.hypoplactic.specs.LineOperations.{roomRun}
-use Rattle.hypoplactic.specs.Replies.{gives, written}
-use Rattle.hypoplactic.proofs.Theory.Judgements.{room-judged}
-use Rattle.hypoplactic.proofs.Theory.Passing.{Passing, ran-answer}
+use Rattle.outcomes.specs.Judgements.{roomJudged}
+use Rattle.outcomes.specs.LineOperations.{roomRun}
+use Rattle.outcomes.specs.Replies.{gives, written}
+use Rattle.outcomes.proofs.Theory.Judgements.{room-judged}
+use Rattle.outcomes.proofs.Theory.Passing.{Passing, ran-answer}
 use Rattle.line_sizes.specs.Sizes.{Counted, lineSize}
 use Rattle.refusals.specs.Chains.{ends}
 use Rattle.refusals.specs.Running.{all-passing, run-stopped}

@@ -11,14 +11,14 @@ use mathlib.Core.List.{List, [], _∷_, _++_}
 use native.Mathlib.Omega.{arith}
 use lib.ListN.{length}
 use Rattle.grammar.specs.Lines.{cell, cells, field, firstCell, items, wLine, tLine, cLine, pLine, jLine, eLine}
-use Rattle.hypoplactic.specs.Judgements.{pairJudgements, roomJudged, tableauJudgements, wordJudgements}
+use Rattle.outcomes.specs.Judgements.{pairJudgements, roomJudged, tableauJudgements, wordJudgements}
 use Rattle.hypoplactic.specs.Junctions.{junctionSet, rowsOf}
-use Rattle.hypoplactic.specs.LineOperations.{eLineRun, jLineRun, lineRun, pLineRun, roomRun, tLineRun, wLineRun}
-use Rattle.hypoplactic.specs.Replies.{Said, gives, refused, passed, first}
-use Rattle.hypoplactic.specs.WordOperations.{junctionSays}
-use Rattle.hypoplactic.proofs.Theory.Judgements.{alike-judged, length-judged}
-use Rattle.hypoplactic.proofs.Theory.LineResults.{past-checks}
-use Rattle.hypoplactic.proofs.Theory.Passing.{Passing, first-answer}
+use Rattle.outcomes.specs.LineOperations.{eLineRun, jLineRun, lineRun, pLineRun, roomRun, tLineRun, wLineRun}
+use Rattle.outcomes.specs.Replies.{Said, gives, refused, passed, first}
+use Rattle.outcomes.specs.WordOperations.{junctionSays}
+use Rattle.outcomes.proofs.Theory.Judgements.{alike-judged, length-judged}
+use Rattle.outcomes.proofs.Theory.LineResults.{past-checks}
+use Rattle.outcomes.proofs.Theory.Passing.{Passing, first-answer}
 use Rattle.refusals.specs.Chains.{chaining}
 use Rattle.refusals.specs.Running.{all-passing, run-stopped}
 use Rattle.refusals.specs.Said.{saidJunctions, saidRefusal, saidVerdict}

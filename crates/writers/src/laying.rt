@@ -19,7 +19,7 @@ ghost use mathlib.Core.List.{_∷_};
 ghost use mathlib.Core.Path.{_≡_};
 ghost use lib.ListN.{length};
 ghost use Rattle.grammar.specs.Lines.{cell, cells, field, firstCell, items};
-ghost use Rattle.hypoplactic.specs.LineOperations.{roomRun};
+ghost use Rattle.outcomes.specs.LineOperations.{roomRun};
 ghost use Rattle.refusals.specs.Said.{saidWritten};
 ghost use Rattle.writers.specs.Items.{listed};
 ghost use Rattle.writers.specs.Laying.{Laid};

@@ -15,7 +15,7 @@ use validity::tableau::check_pair;
 use validity::tableau::check_tableau;
 use words::junctions::junctions;
 ghost use mathlib.Core.Path.{_≡_};
-ghost use Rattle.hypoplactic.specs.LineOperations.{eLineRun, jLineRun, pLineRun, tLineRun, wLineRun};
+ghost use Rattle.outcomes.specs.LineOperations.{eLineRun, jLineRun, pLineRun, tLineRun, wLineRun};
 ghost use Rattle.refusals.specs.Said.{number, place, saidWritten};
 ghost use Rattle.run_lines.specs.Operations.{cLineRun};
 

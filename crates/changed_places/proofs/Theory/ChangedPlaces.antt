@@ -21,16 +21,16 @@ use borrow.Author.Tests.{eqb-true, eqb-false}
 use Rattle.hypoplactic.specs.Words.{Accepted}
 use Rattle.hypoplactic.specs.Ribbons.{TableauAt}
 use Rattle.hypoplactic.specs.Moves.{Side, raising, lowering, Move, taken, onward, leftmost, orHere, rightmost, target, changedPlace, inverted, below, given, guarded, moveTableau, moveWord, moved, movedTableau, replaced}
-use Rattle.hypoplactic.specs.Replies.{Said, gives, refused, Passes, first, ranTo}
-use Rattle.hypoplactic.specs.Counts.{TrueCounts, countsOf, oneOver, withCounts}
-use Rattle.hypoplactic.specs.Judgements.{countedJudgements, wordJudgements}
-use Rattle.hypoplactic.specs.WordOperations.{moveJudgements, moveWordRun, moveWordSays, orSame, placeTold, undefinedBy}
-use Rattle.hypoplactic.specs.TableauOperations.{moveTableauRun, moveTableauSays}
+use Rattle.outcomes.specs.Replies.{Said, gives, refused, Passes, first, ranTo}
+use Rattle.outcomes.specs.Counts.{TrueCounts, countsOf, oneOver, withCounts}
+use Rattle.outcomes.specs.Judgements.{countedJudgements, wordJudgements}
+use Rattle.outcomes.specs.WordOperations.{moveJudgements, moveWordRun, moveWordSays, orSame, placeTold, undefinedBy}
+use Rattle.outcomes.specs.TableauOperations.{moveTableauRun, moveTableauSays}
 use Rattle.changed_places.specs.ChangedPlaces.{MovedAt, Past, inLetters}
-use Rattle.hypoplactic.proofs.Theory.Counts.{counts-true}
-use Rattle.hypoplactic.proofs.Theory.Judged.{counted-passing, word-passing}
-use Rattle.hypoplactic.proofs.Theory.MoveResults.{move-replaced, move-tableau-made, move-tableau-refused, move-word-made, move-word-refused}
-use Rattle.hypoplactic.proofs.Theory.Passing.{first-past, passing-before}
+use Rattle.outcomes.proofs.Theory.Counts.{counts-true}
+use Rattle.outcomes.proofs.Theory.Judged.{counted-passing, word-passing}
+use Rattle.outcomes.proofs.Theory.MoveResults.{move-replaced, move-tableau-made, move-tableau-refused, move-word-made, move-word-refused}
+use Rattle.outcomes.proofs.Theory.Passing.{first-past, passing-before}
 use Rattle.hypoplactic.proofs.Theory.Targets.{place-below, unguarded}
 
 -- ---- the leftmost and the rightmost

@@ -12,15 +12,15 @@ use Rattle.hypoplactic.specs.Words.{Accepted}
 use Rattle.hypoplactic.specs.Ribbons.{TableauAt}
 use Rattle.hypoplactic.specs.Insertion.{lettersOf, marksOf, recordingOf}
 use Rattle.hypoplactic.specs.Moves.{Move, below, given, indexOf, inverted, movedTableau, movedWord, placeInTableau, placeInWord, replaced}
-use Rattle.hypoplactic.specs.Counts.{countsOf, withCounts}
-use Rattle.hypoplactic.specs.WordOperations.{moveWordRun}
-use Rattle.hypoplactic.specs.TableauOperations.{moveTableauRun}
+use Rattle.outcomes.specs.Counts.{countsOf, withCounts}
+use Rattle.outcomes.specs.WordOperations.{moveWordRun}
+use Rattle.outcomes.specs.TableauOperations.{moveTableauRun}
 use Rattle.changed_places.specs.ChangedPlaces.{Beside, alike, beside}
 use Rattle.changed_places.proofs.Theory.ChangedCells.{changed-cell}
 use Rattle.hypoplactic.proofs.Theory.Closure.{word-tableau-at}
-use Rattle.hypoplactic.proofs.Theory.Counts.{letters-counts}
+use Rattle.outcomes.proofs.Theory.Counts.{letters-counts}
 use Rattle.hypoplactic.proofs.Theory.MoveRecording.{move-recording}
-use Rattle.hypoplactic.proofs.Theory.MoveResults.{move-replaced, move-tableau-made, move-tableau-refused, move-word-made, move-word-refused}
+use Rattle.outcomes.proofs.Theory.MoveResults.{move-replaced, move-tableau-made, move-tableau-refused, move-word-made, move-word-refused}
 use Rattle.hypoplactic.proofs.Theory.MoveTableau.{inversion-below, tableau-answer}
 use Rattle.hypoplactic.proofs.Theory.Targets.{unguarded}
 

@@ -6,12 +6,12 @@ use mathlib.Core.Path.{_≡_, refl}
 use mathlib.Core.List.{[], _∷_, map}
 use Rattle.hypoplactic.specs.Insertion.{insert, pairOf}
 use Rattle.hypoplactic.specs.Rewriting.{Joined}
-use Rattle.hypoplactic.specs.Replies.{gives}
-use Rattle.hypoplactic.specs.Counts.{countsJudged, countsOf}
-use Rattle.hypoplactic.specs.Judgements.{alikeJudged, indexJudged, inversionJudged, lengthJudged, letterJudged, lettersJudged, marksJudged, rankJudged, risingJudged}
-use Rattle.hypoplactic.specs.WordOperations.{moveWordRun, moveWordSays}
-use Rattle.hypoplactic.specs.TableauOperations.{moveTableauRun, moveTableauSays}
-use Rattle.hypoplactic.specs.Starred.{Case, raise}
+use Rattle.outcomes.specs.Replies.{gives}
+use Rattle.outcomes.specs.Counts.{countsJudged, countsOf}
+use Rattle.outcomes.specs.Judgements.{alikeJudged, indexJudged, inversionJudged, lengthJudged, letterJudged, lettersJudged, marksJudged, rankJudged, risingJudged}
+use Rattle.outcomes.specs.WordOperations.{moveWordRun, moveWordSays}
+use Rattle.outcomes.specs.TableauOperations.{moveTableauRun, moveTableauSays}
+use Rattle.outcomes.specs.Starred.{Case, raise}
 use Rattle.hypoplactic.proofs.Theory.Classes.{same-tableau-joined}
 use Rattle.changed_places.specs.Cases.{placeCases}
 

@@ -11,8 +11,8 @@ use Prim.Native.Nat.{ℕ, suc, _<_}
 use mathlib.Core.Path.{_≡_, refl, sym, subst}
 use mathlib.Core.List.{List, [], _∷_}
 use lib.ListN.{getD, length, set}
-use Rattle.hypoplactic.specs.Replies.{Said, gives, refused, Passes, OneNumber}
-use Rattle.hypoplactic.specs.Classes.{MovedTogether, in-both, in-neither}
+use Rattle.outcomes.specs.Replies.{Said, gives, refused, Passes, OneNumber}
+use Rattle.outcomes.specs.WrittenClasses.{MovedTogether, in-both, in-neither}
 use Rattle.changed_places.specs.ChangedPlaces.{Beside, alike, beside}
 
 -- ---- two joined words

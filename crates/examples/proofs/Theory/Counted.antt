@@ -4,13 +4,13 @@
 use mathlib.Core.Path.{_≡_, refl}
 use mathlib.Core.List.{map}
 use Rattle.grammar.specs.Reading.{readP, readT}
-use Rattle.hypoplactic.specs.Counts.{countsJudged, countsOf}
+use Rattle.outcomes.specs.Counts.{countsJudged, countsOf}
 use Rattle.hypoplactic.specs.Insertion.{insert, pairOf}
 use Rattle.hypoplactic.specs.Moves.{repeatTableau}
-use Rattle.hypoplactic.specs.Judgements.{alikeJudged, entriesJudged, fullJudged, indexJudged, inversionJudged, lengthJudged, letterJudged, lettersJudged, marksJudged, rankJudged, recordingJudged, risingJudged, roomJudged, usedJudged}
-use Rattle.hypoplactic.specs.TableauOperations.{insertRun, insertSays, moveTableauRun, moveTableauSays, pairRun, pairSays, readingSays, repeatTableauSays, wordSays}
-use Rattle.hypoplactic.specs.LineReadings.{readPRun, readTRun}
-use Rattle.hypoplactic.specs.Starred.{Case}
+use Rattle.outcomes.specs.Judgements.{alikeJudged, entriesJudged, fullJudged, indexJudged, inversionJudged, lengthJudged, letterJudged, lettersJudged, marksJudged, rankJudged, recordingJudged, risingJudged, roomJudged, usedJudged}
+use Rattle.outcomes.specs.TableauOperations.{insertRun, insertSays, moveTableauRun, moveTableauSays, pairRun, pairSays, readingSays, repeatTableauSays, wordSays}
+use Rattle.outcomes.specs.LineReadings.{readPRun, readTRun}
+use Rattle.outcomes.specs.Starred.{Case}
 use Rattle.examples.specs.Counted.{countCases}
 
 -- 17 stands where document 02 has it, names each place, and the counts follow the letters.

@@ -17,19 +17,20 @@ use Rattle.hypoplactic.specs.Reading.{columnReading}
 use Rattle.hypoplactic.specs.Moves.{repeatTableau}
 use Rattle.hypoplactic.specs.Junctions.{number, junctionSet, rowsOf, sameClass}
 use Rattle.hypoplactic.specs.Weights.{compareWeights}
-use Rattle.hypoplactic.specs.Replies.{Passes, orElse, refused}
-use Rattle.hypoplactic.specs.Counts.{countsJudged, countsOf}
-use Rattle.hypoplactic.specs.Judgements.{rankJudged, lengthJudged, lettersJudged, indexJudged, inversionJudged, letterJudged, alikeJudged, usedJudged, risingJudged, marksJudged, entriesJudged, recordingJudged, fullJudged, roomJudged}
-use Rattle.hypoplactic.specs.WordOperations.{junctionSays, moveWordRun, moveWordSays, repeatWordSays, sameClassSays, weightsSays}
-use Rattle.hypoplactic.specs.TableauOperations.{insertRun, insertSays, lookSays, moveTableauSays, pairRun, pairSays, readingRun, readingSays, repeatTableauSays, throughSays, viewerSays, wordRun, wordSays}
-use Rattle.hypoplactic.specs.LineOperations.{pairLine, program, tableauLine, eLineRun, jLineRun, pLineRun, roomRun, tLineRun, tableauLineRun, wLineRun}
-use Rattle.hypoplactic.specs.LineReadings.{answerRun, output, readPRun, readTRun, readWRun}
-use Rattle.hypoplactic.specs.Starred.{Case}
+use Rattle.outcomes.specs.Replies.{Passes, orElse, refused}
+use Rattle.outcomes.specs.Counts.{countsJudged, countsOf}
+use Rattle.outcomes.specs.Judgements.{rankJudged, lengthJudged, lettersJudged, indexJudged, inversionJudged, letterJudged, alikeJudged, usedJudged, risingJudged, marksJudged, entriesJudged, recordingJudged, fullJudged, roomJudged}
+use Rattle.outcomes.specs.WordOperations.{junctionSays, moveWordRun, moveWordSays, repeatWordSays, sameClassSays, weightsSays}
+use Rattle.outcomes.specs.TableauOperations.{insertRun, insertSays, lookSays, moveTableauSays, pairRun, pairSays, readingRun, readingSays, repeatTableauSays, throughSays, viewerSays, wordRun, wordSays}
+use Rattle.outcomes.specs.LineOperations.{pairLine, program, eLineRun, jLineRun, pLineRun, roomRun, tLineRun, tableauLineRun, wLineRun}
+use Rattle.hypoplactic.specs.Classes.{tableauLine}
+use Rattle.outcomes.specs.LineReadings.{answerRun, output, readPRun, readTRun, readWRun}
+use Rattle.outcomes.specs.Starred.{Case}
 use Rattle.examples.specs.Pinned.{lineCases, orderCases, valueCases}
-use Rattle.hypoplactic.proofs.Theory.Passing.{first-past}
+use Rattle.outcomes.proofs.Theory.Passing.{first-past}
 use Rattle.hypoplactic.proofs.Theory.Contents.{within-snoc}
-use Rattle.hypoplactic.proofs.Theory.Judgements.{letters-judged, used-judged}
-use Rattle.hypoplactic.proofs.Theory.Judged.{tableau-passing}
+use Rattle.outcomes.proofs.Theory.Judgements.{letters-judged, used-judged}
+use Rattle.outcomes.proofs.Theory.Judged.{tableau-passing}
 
 -- Every operation makes its checks in document 01's order.
 pub orders-pinned : map (λ (c : Case). c .meaning) orderCases ≡ map (λ (c : Case). c .document) orderCases

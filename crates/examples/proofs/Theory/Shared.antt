@@ -17,10 +17,10 @@ use native.Mathlib.Omega.{arith}
 use lib.ListN.{length, getD}
 use Rattle.grammar.specs.Reading.{readC, readField, readRuns}
 use Rattle.hypoplactic.specs.Junctions.{number, junctionSet}
-use Rattle.hypoplactic.specs.Counts.{countsJudged, countsOf}
-use Rattle.hypoplactic.specs.Judgements.{entriesJudged, fullJudged, indexJudged, inversionJudged, lengthJudged, letterJudged, lettersJudged, marksJudged, rankJudged, recordingJudged, risingJudged, roomJudged, usedJudged}
+use Rattle.outcomes.specs.Counts.{countsJudged, countsOf}
+use Rattle.outcomes.specs.Judgements.{entriesJudged, fullJudged, indexJudged, inversionJudged, lengthJudged, letterJudged, lettersJudged, marksJudged, rankJudged, recordingJudged, risingJudged, roomJudged, usedJudged}
 use Rattle.hypoplactic.specs.Places.{layers}
-use Rattle.hypoplactic.specs.Starred.{Case, lower, raise, text}
+use Rattle.outcomes.specs.Starred.{Case, lower, raise, text}
 use Rattle.buffers.specs.Shifts.{pushed}
 use Rattle.refusals.specs.Running.{checksThen}
 use Rattle.numerals.specs.Numbers.{Numbered}

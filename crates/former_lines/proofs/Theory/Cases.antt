@@ -6,8 +6,8 @@ use mathlib.Core.List.{map}
 use Rattle.grammar.specs.Lines.{pLine}
 use Rattle.grammar.specs.Numbers.{decimal}
 use Rattle.grammar.specs.Reading.{readN, readT}
-use Rattle.hypoplactic.specs.Judgements.{alikeJudged, entriesJudged, lengthJudged, lettersJudged, marksJudged, rankJudged, recordingJudged, risingJudged, roomJudged}
-use Rattle.hypoplactic.specs.Starred.{Case}
+use Rattle.outcomes.specs.Judgements.{alikeJudged, entriesJudged, lengthJudged, lettersJudged, marksJudged, rankJudged, recordingJudged, risingJudged, roomJudged}
+use Rattle.outcomes.specs.Starred.{Case}
 use Rattle.former_lines.specs.Conversion.{convertRun}
 use Rattle.former_lines.specs.Cases.{conversionCases}
 

@@ -26,21 +26,22 @@ use Rattle.hypoplactic.specs.Ribbons.{PairAt}
 use Rattle.hypoplactic.specs.Insertion.{Pair, lettersOf, marksOf, pairWith, recordingOf}
 use Rattle.hypoplactic.specs.Reading.{columnReading}
 use Rattle.hypoplactic.specs.Junctions.{junctionSet, rowsOf}
-use Rattle.hypoplactic.specs.Counts.{countsOf}
-use Rattle.hypoplactic.specs.Replies.{Passes, Said, gives, orElse, ranTo, refused, written}
-use Rattle.hypoplactic.specs.Judgements.{alikeJudged, lengthJudged, rankJudged, roomJudged}
-use Rattle.hypoplactic.specs.TableauOperations.{writtenPair}
-use Rattle.hypoplactic.specs.LineOperations.{pLineRun, pairLine, tableauLine}
-use Rattle.hypoplactic.specs.LineReadings.{output, readPRun, readRun}
-use Rattle.hypoplactic.specs.Classes.{elements}
+use Rattle.outcomes.specs.Counts.{countsOf}
+use Rattle.outcomes.specs.Replies.{Passes, Said, gives, orElse, ranTo, refused, written}
+use Rattle.outcomes.specs.Judgements.{alikeJudged, lengthJudged, rankJudged, roomJudged}
+use Rattle.outcomes.specs.TableauOperations.{writtenPair}
+use Rattle.outcomes.specs.LineOperations.{pLineRun, pairLine}
+use Rattle.hypoplactic.specs.Classes.{tableauLine}
+use Rattle.outcomes.specs.LineReadings.{output, readPRun, readRun}
+use Rattle.outcomes.specs.WrittenClasses.{elements}
 use Rattle.hypoplactic.proofs.Theory.Closure.{word-pair-at}
-use Rattle.hypoplactic.proofs.Theory.Judged.{pair-passing}
-use Rattle.hypoplactic.proofs.Theory.Judgements.{length-judged, room-judged}
-use Rattle.hypoplactic.proofs.Theory.LineReadings.{pair-good, read-p-result}
-use Rattle.hypoplactic.proofs.Theory.Memory.{written-needed}
-use Rattle.hypoplactic.proofs.Theory.Outputs.{output-accepted}
+use Rattle.outcomes.proofs.Theory.Judged.{pair-passing}
+use Rattle.outcomes.proofs.Theory.Judgements.{length-judged, room-judged}
+use Rattle.outcomes.proofs.Theory.LineReadings.{pair-good, read-p-result}
+use Rattle.outcomes.proofs.Theory.Memory.{written-needed}
+use Rattle.outcomes.proofs.Theory.Outputs.{output-accepted}
 use Rattle.hypoplactic.proofs.Theory.Pairs.{length-letters, length-recording}
-use Rattle.hypoplactic.proofs.Theory.Passing.{Passing, passing-append, passing-first, ran-answer}
+use Rattle.outcomes.proofs.Theory.Passing.{Passing, passing-append, passing-first, ran-answer}
 use Rattle.former_lines.specs.Conversion.{convertRun, converted, formerJudgements, secondRun}
 
 -- ---- the values of two lines

@@ -15,10 +15,10 @@ use Rattle.grammar.specs.Reading.{Read, broken, got, readN, readT}
 use Rattle.grammar.proofs.Theory.Complete.{t-complete}
 use Rattle.grammar.proofs.Theory.Longest.{n-breaks, n-place, t-breaks, t-place}
 use Rattle.grammar.proofs.Theory.Sound.{t-sound}
-use Rattle.hypoplactic.specs.Replies.{Said, gives, refused}
-use Rattle.hypoplactic.specs.Judgements.{entriesJudged, lettersJudged, marksJudged, recordingJudged, risingJudged, roomJudged}
-use Rattle.hypoplactic.specs.LineReadings.{readRun}
-use Rattle.hypoplactic.proofs.Theory.OtherNumbers.{Other, Others, alike-other, entries-other, first-other, length-other, letters-other, marks-other, rank-other, recording-other, rising-other, room-other}
+use Rattle.outcomes.specs.Replies.{Said, gives, refused}
+use Rattle.outcomes.specs.Judgements.{entriesJudged, lettersJudged, marksJudged, recordingJudged, risingJudged, roomJudged}
+use Rattle.outcomes.specs.LineReadings.{readRun}
+use Rattle.outcomes.proofs.Theory.OtherNumbers.{Other, Others, alike-other, entries-other, first-other, length-other, letters-other, marks-other, rank-other, recording-other, rising-other, room-other}
 use Rattle.former_lines.specs.Conversion.{convertRun, converted, formerJudgements, secondRun}
 
 pub convert-first-broken : (t r out : List ℕ) (p : ℕ) → Breaks IsT t p → convertRun t r out ≡ (refused 14 p, out)

@@ -20,8 +20,7 @@ use Rattle.hypoplactic.specs.Ribbons.{Tableau, Along, LetterStep}
 use Rattle.hypoplactic.specs.Insertion.{lettersOf, marksOf}
 use Rattle.hypoplactic.specs.Reading.{columnReading}
 use Rattle.hypoplactic.specs.Moves.{Move, Defined, movedWord, movedTableau, moveWord, indexOf}
-use Rattle.hypoplactic.specs.LineOperations.{tableauLine}
-use Rattle.hypoplactic.specs.Classes.{Faithful, FaithfulLines}
+use Rattle.hypoplactic.specs.Classes.{tableauLine, Faithful, FaithfulLines}
 use Rattle.hypoplactic.proofs.Theory.Joining.{_⨾_, joined-eq, joined-sym}
 use Rattle.hypoplactic.proofs.Theory.NormalForm.{word-reading}
 use Rattle.hypoplactic.proofs.Theory.Boundary.{tableau-of-word}

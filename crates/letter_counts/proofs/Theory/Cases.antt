@@ -3,9 +3,9 @@
 -- Assumes nothing.
 use mathlib.Core.Path.{_≡_, refl}
 use mathlib.Core.List.{map}
-use Rattle.hypoplactic.specs.Counts.{countsJudged, countsOf}
-use Rattle.hypoplactic.specs.Judgements.{alikeJudged, lengthJudged, lettersJudged, marksJudged, rankJudged, risingJudged}
-use Rattle.hypoplactic.specs.Starred.{Case}
+use Rattle.outcomes.specs.Counts.{countsJudged, countsOf}
+use Rattle.outcomes.specs.Judgements.{alikeJudged, lengthJudged, lettersJudged, marksJudged, rankJudged, risingJudged}
+use Rattle.outcomes.specs.Starred.{Case}
 use Rattle.hypoplactic.specs.Weights.{compareWeights}
 use Rattle.letter_counts.specs.TwoTableaux.{sameClassTableauxSays, sameStored, weightsTableauxSays}
 use Rattle.letter_counts.specs.Cases.{tableauxCases}

@@ -21,19 +21,19 @@ use Rattle.grammar.specs.Reading.{Read, broken, got, readP, readT}
 use Rattle.hypoplactic.specs.Words.{Inside, count, tick}
 use Rattle.hypoplactic.specs.Insertion.{Pair, insert, pairOf, pairWith, putAt, seat}
 use Rattle.hypoplactic.specs.Moves.{Move}
-use Rattle.hypoplactic.specs.Replies.{Passes, Said, first, gives, ranTo, refused, written}
-use Rattle.hypoplactic.specs.FirstPlaces.{First}
-use Rattle.hypoplactic.specs.Counts.{countFault, countsJudged, countsOf, oneMore}
-use Rattle.hypoplactic.specs.Judgements.{fullJudged, pairJudgements, pairRooms, tableauJudgements, tableauRooms, wordJudgements}
-use Rattle.hypoplactic.specs.TableauOperations.{insertJudgements, insertRun, insertSays, moveTableauRun, pairRun, pairSays, usedCells, writtenPair}
-use Rattle.hypoplactic.specs.LineReadings.{pairRead, readPRun, readRun, readTRun, tableauRead}
-use Rattle.hypoplactic.proofs.Theory.Counts.{counts-first, counts-judged, counts-same, counts-true, counts-whole, letters-counts, snoc-counts}
-use Rattle.hypoplactic.proofs.Theory.Judgements.{letters-judged, rank-judged, used-judged}
+use Rattle.outcomes.specs.Replies.{Passes, Said, first, gives, ranTo, refused, written}
+use Rattle.outcomes.specs.FirstPlaces.{First}
+use Rattle.outcomes.specs.Counts.{countFault, countsJudged, countsOf, oneMore}
+use Rattle.outcomes.specs.Judgements.{fullJudged, pairJudgements, pairRooms, tableauJudgements, tableauRooms, wordJudgements}
+use Rattle.outcomes.specs.TableauOperations.{insertJudgements, insertRun, insertSays, moveTableauRun, pairRun, pairSays, usedCells, writtenPair}
+use Rattle.outcomes.specs.LineReadings.{pairRead, readPRun, readRun, readTRun, tableauRead}
+use Rattle.outcomes.proofs.Theory.Counts.{counts-first, counts-judged, counts-same, counts-true, counts-whole, letters-counts, snoc-counts}
+use Rattle.outcomes.proofs.Theory.Judgements.{letters-judged, rank-judged, used-judged}
 use Rattle.hypoplactic.proofs.Theory.Layers.{within-snoc}
-use Rattle.hypoplactic.proofs.Theory.MoveResults.{move-tableau-result}
+use Rattle.outcomes.proofs.Theory.MoveResults.{move-tableau-result}
 use Rattle.hypoplactic.proofs.Theory.Occurrences.{count-append}
 use Rattle.hypoplactic.proofs.Theory.Pairs.{le-or-lt, length-letters}
-use Rattle.hypoplactic.proofs.Theory.Passing.{first-answer, passing-append, passing-first, refused-keeps}
+use Rattle.outcomes.proofs.Theory.Passing.{first-answer, passing-append, passing-first, refused-keeps}
 use Rattle.hypoplactic.proofs.Theory.Placing.{count-placed, length-placed, placed-at}
 use Rattle.products.specs.Products.{factorsJudgements, productLetters, productMarks, productRun, productSays, productWord}
 use Rattle.products.proofs.Theory.ProductContents.{product-cells, product-counts}

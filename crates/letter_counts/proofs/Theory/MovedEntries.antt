@@ -13,14 +13,14 @@ use lib.Seq.{getD-set-other, getD-set-same}
 use Rattle.hypoplactic.specs.Words.{Inside, count}
 use Rattle.hypoplactic.specs.Ribbons.{TableauAt}
 use Rattle.hypoplactic.specs.Moves.{Move, Side, below, given, lowering, movedTableau, raising, taken}
-use Rattle.hypoplactic.specs.Replies.{Passes, Said, after, gives, refused}
-use Rattle.hypoplactic.specs.Counts.{TrueCounts, oneLess, oneOver}
-use Rattle.hypoplactic.specs.Judgements.{countedJudgements}
-use Rattle.hypoplactic.specs.WordOperations.{moveJudgements, orSame}
-use Rattle.hypoplactic.specs.TableauOperations.{moveTableauRun, moveTableauSays}
-use Rattle.hypoplactic.proofs.Theory.Judged.{counted-passing}
-use Rattle.hypoplactic.proofs.Theory.Judgements.{index-judged, letter-judged}
-use Rattle.hypoplactic.proofs.Theory.Passing.{passing-append, passing-first}
+use Rattle.outcomes.specs.Replies.{Passes, Said, after, gives, refused}
+use Rattle.outcomes.specs.Counts.{TrueCounts, oneLess, oneOver}
+use Rattle.outcomes.specs.Judgements.{countedJudgements}
+use Rattle.outcomes.specs.WordOperations.{moveJudgements, orSame}
+use Rattle.outcomes.specs.TableauOperations.{moveTableauRun, moveTableauSays}
+use Rattle.outcomes.proofs.Theory.Judged.{counted-passing}
+use Rattle.outcomes.proofs.Theory.Judgements.{index-judged, letter-judged}
+use Rattle.outcomes.proofs.Theory.Passing.{passing-append, passing-first}
 
 -- ---- of two letters
 

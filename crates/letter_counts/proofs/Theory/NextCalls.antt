@@ -13,21 +13,21 @@ use lib.ListN.{length, take}
 use Rattle.hypoplactic.specs.Words.{Accepted, tick}
 use Rattle.hypoplactic.specs.Insertion.{Pair, lettersOf, marksOf}
 use Rattle.hypoplactic.specs.Junctions.{sameClass}
-use Rattle.hypoplactic.specs.LineReadings.{readPRun, readTRun}
+use Rattle.outcomes.specs.LineReadings.{readPRun, readTRun}
 use Rattle.hypoplactic.specs.Moves.{Move}
 use Rattle.hypoplactic.specs.Reading.{columnReading}
-use Rattle.hypoplactic.specs.Replies.{Passes, gives}
-use Rattle.hypoplactic.specs.TableauOperations.{insertRun, moveTableauRun, pairRun}
+use Rattle.outcomes.specs.Replies.{Passes, gives}
+use Rattle.outcomes.specs.TableauOperations.{insertRun, moveTableauRun, pairRun}
 use Rattle.hypoplactic.specs.Weights.{Comparison}
-use Rattle.hypoplactic.specs.WordOperations.{comparisonNumber, sameClassSays, weightsSays}
-use Rattle.hypoplactic.specs.Counts.{countsJudged, countsOf}
+use Rattle.outcomes.specs.WordOperations.{comparisonNumber, sameClassSays, weightsSays}
+use Rattle.outcomes.specs.Counts.{countsJudged, countsOf}
 use Rattle.hypoplactic.proofs.Theory.Closure.{reading-accepted, word-tableau-at}
-use Rattle.hypoplactic.proofs.Theory.Counts.{counts-judged, counts-true, letters-true}
+use Rattle.outcomes.proofs.Theory.Counts.{counts-judged, counts-true, letters-true}
 use Rattle.hypoplactic.proofs.Theory.Joining.{joined-sym, joined-trans}
 use Rattle.hypoplactic.proofs.Theory.Letters.{count-letters}
 use Rattle.hypoplactic.proofs.Theory.NormalForm.{word-reading}
 use Rattle.hypoplactic.proofs.Theory.OneClass.{class-joined}
-use Rattle.hypoplactic.proofs.Theory.Results.{same-class-result, weights-result}
+use Rattle.outcomes.proofs.Theory.Results.{same-class-result, weights-result}
 use Rattle.products.specs.Products.{productRun}
 use Rattle.windows.specs.Departures.{departRun}
 use Rattle.letter_counts.specs.CountsHeld.{CountsHeld, cellsGiven}

@@ -16,14 +16,14 @@ use lib.Dec.{leb}
 use lib.ListN.{drop, getD}
 use borrow.Author.Tests.{eq-eqb}
 use Rattle.hypoplactic.specs.Words.{count}
-use Rattle.hypoplactic.specs.Counts.{countsFrom, countsOf}
+use Rattle.outcomes.specs.Counts.{countsFrom, countsOf}
 use Rattle.hypoplactic.specs.Ribbons.{Tableau, TableauAt}
 use Rattle.hypoplactic.specs.Reading.{columnReading}
 use Rattle.hypoplactic.specs.Junctions.{sameClass, sameCounts}
 use Rattle.hypoplactic.specs.Weights.{atMost, comparison, compareWeights, sumTo}
 use Rattle.hypoplactic.proofs.Theory.Boundary.{along-of-tableau}
 use Rattle.hypoplactic.proofs.Theory.Closure.{reading-accepted}
-use Rattle.hypoplactic.proofs.Theory.Counts.{counts-same}
+use Rattle.outcomes.proofs.Theory.Counts.{counts-same}
 use Rattle.hypoplactic.proofs.Theory.Letters.{rising-unique}
 use Rattle.hypoplactic.proofs.Theory.Limits.{accepted-within, and-both, count-outside}
 use Rattle.hypoplactic.proofs.Theory.Pairs.{Rising}

@@ -12,18 +12,18 @@ use mathlib.Core.List.{List, [], _∷_}
 use mathlib.Core.Bool.{Bool}
 use lib.ListN.{length}
 use Rattle.hypoplactic.specs.Words.{tick}
-use Rattle.hypoplactic.specs.Counts.{TrueCounts, countsJudged}
+use Rattle.outcomes.specs.Counts.{TrueCounts, countsJudged}
 use Rattle.hypoplactic.specs.Ribbons.{TableauAt}
 use Rattle.hypoplactic.specs.Reading.{columnReading}
 use Rattle.hypoplactic.specs.Weights.{Comparison, compareWeights}
-use Rattle.hypoplactic.specs.Replies.{gives}
-use Rattle.hypoplactic.specs.Judgements.{lettersJudged, marksJudged, risingJudged}
-use Rattle.hypoplactic.specs.WordOperations.{comparisonNumber, sameClassSays, weightsSays}
+use Rattle.outcomes.specs.Replies.{gives}
+use Rattle.outcomes.specs.Judgements.{lettersJudged, marksJudged, risingJudged}
+use Rattle.outcomes.specs.WordOperations.{comparisonNumber, sameClassSays, weightsSays}
 use Rattle.hypoplactic.proofs.Theory.Closure.{reading-accepted}
-use Rattle.hypoplactic.proofs.Theory.Counts.{counts-judged}
-use Rattle.hypoplactic.proofs.Theory.Judged.{tableau-passing}
-use Rattle.hypoplactic.proofs.Theory.Passing.{Passing, first-answer, passes-further, passes-nearer}
-use Rattle.hypoplactic.proofs.Theory.Results.{same-class-result, weights-result}
+use Rattle.outcomes.proofs.Theory.Counts.{counts-judged}
+use Rattle.outcomes.proofs.Theory.Judged.{tableau-passing}
+use Rattle.outcomes.proofs.Theory.Passing.{Passing, first-answer, passes-further, passes-nearer}
+use Rattle.outcomes.proofs.Theory.Results.{same-class-result, weights-result}
 use Rattle.letter_counts.specs.TwoTableaux.{sameClassTableauxSays, sameStored, tableauxJudgements, weightsTableauxSays}
 use Rattle.letter_counts.proofs.Theory.StoredCounts.{class-stored, weights-stored}
 

@@ -14,7 +14,7 @@ use mathlib.Core.Path.{_≡_, _∙_}
 use lib.ListN.{length}
 use Rattle.hypoplactic.specs.Words.{Within}
 use Rattle.hypoplactic.specs.Ribbons.{LetterStep, Tableau}
-use Rattle.hypoplactic.proofs.Theory.StepJudgements.{ribbon-length}
+use Rattle.outcomes.proofs.Theory.StepJudgements.{ribbon-length}
 use Rattle.numbering.specs.Dictionary.{classSize}
 use Rattle.numbering.specs.Compositions.{factorial, total}
 use Rattle.numbering.specs.Orders.{across, allowed, freed, headOf, orders, tally}

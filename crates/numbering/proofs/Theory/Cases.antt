@@ -3,10 +3,10 @@
 -- Assumes nothing.
 use mathlib.Core.Path.{_≡_, refl}
 use mathlib.Core.List.{map}
-use Rattle.hypoplactic.specs.Counts.{countsJudged}
+use Rattle.outcomes.specs.Counts.{countsJudged}
 use Rattle.hypoplactic.specs.Insertion.{insert, pairOf}
-use Rattle.hypoplactic.specs.Judgements.{alikeJudged, lengthJudged, lettersJudged, marksJudged, rankJudged, risingJudged, roomJudged}
-use Rattle.hypoplactic.specs.Starred.{Case}
+use Rattle.outcomes.specs.Judgements.{alikeJudged, lengthJudged, lettersJudged, marksJudged, rankJudged, risingJudged, roomJudged}
+use Rattle.outcomes.specs.Starred.{Case}
 use Rattle.numbering.specs.Dictionary.{classWords, words}
 use Rattle.numbering.specs.Operations.{classNumberSays, classSizeSays, classWordRun, classWordSays, numberJudged, smallJudged}
 use Rattle.numbering.specs.Cases.{numberCases}

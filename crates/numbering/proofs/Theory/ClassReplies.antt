@@ -6,7 +6,7 @@
 --     Written, word-written   a word that was written keeps all limits, and is there
 --     number-of-written       the number of the word that class_word has written is the number asked for
 --     word-of-told            the word of the number that class_number told is the word
--- The last three of any input that is not refused. That a refusal leaves lent memory as it was is refused-keeps of hypoplactic, Theory.Passing.
+-- The last three of any input that is not refused. That a refusal leaves lent memory as it was is refused-keeps of outcomes, Theory.Passing.
 -- Assumes nothing.
 use Prim.Native.Nat.{ℕ, _≤_, _<_}
 use native.Mathlib.Omega.{arith}
@@ -19,16 +19,16 @@ use borrow.Author.Tests.{le-ltb, ltb-false, lt-leb, leb-false}
 use Rattle.hypoplactic.specs.Words.{Accepted}
 use Rattle.hypoplactic.specs.Ribbons.{TableauAt}
 use Rattle.hypoplactic.specs.Insertion.{lettersOf, marksOf}
-use Rattle.hypoplactic.specs.Replies.{Passes, Said, gives, refused, written}
-use Rattle.hypoplactic.specs.Counts.{TrueCounts, countsOf}
-use Rattle.hypoplactic.specs.Judgements.{countedJudgements, roomJudged, wordJudgements}
+use Rattle.outcomes.specs.Replies.{Passes, Said, gives, refused, written}
+use Rattle.outcomes.specs.Counts.{TrueCounts, countsOf}
+use Rattle.outcomes.specs.Judgements.{countedJudgements, roomJudged, wordJudgements}
 use Rattle.hypoplactic.proofs.Theory.Closure.{word-tableau-at}
-use Rattle.hypoplactic.proofs.Theory.Counts.{letters-true}
-use Rattle.hypoplactic.proofs.Theory.Judged.{counted-passing, word-passing}
-use Rattle.hypoplactic.proofs.Theory.Judgements.{room-judged}
-use Rattle.hypoplactic.proofs.Theory.Memory.{written-needed}
+use Rattle.outcomes.proofs.Theory.Counts.{letters-true}
+use Rattle.outcomes.proofs.Theory.Judged.{counted-passing, word-passing}
+use Rattle.outcomes.proofs.Theory.Judgements.{room-judged}
+use Rattle.outcomes.proofs.Theory.Memory.{written-needed}
 use Rattle.hypoplactic.proofs.Theory.Pairs.{length-letters}
-use Rattle.hypoplactic.proofs.Theory.Passing.{Passing, first-answer, first-both, passes-test, passing-append, passing-first, ran-answer}
+use Rattle.outcomes.proofs.Theory.Passing.{Passing, first-answer, first-both, passes-test, passing-append, passing-first, ran-answer}
 use Rattle.numbering.specs.Dictionary.{classNumber, classSize, classWord}
 use Rattle.numbering.specs.Operations.{classJudgements, classNumberSays, classSizeSays, classWordRun, classWordSays, numberJudged, smallJudged}
 use Rattle.numbering.proofs.Theory.ClassNumbers.{class-members, class-within, number-of-word, word-of-number}

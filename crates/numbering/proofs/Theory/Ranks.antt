@@ -10,13 +10,13 @@ use lib.ListN.{length, getD}
 use Rattle.hypoplactic.specs.Words.{Accepted, Within}
 use Rattle.hypoplactic.specs.Ribbons.{Tableau, TableauAt}
 use Rattle.hypoplactic.specs.Insertion.{lettersOf, marksOf}
-use Rattle.hypoplactic.specs.Replies.{Said, first, gives, ranTo, written}
-use Rattle.hypoplactic.specs.Counts.{countsJudged}
-use Rattle.hypoplactic.specs.Judgements.{roomJudged, tableauJudgements, wordJudgements}
+use Rattle.outcomes.specs.Replies.{Said, first, gives, ranTo, written}
+use Rattle.outcomes.specs.Counts.{countsJudged}
+use Rattle.outcomes.specs.Judgements.{roomJudged, tableauJudgements, wordJudgements}
 use Rattle.hypoplactic.proofs.Theory.Boundary.{tableau-of-word}
 use Rattle.hypoplactic.proofs.Theory.Limits.{letters-within}
-use Rattle.hypoplactic.proofs.Theory.Judged.{tableau-passing, word-passing}
-use Rattle.hypoplactic.proofs.Theory.Passing.{Passing, first-past}
+use Rattle.outcomes.proofs.Theory.Judged.{tableau-passing, word-passing}
+use Rattle.outcomes.proofs.Theory.Passing.{Passing, first-past}
 use Rattle.numbering.specs.Dictionary.{classSize, classWord, classWords, placeIn}
 use Rattle.numbering.specs.Operations.{classJudgements, classNumberSays, classSizeSays, classWordRun, classWordSays, numberJudged, smallJudged}
 use Rattle.numbering.proofs.Theory.ClassSize.{class-words}

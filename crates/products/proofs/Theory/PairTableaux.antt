@@ -6,10 +6,10 @@ use Prim.Native.Nat.{ℕ, _≤_}
 use mathlib.Core.Path.{_≡_, refl, _∙_}
 use mathlib.Core.List.{List, [], _∷_}
 use Rattle.hypoplactic.specs.Insertion.{Pair}
-use Rattle.hypoplactic.specs.Judgements.{pairRooms, roomJudged, tableauRooms}
-use Rattle.hypoplactic.specs.Replies.{Said, first, gives, ranTo, refused}
-use Rattle.hypoplactic.proofs.Theory.Judgements.{room-judged}
-use Rattle.hypoplactic.proofs.Theory.Passing.{first-answer, first-append, first-else}
+use Rattle.outcomes.specs.Judgements.{pairRooms, roomJudged, tableauRooms}
+use Rattle.outcomes.specs.Replies.{Said, first, gives, ranTo, refused}
+use Rattle.outcomes.proofs.Theory.Judgements.{room-judged}
+use Rattle.outcomes.proofs.Theory.Passing.{first-answer, first-append, first-else}
 use Rattle.products.specs.Products.{tableauLeft}
 
 -- Where there is room for the entries, room for the pair is room for the tableau.

@@ -5,11 +5,11 @@
 -- Assumes nothing.
 use mathlib.Core.Path.{_≡_, refl}
 use mathlib.Core.List.{map}
-use Rattle.hypoplactic.specs.Counts.{countsJudged, countsOf}
+use Rattle.outcomes.specs.Counts.{countsJudged, countsOf}
 use Rattle.hypoplactic.specs.Insertion.{insert, pairOf}
 use Rattle.hypoplactic.specs.Reading.{columnReading}
-use Rattle.hypoplactic.specs.Judgements.{alikeJudged, lengthJudged, lettersJudged, marksJudged, rankJudged, risingJudged, roomJudged}
-use Rattle.hypoplactic.specs.Starred.{Case}
+use Rattle.outcomes.specs.Judgements.{alikeJudged, lengthJudged, lettersJudged, marksJudged, rankJudged, risingJudged, roomJudged}
+use Rattle.outcomes.specs.Starred.{Case}
 use Rattle.products.specs.Cases.{productLimits, productCases, productRefusals}
 use Rattle.products.specs.Products.{productRun, productSays, productWord}
 

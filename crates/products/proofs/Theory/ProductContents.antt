@@ -14,13 +14,13 @@ use mathlib.Core.Logic.{_⊎_, inl, inr}
 use mathlib.Core.List.{List, _++_}
 use lib.ListN.{getD, length, length-append}
 use Rattle.hypoplactic.specs.Words.{Accepted, Inside, count}
-use Rattle.hypoplactic.specs.Counts.{TrueCounts, countsOf}
+use Rattle.outcomes.specs.Counts.{TrueCounts, countsOf}
 use Rattle.hypoplactic.specs.Ribbons.{Tableau, TableauAt}
 use Rattle.hypoplactic.specs.Reading.{columnReading}
 use Rattle.hypoplactic.specs.Junctions.{nextLarger}
 use Rattle.hypoplactic.proofs.Theory.Closure.{word-tableau-at}
 use Rattle.hypoplactic.proofs.Theory.Contents.{within-counts}
-use Rattle.hypoplactic.proofs.Theory.Counts.{counts-true, letters-counts}
+use Rattle.outcomes.proofs.Theory.Counts.{counts-true, letters-counts}
 use Rattle.hypoplactic.proofs.Theory.Letters.{count-letters}
 use Rattle.hypoplactic.proofs.Theory.NextLarger.{next-same}
 use Rattle.hypoplactic.proofs.Theory.Occurrences.{count-append}

@@ -21,25 +21,25 @@ use mathlib.Core.Logic.{_↔_, dite}
 use lib.ListN.{length, take}
 use borrow.Author.Tests.{le-ltb, lt-ltb}
 use Rattle.hypoplactic.specs.Words.{Accepted, Inside}
-use Rattle.hypoplactic.specs.Counts.{TrueCounts, countsJudged, countsOf}
+use Rattle.outcomes.specs.Counts.{TrueCounts, countsJudged, countsOf}
 use Rattle.hypoplactic.specs.Ribbons.{TableauAt}
 use Rattle.hypoplactic.specs.Rewriting.{Joined, same}
 use Rattle.hypoplactic.specs.Insertion.{lettersOf, marksOf, pairWith}
 use Rattle.hypoplactic.specs.Reading.{columnReading}
-use Rattle.hypoplactic.specs.Replies.{gives, refused, first, written}
-use Rattle.hypoplactic.specs.Judgements.{lengthJudged, lettersJudged, marksJudged, rankJudged, risingJudged, pairRooms, tableauRooms, wordJudgements}
-use Rattle.hypoplactic.specs.TableauOperations.{pairRun, pairSays}
+use Rattle.outcomes.specs.Replies.{gives, refused, first, written}
+use Rattle.outcomes.specs.Judgements.{lengthJudged, lettersJudged, marksJudged, rankJudged, risingJudged, pairRooms, tableauRooms, wordJudgements}
+use Rattle.outcomes.specs.TableauOperations.{pairRun, pairSays}
 use Rattle.hypoplactic.proofs.Theory.Closure.{chain-accepted, word-tableau-at}
-use Rattle.hypoplactic.proofs.Theory.Counts.{counts-judged, counts-same, counts-true, letters-true}
+use Rattle.outcomes.proofs.Theory.Counts.{counts-judged, counts-same, counts-true, letters-true}
 use Rattle.hypoplactic.proofs.Theory.Invariants.{joined-count, joined-tableau}
 use Rattle.hypoplactic.proofs.Theory.Joining.{joined-eq, joined-sym}
-use Rattle.hypoplactic.proofs.Theory.Judged.{tableau-passing, word-passing}
-use Rattle.hypoplactic.proofs.Theory.Judgements.{length-judged, room-judged}
+use Rattle.outcomes.proofs.Theory.Judged.{tableau-passing, word-passing}
+use Rattle.outcomes.proofs.Theory.Judgements.{length-judged, room-judged}
 use Rattle.hypoplactic.proofs.Theory.Pairs.{length-letters}
-use Rattle.hypoplactic.proofs.Theory.Memory.{written-needed}
-use Rattle.hypoplactic.proofs.Theory.Passing.{Passing, first-past, passes-further, passes-nearer, ran-answer, refused-keeps}
+use Rattle.outcomes.proofs.Theory.Memory.{written-needed}
+use Rattle.outcomes.proofs.Theory.Passing.{Passing, first-past, passes-further, passes-nearer, ran-answer, refused-keeps}
 use Rattle.hypoplactic.proofs.Theory.ReadBack.{reading-length}
-use Rattle.hypoplactic.proofs.Theory.Together.{reading-and-back}
+use Rattle.outcomes.proofs.Theory.Together.{reading-and-back}
 use Rattle.products.specs.Products.{factorsJudgements, leftCounts, leftLetters, leftMarks, productLetters, productMarks, productRun, productSays, productWord, tableauLeft}
 use Rattle.products.proofs.Theory.PairTableaux.{rooms-past, tableau-left}
 use Rattle.products.proofs.Theory.ProductContents.{product-accepted, product-at, product-cells}

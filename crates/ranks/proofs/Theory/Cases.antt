@@ -7,10 +7,10 @@ use Rattle.grammar.specs.Numbers.{decimal}
 use Rattle.grammar.specs.Lines.{tLine}
 use Rattle.hypoplactic.specs.Insertion.{insert, pairOf}
 use Rattle.hypoplactic.specs.Junctions.{junctionSet, number, sameClass}
-use Rattle.hypoplactic.specs.Judgements.{indexJudged, inversionJudged, lengthJudged, letterJudged, lettersJudged, rankJudged}
-use Rattle.hypoplactic.specs.WordOperations.{moveWordRun, moveWordSays, sameClassSays}
-use Rattle.hypoplactic.specs.LineOperations.{tableauLine}
-use Rattle.hypoplactic.specs.Starred.{Case}
+use Rattle.outcomes.specs.Judgements.{indexJudged, inversionJudged, lengthJudged, letterJudged, lettersJudged, rankJudged}
+use Rattle.outcomes.specs.WordOperations.{moveWordRun, moveWordSays, sameClassSays}
+use Rattle.hypoplactic.specs.Classes.{tableauLine}
+use Rattle.outcomes.specs.Starred.{Case}
 use Rattle.ranks.specs.Unranked.{withoutRank}
 use Rattle.ranks.specs.Ranks.{unrankedLine}
 use Rattle.ranks.specs.Cases.{rankCases}

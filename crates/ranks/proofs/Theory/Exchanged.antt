@@ -7,7 +7,7 @@ use mathlib.Core.Path.{sym}
 use mathlib.Core.List.{List}
 use mathlib.Core.Option.{Option}
 use Rattle.hypoplactic.specs.Moves.{Move}
-use Rattle.hypoplactic.specs.Replies.{Said}
+use Rattle.outcomes.specs.Replies.{Said}
 use Rattle.hypoplactic.proofs.Theory.Joining.{joined-sym}
 use Rattle.changed_places.proofs.Theory.TakenApart.{together-turned}
 use Rattle.ranks.specs.Ranks.{FaithfulAcross, WrittenAcross}

@@ -17,14 +17,15 @@ use lib.Dec.{ltb}
 use borrow.Author.Tests.{lt-ltb, ltb-true}
 use Rattle.hypoplactic.specs.Words.{Accepted}
 use Rattle.hypoplactic.specs.Rewriting.{Joined}
-use Rattle.hypoplactic.specs.Replies.{Said, refused}
+use Rattle.outcomes.specs.Replies.{Said, refused}
 use Rattle.hypoplactic.specs.Moves.{Defined, Move, given, indexOf, moveWord}
-use Rattle.hypoplactic.specs.WordOperations.{moveWordRun}
-use Rattle.hypoplactic.specs.LineOperations.{tableauLine, tableauLineRun}
-use Rattle.hypoplactic.specs.Classes.{Faithful, FaithfullyWritten, MovedTogether, in-neither, lineBytes, moveLeft}
+use Rattle.outcomes.specs.WordOperations.{moveWordRun}
+use Rattle.hypoplactic.specs.Classes.{tableauLine, Faithful}
+use Rattle.outcomes.specs.LineOperations.{tableauLineRun}
+use Rattle.outcomes.specs.WrittenClasses.{FaithfullyWritten, MovedTogether, in-neither, lineBytes, moveLeft}
 use Rattle.hypoplactic.proofs.Theory.Limits.{and-both, within-more}
-use Rattle.hypoplactic.proofs.Theory.MoveResults.{move-word-refused}
-use Rattle.hypoplactic.proofs.Theory.WrittenClasses.{line-bytes, move-left}
+use Rattle.outcomes.proofs.Theory.MoveResults.{move-word-refused}
+use Rattle.outcomes.proofs.Theory.WrittenClasses.{line-bytes, move-left}
 use Rattle.ranks.specs.Unranked.{withoutRank}
 use Rattle.ranks.specs.Ranks.{FaithfulAcross, FaithfulRanks, Has, unrankedLine, WrittenAcross, WrittenRanks}
 use Rattle.ranks.proofs.Theory.Unranked.{ranked, tableau-ranked, tableau-unranked}

@@ -8,9 +8,8 @@ use mathlib.Core.Bool.{true}
 use mathlib.Core.List.{List}
 use Rattle.grammar.specs.Lines.{tLine}
 use Rattle.hypoplactic.specs.Insertion.{lettersOf, marksOf}
-use Rattle.hypoplactic.specs.LineOperations.{tableauLine}
+use Rattle.hypoplactic.specs.Classes.{tableauLine, Faithful}
 use Rattle.hypoplactic.specs.Moves.{indexOf, movedWord, moveWord}
-use Rattle.hypoplactic.specs.Classes.{Faithful}
 use Rattle.hypoplactic.specs.Ribbons.{Tableau}
 use Rattle.hypoplactic.proofs.Theory.Classes.{allowed-defined, faithful}
 use Rattle.ranks.specs.Unranked.{withoutRank}

@@ -16,16 +16,17 @@ use Rattle.hypoplactic.specs.Junctions.{sameClass}
 use Rattle.hypoplactic.specs.Words.{Accepted, tick}
 use Rattle.hypoplactic.specs.Rewriting.{Joined}
 use Rattle.hypoplactic.specs.Moves.{Move, moveWord}
-use Rattle.hypoplactic.specs.Replies.{Said, gives, refused}
-use Rattle.hypoplactic.specs.WordOperations.{moveWordRun, sameClassSays}
-use Rattle.hypoplactic.specs.LineOperations.{tableauLine, tableauLineRun}
-use Rattle.hypoplactic.specs.Classes.{FaithfullyWritten, lineBytes, moveLeft}
+use Rattle.outcomes.specs.Replies.{Said, gives, refused}
+use Rattle.outcomes.specs.WordOperations.{moveWordRun, sameClassSays}
+use Rattle.hypoplactic.specs.Classes.{tableauLine}
+use Rattle.outcomes.specs.LineOperations.{tableauLineRun}
+use Rattle.outcomes.specs.WrittenClasses.{FaithfullyWritten, lineBytes, moveLeft}
 use Rattle.hypoplactic.proofs.Theory.Closure.{chain-accepted}
 use Rattle.hypoplactic.proofs.Theory.Joining.{joined-sym}
-use Rattle.hypoplactic.proofs.Theory.MoveResults.{move-word-result}
+use Rattle.outcomes.proofs.Theory.MoveResults.{move-word-result}
 use Rattle.hypoplactic.proofs.Theory.OneClass.{class-joined}
-use Rattle.hypoplactic.proofs.Theory.Results.{same-class-result}
-use Rattle.hypoplactic.proofs.Theory.WrittenClasses.{line-bytes, move-left, written-classes}
+use Rattle.outcomes.proofs.Theory.Results.{same-class-result}
+use Rattle.outcomes.proofs.Theory.WrittenClasses.{line-bytes, move-left, written-classes}
 use Rattle.ranks.specs.Unranked.{withoutRank}
 use Rattle.ranks.specs.Ranks.{FaithfulAcross, Has, unrankedLine, WrittenAcross, WrittenRanks}
 use Rattle.ranks.proofs.Theory.Ranks.{ranks}

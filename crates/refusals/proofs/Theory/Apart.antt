@@ -9,7 +9,7 @@ use Prim.Native.Nat.{ℕ, _-_}
 use mathlib.Core.Path.{_≡_, refl, sym, ap, _∙_}
 use mathlib.Core.List.{List, [], _∷_}
 use lib.ListN.{getD}
-use Rattle.hypoplactic.specs.Replies.{Said, gives, refused}
+use Rattle.outcomes.specs.Replies.{Said, gives, refused}
 use Rattle.refusals.specs.declared.refusal.Refusal.{Refusal}
 use Rattle.refusals.specs.declared.refusal.Refusal.the-variants.{Rank, Length, Parts, Letter, Falling, Mark, Entry, Step, Index, Inversion, NoLetter, Full, Room, Line, Large, PastLast, Count, Empty, Item, Sum}
 use Rattle.refusals.specs.declared.answers.Verdict.{Verdict}

@@ -11,8 +11,8 @@ use mathlib.Core.List.{[], _∷_, map}
 use lib.ListN.{replicate}
 use Rattle.hypoplactic.specs.Words.{tick}
 use Rattle.hypoplactic.specs.Weights.{equal, lower, higher, neither}
-use Rattle.hypoplactic.specs.Replies.{gives, refused}
-use Rattle.hypoplactic.specs.WordOperations.{comparisonNumber}
+use Rattle.outcomes.specs.Replies.{gives, refused}
+use Rattle.outcomes.specs.WordOperations.{comparisonNumber}
 use Rattle.refusals.specs.declared.refusal.Refusal.{Refusal}
 use Rattle.refusals.specs.declared.refusal.Refusal.the-variants.{Rank, Length, Parts, Letter, Falling, Mark, Entry, Step, Index, Inversion, NoLetter, Full, Room, Line, Large, PastLast, Count, Empty, Item, Sum}
 use Rattle.refusals.specs.declared.answers.Verdict.the-variants as verdict

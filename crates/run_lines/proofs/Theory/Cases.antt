@@ -6,10 +6,10 @@ use mathlib.Core.List.{map}
 use Rattle.grammar.specs.Lines.{cLine, tLine}
 use Rattle.grammar.specs.Numbers.{decimal}
 use Rattle.grammar.specs.Reading.{readC, readRuns, readT}
-use Rattle.hypoplactic.specs.Counts.{countsOf}
+use Rattle.outcomes.specs.Counts.{countsOf}
 use Rattle.hypoplactic.specs.Insertion.{insert, pairOf}
-use Rattle.hypoplactic.specs.Judgements.{alikeJudged, lengthJudged, lettersJudged, marksJudged, rankJudged, risingJudged, roomJudged}
-use Rattle.hypoplactic.specs.Starred.{Case}
+use Rattle.outcomes.specs.Judgements.{alikeJudged, lengthJudged, lettersJudged, marksJudged, rankJudged, risingJudged, roomJudged}
+use Rattle.outcomes.specs.Starred.{Case}
 use Rattle.ranks.specs.Unranked.{withoutRank}
 use Rattle.run_lines.specs.Judgements.{runsJudged, sumJudged}
 use Rattle.run_lines.specs.Operations.{cLineRun, readCRun, runLine, runsToTableauRun, tableauToRunsRun, wordRunLine, wordRunLineRun}

@@ -12,16 +12,16 @@ use mathlib.Core.Logic.{_↔_}
 use lib.ListN.{length}
 use Rattle.grammar.specs.Lines.{cLine, field, firstRun, items, laterRun, line, tLine}
 use Rattle.grammar.proofs.Theory.Determined.{c-determined}
-use Rattle.hypoplactic.specs.Classes.{lineBytes}
+use Rattle.outcomes.specs.WrittenClasses.{lineBytes}
 use Rattle.hypoplactic.specs.Insertion.{lettersOf, marksOf}
-use Rattle.hypoplactic.specs.LineOperations.{tableauLine}
+use Rattle.hypoplactic.specs.Classes.{tableauLine}
 use Rattle.hypoplactic.specs.Moves.{indexOf, moveWord}
 use Rattle.hypoplactic.specs.Ribbons.{Tableau}
 use Rattle.hypoplactic.specs.Words.{Accepted}
 use Rattle.hypoplactic.proofs.Theory.Boundary.{tableau-of-word}
 use Rattle.hypoplactic.proofs.Theory.Classes.{faithful, line-tells}
-use Rattle.hypoplactic.proofs.Theory.Memory.{written-needed}
-use Rattle.hypoplactic.proofs.Theory.WrittenClasses.{faithfully-written}
+use Rattle.outcomes.proofs.Theory.Memory.{written-needed}
+use Rattle.outcomes.proofs.Theory.WrittenClasses.{faithfully-written}
 use Rattle.ranks.specs.Unranked.{withoutRank}
 use Rattle.ranks.proofs.Theory.Ranks.{across}
 use Rattle.ranks.proofs.Theory.Unranked.{rank-left-out, ranked}

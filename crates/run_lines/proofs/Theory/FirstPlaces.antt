@@ -1,4 +1,4 @@
--- 4 and 19 refuse a C line at the first such item, at its index (document 02, N9): each is a scan, as hypoplactic's specs/FirstPlaces.antt has it for 4 to 8,
+-- 4 and 19 refuse a C line at the first such item, at its index (document 02, N9): each is a scan, as outcomes' specs/FirstPlaces.antt has it for 4 to 8,
 -- over the items. With scan-first and scan-passes of its proofs/Theory/FirstPlaces.antt this fixes the place of every refusal with 4 or 19.
 --     item-letters-scan     4: the first item whose letter is outside 1 to rank
 --     itemFault rs i        the fault that 19 looks for: a letter that is not above the one before it, or a count 0
@@ -12,11 +12,11 @@ use lib.Dec.{eqb, leb}
 use lib.ListN.{getD, length, length-map}
 use borrow.Author.Tests.{lt-leb}
 use Rattle.grammar.specs.Lines.{Run}
-use Rattle.hypoplactic.specs.FirstPlaces.{scan}
-use Rattle.hypoplactic.specs.Judgements.{lettersJudged, outside}
-use Rattle.hypoplactic.specs.Replies.{Passes, Said, refuseIf}
-use Rattle.hypoplactic.proofs.Theory.FirstPlaces.{letters-scan}
-use Rattle.hypoplactic.proofs.Theory.Judgements.{letters-judged}
+use Rattle.outcomes.specs.FirstPlaces.{scan}
+use Rattle.outcomes.specs.Judgements.{lettersJudged, outside}
+use Rattle.outcomes.specs.Replies.{Passes, Said, refuseIf}
+use Rattle.outcomes.proofs.Theory.FirstPlaces.{letters-scan}
+use Rattle.outcomes.proofs.Theory.Judgements.{letters-judged}
 use Rattle.run_lines.specs.Judgements.{itemLetters, runsFrom, runsJudged}
 
 -- ---- 4: a letter outside 1 to rank

@@ -17,15 +17,15 @@ use Rattle.grammar.specs.Breaks.{Breaks, IsC, IsT}
 use Rattle.grammar.specs.Lines.{cLine, tLine}
 use Rattle.grammar.specs.Numbers.{decimal}
 use Rattle.grammar.specs.Reading.{readC, readRuns, readT}
-use Rattle.hypoplactic.specs.Counts.{countsOf}
-use Rattle.hypoplactic.specs.FirstPlaces.{scan}
+use Rattle.outcomes.specs.Counts.{countsOf}
+use Rattle.outcomes.specs.FirstPlaces.{scan}
 use Rattle.hypoplactic.specs.Insertion.{insert, pairOf}
-use Rattle.hypoplactic.specs.Judgements.{alikeJudged, lengthJudged, lettersJudged, marksJudged, outside, rankJudged, risingJudged, roomJudged}
-use Rattle.hypoplactic.specs.LineOperations.{tableauLine}
-use Rattle.hypoplactic.specs.Replies.{gives, refused}
+use Rattle.outcomes.specs.Judgements.{alikeJudged, lengthJudged, lettersJudged, marksJudged, outside, rankJudged, risingJudged, roomJudged}
+use Rattle.hypoplactic.specs.Classes.{tableauLine}
+use Rattle.outcomes.specs.Replies.{gives, refused}
 use Rattle.hypoplactic.specs.Rewriting.{Joined}
 use Rattle.hypoplactic.specs.Ribbons.{TableauAt}
-use Rattle.hypoplactic.specs.Starred.{lent, text, w4323}
+use Rattle.outcomes.specs.Starred.{lent, text, w4323}
 use Rattle.hypoplactic.specs.Words.{Accepted}
 use Rattle.ranks.specs.Unranked.{withoutRank}
 use Rattle.run_lines.specs.Judgements.{runsJudged, sumJudged}

@@ -19,11 +19,11 @@ use Rattle.grammar.specs.Lines.{Run}
 use Rattle.grammar.specs.Values.{Items, MarkedRuns, RunWith}
 use Rattle.hypoplactic.specs.Words.{Within}
 use Rattle.hypoplactic.specs.Ribbons.{TableauAt}
-use Rattle.hypoplactic.specs.Replies.{Passes, passed}
-use Rattle.hypoplactic.specs.Judgements.{lettersJudged}
-use Rattle.hypoplactic.proofs.Theory.Judgements.{length-judged, letters-judged, rank-judged}
-use Rattle.hypoplactic.proofs.Theory.OtherNumbers.{Other, test-other}
-use Rattle.hypoplactic.proofs.Theory.Passing.{Passing, passes-test, passes-then}
+use Rattle.outcomes.specs.Replies.{Passes, passed}
+use Rattle.outcomes.specs.Judgements.{lettersJudged}
+use Rattle.outcomes.proofs.Theory.Judgements.{length-judged, letters-judged, rank-judged}
+use Rattle.outcomes.proofs.Theory.OtherNumbers.{Other, test-other}
+use Rattle.outcomes.proofs.Theory.Passing.{Passing, passes-test, passes-then}
 use Rattle.run_lines.specs.Runs.{Runs, RunsAfter, runCells, runLetters, runMarks, runsOf}
 use Rattle.run_lines.specs.Judgements.{itemLetters, runJudgements, runsFrom, runsJudged, sumJudged}
 use Rattle.run_lines.proofs.Theory.Runs.{runs-length, runs-tableau, runs-tableau-runs, tableau-runs, tableau-runs-length, tableau-runs-tableau}

@@ -18,18 +18,18 @@ use Rattle.grammar.specs.Reading.{readC, readT}
 use Rattle.grammar.specs.Values.{CGood, Items, MarkedRuns, RunWith}
 use Rattle.grammar.proofs.Theory.Complete.{c-complete, t-complete}
 use Rattle.grammar.proofs.Theory.Longest.{c-breaks, c-place, t-breaks, t-place}
-use Rattle.hypoplactic.specs.Counts.{countsOf}
-use Rattle.hypoplactic.specs.Judgements.{roomJudged, tableauJudgements, tableauRooms, wordJudgements}
-use Rattle.hypoplactic.specs.Replies.{Said, first, gives, refused, written}
+use Rattle.outcomes.specs.Counts.{countsOf}
+use Rattle.outcomes.specs.Judgements.{roomJudged, tableauJudgements, tableauRooms, wordJudgements}
+use Rattle.outcomes.specs.Replies.{Said, first, gives, refused, written}
 use Rattle.hypoplactic.specs.Ribbons.{TableauAt}
 use Rattle.hypoplactic.specs.Words.{Accepted, Within}
 use Rattle.hypoplactic.proofs.Theory.Classes.{marked}
-use Rattle.hypoplactic.proofs.Theory.Judged.{tableau-passing, word-passing}
-use Rattle.hypoplactic.proofs.Theory.Judgements.{letters-judged, room-judged}
-use Rattle.hypoplactic.proofs.Theory.LineReadings.{accepted-small, broken-exactly}
-use Rattle.hypoplactic.proofs.Theory.LineResults.{line-result}
-use Rattle.hypoplactic.proofs.Theory.OtherNumbers.{Other, Others, alike-other, first-other, length-other, letters-other, marks-other, rank-other, rising-other, room-other}
-use Rattle.hypoplactic.proofs.Theory.Passing.{Passing, ran-answer}
+use Rattle.outcomes.proofs.Theory.Judged.{tableau-passing, word-passing}
+use Rattle.outcomes.proofs.Theory.Judgements.{letters-judged, room-judged}
+use Rattle.outcomes.proofs.Theory.LineReadings.{accepted-small, broken-exactly}
+use Rattle.outcomes.proofs.Theory.LineResults.{line-result}
+use Rattle.outcomes.proofs.Theory.OtherNumbers.{Other, Others, alike-other, first-other, length-other, letters-other, marks-other, rank-other, rising-other, room-other}
+use Rattle.outcomes.proofs.Theory.Passing.{Passing, ran-answer}
 use Rattle.run_lines.specs.Judgements.{itemLetters, runJudgements}
 use Rattle.run_lines.specs.Operations.{cLineRun, readCRun, runLine, runsRead, runsToTableauRun, runsTurned, tableauToRunsRun, wordRunLine, wordRunLineRun}
 use Rattle.run_lines.specs.Runs.{Runs, RunsAfter, runCells, runsOf}

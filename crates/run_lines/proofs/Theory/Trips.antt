@@ -14,16 +14,16 @@ use lib.ListN.{length}
 use Rattle.grammar.specs.Lines.{Run, cLine, tLine}
 use Rattle.grammar.specs.Reading.{Read, broken, got, readC, readT}
 use Rattle.grammar.proofs.Theory.Sound.{c-sound, t-sound}
-use Rattle.hypoplactic.specs.Classes.{elements}
-use Rattle.hypoplactic.specs.Judgements.{roomJudged, tableauJudgements, tableauRooms}
-use Rattle.hypoplactic.specs.LineOperations.{lineRun}
-use Rattle.hypoplactic.specs.LineReadings.{readRun, readTRun, tableauRead}
-use Rattle.hypoplactic.specs.Replies.{Passes, Said, gives, written}
+use Rattle.outcomes.specs.WrittenClasses.{elements}
+use Rattle.outcomes.specs.Judgements.{roomJudged, tableauJudgements, tableauRooms}
+use Rattle.outcomes.specs.LineOperations.{lineRun}
+use Rattle.outcomes.specs.LineReadings.{readRun, readTRun, tableauRead}
+use Rattle.outcomes.specs.Replies.{Passes, Said, gives, written}
 use Rattle.hypoplactic.specs.Ribbons.{TableauAt}
-use Rattle.hypoplactic.proofs.Theory.Judged.{tableau-passing}
-use Rattle.hypoplactic.proofs.Theory.Judgements.{room-judged}
-use Rattle.hypoplactic.proofs.Theory.Memory.{written-needed}
-use Rattle.hypoplactic.proofs.Theory.Passing.{Passing, passing-append, passing-before, passing-first}
+use Rattle.outcomes.proofs.Theory.Judged.{tableau-passing}
+use Rattle.outcomes.proofs.Theory.Judgements.{room-judged}
+use Rattle.outcomes.proofs.Theory.Memory.{written-needed}
+use Rattle.outcomes.proofs.Theory.Passing.{Passing, passing-append, passing-before, passing-first}
 use Rattle.run_lines.specs.Judgements.{runJudgements}
 use Rattle.run_lines.specs.Operations.{cLineRun, readCRun, runLine, runsRead, runsToTableauRun, runsTurned, tableauToRunsRun}
 use Rattle.run_lines.specs.Runs.{runLetters, runMarks}

@@ -4,7 +4,7 @@
 use Prim.Native.Nat.{ℕ}
 use mathlib.Core.Path.{_≡_, refl}
 use mathlib.Core.List.{[], _∷_}
-use Rattle.hypoplactic.specs.Replies.{gives, refused}
+use Rattle.outcomes.specs.Replies.{gives, refused}
 use Rattle.structs.specs.Replies.{doneOf, moveOf, countOf, classOf, orderOf, junctionOf, valueOf, lineOf, cellOf}
 
 module _ (a b c k p : ℕ) where

@@ -20,15 +20,15 @@ use lib.Seq.{length-take-le}
 use borrow.Author.Tests.{le-ltb}
 use Rattle.hypoplactic.specs.Words.{Accepted, Inside, Within}
 use Rattle.hypoplactic.specs.Insertion.{Pair, insert, pairOf}
-use Rattle.hypoplactic.specs.Replies.{Passes, Said, first, gives, orElse, ranTo, refuseIf, refused}
-use Rattle.hypoplactic.specs.Counts.{countsJudged, countsOf, oneLess, oneMore}
-use Rattle.hypoplactic.specs.Judgements.{entriesJudged, fullJudged, lengthJudged, lettersFrom, lettersJudged, marksJudged, outside, pairRooms, rankJudged, recordingJudged, risingJudged, usedJudged}
-use Rattle.hypoplactic.specs.TableauOperations.{insertJudgements, insertRun, insertSays, pairRun, pairSays, usedCells, writtenPair}
-use Rattle.hypoplactic.proofs.Theory.Counts.{snoc-counts}
-use Rattle.hypoplactic.proofs.Theory.Judgements.{full-judged, length-judged, letters-judged, rank-judged}
+use Rattle.outcomes.specs.Replies.{Passes, Said, first, gives, orElse, ranTo, refuseIf, refused}
+use Rattle.outcomes.specs.Counts.{countsJudged, countsOf, oneLess, oneMore}
+use Rattle.outcomes.specs.Judgements.{entriesJudged, fullJudged, lengthJudged, lettersFrom, lettersJudged, marksJudged, outside, pairRooms, rankJudged, recordingJudged, risingJudged, usedJudged}
+use Rattle.outcomes.specs.TableauOperations.{insertJudgements, insertRun, insertSays, pairRun, pairSays, usedCells, writtenPair}
+use Rattle.outcomes.proofs.Theory.Counts.{snoc-counts}
+use Rattle.outcomes.proofs.Theory.Judgements.{full-judged, length-judged, letters-judged, rank-judged}
 use Rattle.hypoplactic.proofs.Theory.Layers.{within-snoc}
 use Rattle.hypoplactic.proofs.Theory.Pairs.{length-snoc, pair-snoc}
-use Rattle.hypoplactic.proofs.Theory.Passing.{Passing, first-past, passing-before, passing-first, refused-keeps}
+use Rattle.outcomes.proofs.Theory.Passing.{Passing, first-past, passing-before, passing-first, refused-keeps}
 use Rattle.windows.specs.Departures.{departRun, departSays, emptyJudged, windowJudgements, windowWord}
 use Rattle.windows.specs.Windows.{Call, Holds, Window, arrivalJudgements, arrive, callRun, leave, onWord}
 use Rattle.windows.proofs.Theory.Departures.{cons-counts, depart-kept, depart-result}

@@ -3,11 +3,11 @@
 -- Assumes nothing.
 use mathlib.Core.Path.{_≡_, refl}
 use mathlib.Core.List.{map}
-use Rattle.hypoplactic.specs.Counts.{countsJudged, countsOf}
+use Rattle.outcomes.specs.Counts.{countsJudged, countsOf}
 use Rattle.hypoplactic.specs.Insertion.{insert, pairOf, wordOf}
-use Rattle.hypoplactic.specs.Judgements.{entriesJudged, fullJudged, lengthJudged, lettersJudged, marksJudged, rankJudged, recordingJudged, risingJudged, roomJudged, usedJudged}
-use Rattle.hypoplactic.specs.Starred.{Case}
-use Rattle.hypoplactic.specs.TableauOperations.{insertRun, insertSays, pairRun, pairSays}
+use Rattle.outcomes.specs.Judgements.{entriesJudged, fullJudged, lengthJudged, lettersJudged, marksJudged, rankJudged, recordingJudged, risingJudged, roomJudged, usedJudged}
+use Rattle.outcomes.specs.Starred.{Case}
+use Rattle.outcomes.specs.TableauOperations.{insertRun, insertSays, pairRun, pairSays}
 use Rattle.windows.specs.Departures.{departRun, departSays, emptyJudged}
 use Rattle.windows.specs.Cases.{departureCases, departureRefusals, streamCases}
 

@@ -21,16 +21,16 @@ use borrow.Author.Tests.{eqb-false, ne-eqb}
 use Rattle.hypoplactic.specs.Words.{Inside, count, tick}
 use Rattle.hypoplactic.specs.Ribbons.{PairAt}
 use Rattle.hypoplactic.specs.Insertion.{Pair, pairOf, pairWith, wordOf}
-use Rattle.hypoplactic.specs.Replies.{Passes, gives, refused}
-use Rattle.hypoplactic.specs.Counts.{TrueCounts, countsOf, oneLess, oneMore}
-use Rattle.hypoplactic.specs.TableauOperations.{writtenPair}
+use Rattle.outcomes.specs.Replies.{Passes, gives, refused}
+use Rattle.outcomes.specs.Counts.{TrueCounts, countsOf, oneLess, oneMore}
+use Rattle.outcomes.specs.TableauOperations.{writtenPair}
 use Rattle.hypoplactic.proofs.Theory.Contents.{within-at}
 use Rattle.hypoplactic.proofs.Theory.Correspondence.{pair-of-word}
-use Rattle.hypoplactic.proofs.Theory.Counts.{counts-same, counts-size, snoc-counts}
-use Rattle.hypoplactic.proofs.Theory.Judged.{counted-pair-passing}
-use Rattle.hypoplactic.proofs.Theory.Judgements.{alike-judged, used-judged}
+use Rattle.outcomes.proofs.Theory.Counts.{counts-same, counts-size, snoc-counts}
+use Rattle.outcomes.proofs.Theory.Judged.{counted-pair-passing}
+use Rattle.outcomes.proofs.Theory.Judgements.{alike-judged, used-judged}
 use Rattle.hypoplactic.proofs.Theory.Occurrences.{count-append}
-use Rattle.hypoplactic.proofs.Theory.Passing.{Passing, passes-test, ran-answer, refused-keeps}
+use Rattle.outcomes.proofs.Theory.Passing.{Passing, passes-test, ran-answer, refused-keeps}
 use Rattle.windows.specs.Departures.{WindowAt, departRun, departSays, emptyJudged, windowJudgements, windowWord}
 use Rattle.windows.specs.Gaps.{closed}
 use Rattle.windows.proofs.Theory.Oldest.{count-at, oldest-leaves}

@@ -20,20 +20,20 @@ use lib.Seq.{length-take-le}
 use Rattle.hypoplactic.specs.Words.{Accepted, Inside}
 use Rattle.hypoplactic.specs.Ribbons.{PairAt}
 use Rattle.hypoplactic.specs.Insertion.{Pair, lettersOf, marksOf, pairOf, recordingOf, wordOf}
-use Rattle.hypoplactic.specs.Replies.{Passes, Said, gives, written}
-use Rattle.hypoplactic.specs.Counts.{TrueCounts, countsOf}
-use Rattle.hypoplactic.specs.Judgements.{pairRooms, wordJudgements}
-use Rattle.hypoplactic.specs.TableauOperations.{pairRun, pairSays, usedCells, writtenPair}
+use Rattle.outcomes.specs.Replies.{Passes, Said, gives, written}
+use Rattle.outcomes.specs.Counts.{TrueCounts, countsOf}
+use Rattle.outcomes.specs.Judgements.{pairRooms, wordJudgements}
+use Rattle.outcomes.specs.TableauOperations.{pairRun, pairSays, usedCells, writtenPair}
 use Rattle.hypoplactic.proofs.Theory.Closure.{word-pair-at}
 use Rattle.hypoplactic.proofs.Theory.Correspondence.{word-of-pair}
-use Rattle.hypoplactic.proofs.Theory.Counts.{counts-whole, letters-true}
-use Rattle.hypoplactic.proofs.Theory.Judged.{word-passing}
-use Rattle.hypoplactic.proofs.Theory.Judgements.{room-judged}
-use Rattle.hypoplactic.proofs.Theory.Memory.{written-beyond, written-needed}
+use Rattle.outcomes.proofs.Theory.Counts.{counts-whole, letters-true}
+use Rattle.outcomes.proofs.Theory.Judged.{word-passing}
+use Rattle.outcomes.proofs.Theory.Judgements.{room-judged}
+use Rattle.outcomes.proofs.Theory.Memory.{written-beyond, written-needed}
 use Rattle.hypoplactic.proofs.Theory.Pairs.{length-letters, length-marks, length-recording}
-use Rattle.hypoplactic.proofs.Theory.Passing.{Passing, passing-first}
-use Rattle.hypoplactic.proofs.Theory.Results.{pair-result}
-use Rattle.hypoplactic.proofs.Theory.Together.{pair-and-back}
+use Rattle.outcomes.proofs.Theory.Passing.{Passing, passing-first}
+use Rattle.outcomes.proofs.Theory.Results.{pair-result}
+use Rattle.outcomes.proofs.Theory.Together.{pair-and-back}
 use Rattle.windows.specs.Departures.{WindowAt, windowJudgements, windowWord}
 use Rattle.windows.specs.Windows.{Holds, Window, usedAfter}
 use Rattle.windows.proofs.Theory.Departures.{window-passing}

@@ -8,11 +8,11 @@ use native.Mathlib.Omega.{arith}
 use mathlib.Core.Path.{_≡_, refl}
 use mathlib.Core.List.{List, [], _∷_}
 use lib.ListN.{length, length-replicate, replicate}
-use Rattle.hypoplactic.specs.Counts.{countsJudged, countsOf}
+use Rattle.outcomes.specs.Counts.{countsJudged, countsOf}
 use Rattle.hypoplactic.specs.Insertion.{emptyPair, insert, pairOf, wordOf}
-use Rattle.hypoplactic.specs.Judgements.{entriesJudged, fullJudged, lengthJudged, lettersJudged, marksJudged, rankJudged, recordingJudged, risingJudged, roomJudged, usedJudged}
-use Rattle.hypoplactic.specs.Replies.{gives, refused}
-use Rattle.hypoplactic.specs.TableauOperations.{insertRun, insertSays, pairRun, writtenPair}
+use Rattle.outcomes.specs.Judgements.{entriesJudged, fullJudged, lengthJudged, lettersJudged, marksJudged, rankJudged, recordingJudged, risingJudged, roomJudged, usedJudged}
+use Rattle.outcomes.specs.Replies.{gives, refused}
+use Rattle.outcomes.specs.TableauOperations.{insertRun, insertSays, pairRun, writtenPair}
 use Rattle.hypoplactic.specs.Words.{Within}
 use Rattle.windows.specs.Departures.{departRun, departSays, emptyJudged}
 use Rattle.windows.specs.Windows.{Holds, NoneRefused, Window, arrive, callRun, called, leave, windowAfter}

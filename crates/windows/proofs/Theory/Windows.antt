@@ -13,14 +13,14 @@ use mathlib.Core.List.{List, [], _∷_}
 use lib.ListN.{length}
 use Rattle.hypoplactic.specs.Words.{Inside}
 use Rattle.hypoplactic.specs.Insertion.{Pair, lettersOf, marksOf, pairOf, recordingOf}
-use Rattle.hypoplactic.specs.Replies.{Passes, Said, after, gives, refused, written}
-use Rattle.hypoplactic.specs.Counts.{countsOf}
-use Rattle.hypoplactic.specs.Judgements.{roomJudged}
-use Rattle.hypoplactic.specs.TableauOperations.{insertRun, pairRun, writtenPair}
-use Rattle.hypoplactic.proofs.Theory.Judgements.{full-judged, room-judged}
-use Rattle.hypoplactic.proofs.Theory.Memory.{written-length}
+use Rattle.outcomes.specs.Replies.{Passes, Said, after, gives, refused, written}
+use Rattle.outcomes.specs.Counts.{countsOf}
+use Rattle.outcomes.specs.Judgements.{roomJudged}
+use Rattle.outcomes.specs.TableauOperations.{insertRun, pairRun, writtenPair}
+use Rattle.outcomes.proofs.Theory.Judgements.{full-judged, room-judged}
+use Rattle.outcomes.proofs.Theory.Memory.{written-length}
 use Rattle.hypoplactic.proofs.Theory.Pairs.{length-letters, length-marks, length-recording}
-use Rattle.hypoplactic.proofs.Theory.Passing.{first-answer, refused-keeps}
+use Rattle.outcomes.proofs.Theory.Passing.{first-answer, refused-keeps}
 use Rattle.windows.specs.Windows.{Call, Holds, NoneRefused, Window, arrivalJudgements, arrive, callRun, called, calledWord, leave, onWord, onWords, usedAfter, windowAfter, wordAfter}
 use Rattle.windows.proofs.Theory.Departures.{depart-kept}
 use Rattle.windows.proofs.Theory.Calls.{arrival-full, arrival-said, call-afresh, departure-afresh, inside-passes}

@@ -3,7 +3,7 @@ use Prim.Native.Nat.{_-_}
 use lib.ListN.{length}
 use Rattle.acceptance.specs.Letters.{scanning, letterFault}
 use Rattle.refusals.specs.Scanning.{Scanning}
-use Rattle.hypoplactic.specs.Judgements.{lettersJudged}
+use Rattle.outcomes.specs.Judgements.{lettersJudged}
 use Rattle.acceptance.proofs.letters.first_outside.Statement.{statement}
 use Rattle.acceptance.proofs.letters.first_outside.Tie as tie
 

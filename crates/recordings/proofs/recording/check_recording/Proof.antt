@@ -2,7 +2,7 @@
 use Prim.Native.Nat.{_-_, _≤_}
 use Rattle.recordings.specs.Entries.{stepFault, stepping}
 use Rattle.refusals.specs.Scanning.{Scanning}
-use Rattle.hypoplactic.specs.Judgements.{recordingJudged}
+use Rattle.outcomes.specs.Judgements.{recordingJudged}
 use Rattle.recordings.proofs.recording.check_recording.Statement.{statement}
 use Rattle.recordings.proofs.recording.check_recording.Tie as tie
 

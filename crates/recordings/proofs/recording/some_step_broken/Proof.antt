@@ -2,7 +2,7 @@
 use Prim.Native.Nat.{_-_, _≤_}
 use Rattle.shapes.specs.Clear.{Clearing}
 use Rattle.recordings.specs.Entries.{stepFault, stepping}
-use Rattle.hypoplactic.specs.Judgements.{recordingJudged}
+use Rattle.outcomes.specs.Judgements.{recordingJudged}
 use Rattle.recordings.proofs.recording.some_step_broken.Statement.{statement}
 use Rattle.recordings.proofs.recording.some_step_broken.Tie as tie
 

@@ -3,7 +3,7 @@ use Prim.Native.Nat.{_-_, _≤_}
 use lib.ListN.{length}
 use Rattle.shapes.specs.Faults.{scanning, fallFault}
 use Rattle.refusals.specs.Scanning.{Scanning}
-use Rattle.hypoplactic.specs.Judgements.{risingJudged}
+use Rattle.outcomes.specs.Judgements.{risingJudged}
 use Rattle.shapes.proofs.rising.rising_fault.Statement.{statement}
 use Rattle.shapes.proofs.rising.rising_fault.Tie as tie
 

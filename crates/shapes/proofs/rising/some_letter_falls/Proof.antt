@@ -3,7 +3,7 @@ use Prim.Native.Nat.{_-_, _≤_}
 use lib.ListN.{length}
 use Rattle.shapes.specs.Clear.{Clearing}
 use Rattle.shapes.specs.Faults.{fallFault, scanning}
-use Rattle.hypoplactic.specs.Judgements.{risingJudged}
+use Rattle.outcomes.specs.Judgements.{risingJudged}
 use Rattle.shapes.proofs.rising.some_letter_falls.Statement.{statement}
 use Rattle.shapes.proofs.rising.some_letter_falls.Tie as tie
 

@@ -37,7 +37,7 @@ use denote.Triple.Table.{entered, cited}
 use denote.Triple.Walked.{says, Stays, stay-none, stay-none-slice, walkOf, goes-none, goes-none-slice, Walks, ends-at, walked, walk-meets}
 use denote.Exit.{yes}
 use denote.Triple.Clauses.{ensured, lasts}
-use Rattle.hypoplactic.specs.TableauOperations.{lookSays, throughSays, viewerSays}
+use Rattle.outcomes.specs.TableauOperations.{lookSays, throughSays, viewerSays}
 use Rattle.refusals.specs.Said.{saidCell, saidVerdict}
 use Rattle.refusals.specs.declared.answers.Cell.{Cell}
 use Rattle.refusals.proofs.answers.Cell as S

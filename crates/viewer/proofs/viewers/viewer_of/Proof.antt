@@ -43,8 +43,8 @@ use denote.Triple.Table.{entered, cited}
 use denote.Triple.Walked.{says, Stays, stay-none, stay-none-slice, walkOf, goes-none, goes-none-slice, Walks, ends-at, walked, walk-meets}
 use denote.Exit.{yes}
 use denote.Triple.Clauses.{ensured, lasts}
-use Rattle.hypoplactic.specs.Judgements.{tableauJudgements}
-use Rattle.hypoplactic.specs.Replies.{first, passed}
+use Rattle.outcomes.specs.Judgements.{tableauJudgements}
+use Rattle.outcomes.specs.Replies.{first, passed}
 use Rattle.refusals.specs.Said.{saidVerdict}
 use Rattle.refusals.specs.declared.answers.Verdict.{Verdict}
 use Rattle.refusals.proofs.answers.Verdict as U

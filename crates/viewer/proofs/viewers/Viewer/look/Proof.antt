@@ -42,7 +42,7 @@ use denote.Triple.Table.{entered, cited}
 use denote.Triple.Walked.{says, Stays, stay-none, walkOf, goes-none, Walks, ends-at, walked, walk-meets}
 use denote.Exit.{yes}
 use denote.Triple.Clauses.{ensured, lasts}
-use Rattle.hypoplactic.specs.TableauOperations.{throughSays}
+use Rattle.outcomes.specs.TableauOperations.{throughSays}
 use Rattle.viewer.specs.declared.viewers.Viewer.{Viewer}
 use Rattle.refusals.specs.Said.{saidCell, saidVerdict}
 use Rattle.refusals.specs.declared.answers.Cell.{Cell}

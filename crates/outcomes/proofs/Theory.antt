@@ -1,0 +1,20 @@
+-- What follows for the replies of operations, by topic. docs/PROMISES.md leads from each promise to its theorem.
+pub mod Passing
+pub mod Memory
+pub mod Judgements
+pub mod StepJudgements
+pub mod FirstPlaces
+pub mod Counts
+pub mod Judged
+pub mod Results
+pub mod Looks
+pub mod MoveResults
+pub mod LineResults
+pub mod WrittenClasses
+pub mod OtherNumbers
+pub mod LineReadings
+pub mod Outputs
+pub mod JoinedReplies
+pub mod RepeatReplies
+pub mod Together
+pub mod Starred

@@ -1,0 +1,11 @@
+pub mod Replies
+pub mod Judgements
+pub mod FirstPlaces
+pub mod Counts
+pub mod WordOperations
+pub mod TableauOperations
+pub mod Repeats
+pub mod LineOperations
+pub mod LineReadings
+pub mod WrittenClasses
+pub mod Starred
