@@ -23,7 +23,8 @@ use Rattle.scans.specs.Kinds.{recording-whole, tableau-whole}
 use Rattle.scans.specs.Scans.{Scanned, readWhole}
 use Rattle.scans.specs.declared.line.Line.{Line}
 use Rattle.scans.specs.declared.line.Line.the-variants as line
-use Rattle.line_items.specs.Items.{break-place, kept-all, letters-kept, letters-long, letters-room, line-broken, line-read, marks-kept, marks-room}
+use Rattle.line_items.specs.Blank.{blank}
+use Rattle.line_items.specs.Items.{break-place, kept-all, letters-long, letters-room, line-broken, line-read, marks-room}
 use Rattle.conversions.specs.Breaks.{BreakFits, brokenAt}
 use Rattle.conversions.specs.Values.{Roomed, countJudgements, counts-stop, past, valuesRun}
 
@@ -76,7 +77,7 @@ module _ {t r : List ℕ} {cells parts : List (ℕ × ℕ)} {old-letters old-mar
       values-are = rw (tableau-whole t, line-read s e, recording-whole r, line-read u f)
 
       -- Where the numbers pass, memory holds all items.
-      values-held : length old-letters ≡ 1024 → length old-marks ≡ 1024 → length old-entries ≡ 1024 → Passing (countJudgements n k l)
+      values-held : old-letters ≡ blank 1024 → old-marks ≡ blank 1024 → old-entries ≡ blank 1024 → Passing (countJudgements n k l)
           → converted out n (take k ls) (take k ms) (take l es) ≡ converted out n (letters cells) (marks cells) (letters parts)
       values-held x y w p =
           let k-few : k ≤ 1024 = length-judged k .0 (p .1 .0) in
@@ -84,14 +85,14 @@ module _ {t r : List ℕ} {cells parts : List (ℕ × ℕ)} {old-letters old-mar
           let k-all : k - 0 ≡ k = omega arith in
           let l-all : l - 0 ≡ l = omega arith in
           let letters-all : take k ls ≡ letters cells =
-          rw k-all at (kept-all s e (λ c. c .0) ls (letters-kept s e) (omega (arith, k-few, letters-room s x))) in
-          let marks-all : take k ms ≡ marks cells = rw k-all at (kept-all s e (λ c. c .1) ms (marks-kept s) (omega (arith, k-few, marks-room s y))) in
+          rw k-all at (kept-all s e (λ c. c .0) old-letters (s .letters-are) (omega (arith, k-few, letters-room s x))) in
+          let marks-all : take k ms ≡ marks cells = rw k-all at (kept-all s e (λ c. c .1) old-marks (s .marks-are) (omega (arith, k-few, marks-room s y))) in
           let entries-all : take l es ≡ letters parts =
-          rw l-all at (kept-all u f (λ c. c .0) es (letters-kept u f) (omega (arith, l-few, letters-room u w))) in
+          rw l-all at (kept-all u f (λ c. c .0) old-entries (u .letters-are) (omega (arith, l-few, letters-room u w))) in
           rw (letters-all, marks-all, entries-all) refl
 
       -- What is said of the items in memory is said of the texts, whether the numbers pass or not.
-      pub both-read : {said : Said × List ℕ} → length old-letters ≡ 1024 → length old-marks ≡ 1024 → length old-entries ≡ 1024
+      pub both-read : {said : Said × List ℕ} → old-letters ≡ blank 1024 → old-marks ≡ blank 1024 → old-entries ≡ blank 1024
           → said ≡ valuesRun n k l ls ms es out → said ≡ convertRun t r out
       unfolding valuesRun
       both-read {said} x y w h = h ∙ go (first (countJudgements n k l) passed) refl ∙ sym values-are
@@ -102,7 +103,7 @@ module _ {t r : List ℕ} {cells parts : List (ℕ × ℕ)} {old-letters old-mar
           go (refused j p) q = sym (counts-stop n (letters cells) (marks cells) (letters parts) out j p (rw (letters-long s e, letters-long u f) q))
 
     -- Memory for the items is as long as it was.
-    pub roomed : length old-letters ≡ 1024 → length old-marks ≡ 1024 → length old-entries ≡ 1024 → Roomed ls ms es
+    pub roomed : old-letters ≡ blank 1024 → old-marks ≡ blank 1024 → old-entries ≡ blank 1024 → Roomed ls ms es
     roomed x y w = record { letters-room = letters-room s x; marks-room = marks-room s y; entries-room = letters-room u w }
 
 pub ruleset converting = (break-alone, break-further, first-broken, second-broken, both-read, roomed, needs)

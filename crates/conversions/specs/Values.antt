@@ -31,7 +31,8 @@ use Rattle.refusals.specs.declared.refusal.Refusal.{Refusal}
 use Rattle.refusals.specs.declared.answers.Verdict.{Verdict}
 use Rattle.refusals.specs.declared.answers.Verdict.the-variants.{Passed, Refused}
 use Rattle.acceptance.specs.Bytes.{narrowed}
-use Rattle.scans.specs.Kept.{Agree, agree-take}
+use Rattle.scans.specs.Kept.{kept, kept-take}
+use Rattle.line_items.specs.Blank.{blank, blank-long}
 use Rattle.line_items.specs.Narrowed.{narrowed-run}
 
 -- Places for letters, marks and entries.
@@ -104,16 +105,16 @@ module _ {v : Verdict} (n k l : ℕ) (ls ms es out : List ℕ) (e : saidVerdict 
     values-entries h = omega (arith, entries-few, h .entries-room)
 
     -- What the writer of P lines says of the letters as bytes is said of the values.
-    pub values-written : (bytes : List ℕ) {said : Said × List ℕ} → Roomed ls ms es → length bytes ≡ 1024 → Agree (map narrowed (take (k - 0) ls)) bytes
+    pub values-written : (bytes : List ℕ) {said : Said × List ℕ} → Roomed ls ms es → bytes ≡ kept (map narrowed (take (k - 0) ls)) (blank 1024)
         → said ≡ pLineRun n (take (k - 0) bytes) (take (k - 0) ms) (take (l - 0) es) out → said ≡ valuesRun n k l ls ms es out
     unfolding valuesRun
-    values-written bytes {said} h m a w =
+    values-written bytes {said} h a w =
         let cells : k - 0 ≡ k = omega arith in
         let entries : l - 0 ≡ l = omega arith in
         let here : length (map narrowed (take k ls)) ≡ k = length-map (take k ls) narrowed ∙ length-take-le k ls (values-letters h) in
-        let agree : Agree (map narrowed (take k ls)) bytes = rw cells at a in
-        let all : take k bytes ≡ map narrowed (take k ls) =
-        rw here at (agree-take (map narrowed (take k ls)) bytes agree (omega (arith, cells-few))) in
+        let kept-are : bytes ≡ kept (map narrowed (take k ls)) (blank 1024) = rw cells at a in
+        let room : length (map narrowed (take k ls)) ≤ length (blank 1024) = omega (arith, cells-few, blank-long 1024 {xs = blank 1024} refl) in
+        let all : take k bytes ≡ map narrowed (take k ls) = rw kept-are (rw here at (kept-take (map narrowed (take k ls)) (blank 1024) room)) in
         let wrote : said ≡ pLineRun n (take k bytes) (take k ms) (take l es) out = rw (cells, entries) at w in
         let few : length (take l es) ≤ 1024 = rw (length-take-le l es (values-entries h)) entries-few in
         let through : first (countJudgements n k l) passed ≡ passed = first-passed (countJudgements n k l) .1 numbers in

@@ -4,23 +4,23 @@
 --     line-broken                  the line breaks the grammar
 --     line-read, line-long, letters-long
 --                                  the line is read; how many cells and letters it has
---     letters-kept, marks-kept     letters and marks in memory agree with the line's
 --     kept-all, bytes-all          what is kept of a line that has room is all of it, and so are its letters as bytes
 -- Letters as bytes are judged as the letters: Narrowed. Assumes nothing.
 use Prim.Native.Nat.{ℕ, _-_, _≤_}
-use mathlib.Core.Path.{_≡_, ap, _∙_}
-use mathlib.Core.Bool.{Bool, true}
+use mathlib.Core.Path.{_≡_, refl, ap, _∙_}
+use mathlib.Core.Bool.{Bool}
 use mathlib.Core.List.{List, map}
 use native.Mathlib.Omega.{arith}
 use lib.ListN.{length, drop, take, length-drop, length-map}
-use Rattle.grammar.specs.Reading.{Read, broken, got, letters, marks}
+use Rattle.grammar.specs.Reading.{Read, broken, got, letters}
 use Rattle.numerals.specs.Numbers.{Told}
 use Rattle.acceptance.specs.Bytes.{narrowed}
 use Rattle.scans.specs.Items.{stepMarks}
-use Rattle.scans.specs.Kept.{Agree, agree-take, kept-agrees, length-kept}
+use Rattle.scans.specs.Kept.{kept, kept-take, length-kept}
 use Rattle.scans.specs.Scans.{Scanned}
 use Rattle.scans.specs.declared.line.Line.{Line}
 use Rattle.scans.specs.declared.line.Line.the-variants as line
+use Rattle.line_items.specs.Blank.{blank, blank-long}
 
 -- The place of a break.
 pub break-place : (text : List ℕ) (p : ℕ) → p ≤ length text → length text - length (drop p text) ≡ p
@@ -33,11 +33,11 @@ module _ {text : List ℕ} {steps : Bool} {reading : Read (ℕ × List (ℕ × �
   line-broken e = rw e at (s .told)
 
   -- Room for 1,024 letters and marks is as long as it was.
-  pub letters-room : length old-letters ≡ 1024 → length xs ≡ 1024
-  letters-room e = ap length (s .letters-are) ∙ length-kept (letters cells) old-letters ∙ e
+  pub letters-room : old-letters ≡ blank 1024 → length xs ≡ 1024
+  letters-room e = ap length (s .letters-are) ∙ length-kept (letters cells) old-letters ∙ blank-long 1024 e
 
-  pub marks-room : length old-marks ≡ 1024 → length ms ≡ 1024
-  marks-room e = ap length (s .marks-are) ∙ length-kept (stepMarks steps cells) old-marks ∙ e
+  pub marks-room : old-marks ≡ blank 1024 → length ms ≡ 1024
+  marks-room e = ap length (s .marks-are) ∙ length-kept (stepMarks steps cells) old-marks ∙ blank-long 1024 e
 
   module _ {n k next : ℕ} (e : r ≡ line.Read n k next) where
     -- The line is read; so many cells and letters it has.
@@ -50,27 +50,21 @@ module _ {text : List ℕ} {steps : Bool} {reading : Read (ℕ × List (ℕ × �
     pub letters-long : length (letters cells) ≡ k
     letters-long = length-map cells (λ c. c .0) ∙ line-long
 
-    -- The letters in memory agree with the line's.
-    pub letters-kept : Agree (letters cells) xs
-    letters-kept = rw (s .letters-are) (kept-agrees (letters cells) old-letters)
-
     -- What is kept of a line within the limits is all of it,
-    pub kept-all : (f : ℕ × ℕ → ℕ) (ys : List ℕ) → Agree (map f cells) ys → k ≤ length ys → take (k - 0) ys ≡ map f cells
-    kept-all f ys h l =
+    pub kept-all : (f : ℕ × ℕ → ℕ) {ys : List ℕ} (old : List ℕ) → ys ≡ kept (map f cells) old → k ≤ length ys → take (k - 0) ys ≡ map f cells
+    kept-all f {ys} old h l =
         let size : length (map f cells) ≡ k = length-map cells f ∙ line-long in
         let all : k - 0 ≡ length (map f cells) = omega arith in
-        rw all (agree-take (map f cells) ys h (omega arith))
+        let long : length ys ≡ length old = ap length h ∙ length-kept (map f cells) old in
+        rw (all, h) (kept-take (map f cells) old (omega arith))
 
     -- and so are its letters as bytes.
-    pub bytes-all : (bytes : List ℕ) → Agree (map narrowed (take (k - 0) xs)) bytes → k ≤ length xs → k ≤ length bytes
+    pub bytes-all : {bytes : List ℕ} → bytes ≡ kept (map narrowed (take (k - 0) xs)) (blank 1024) → k ≤ length xs → k ≤ 1024
         → take (k - 0) bytes ≡ map narrowed (letters cells)
-    bytes-all bytes h l m =
-        let is : take (k - 0) xs ≡ letters cells = kept-all (λ c. c .0) xs letters-kept l in
+    bytes-all {bytes} h l m =
+        let is : take (k - 0) xs ≡ letters cells = kept-all (λ c. c .0) old-letters (s .letters-are) l in
+        let kept-are : bytes ≡ kept (map narrowed (letters cells)) (blank 1024) = rw is at h in
         let size : length (map narrowed (letters cells)) ≡ k = length-map (letters cells) narrowed ∙ letters-long in
         let all : k - 0 ≡ length (map narrowed (letters cells)) = omega arith in
-        rw all (agree-take (map narrowed (letters cells)) bytes (rw is at h) (omega arith))
-
--- The marks in memory agree with those of a line with steps.
-pub marks-kept : {text : List ℕ} {reading : Read (ℕ × List (ℕ × ℕ))} {cells : List (ℕ × ℕ)} {old-letters old-marks xs ms : List ℕ} {r : Line}
-    → Scanned text true reading cells old-letters old-marks xs ms r → Agree (marks cells) ms
-marks-kept {text} {reading} {cells} {old-letters} {old-marks} s = rw (s .marks-are) (kept-agrees (marks cells) old-marks)
+        let room : length (blank 1024) ≡ 1024 = blank-long 1024 refl in
+        rw (all, kept-are) (kept-take (map narrowed (letters cells)) (blank 1024) (omega arith))

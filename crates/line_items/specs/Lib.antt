@@ -1,3 +1,4 @@
+pub mod Blank
 pub mod Letters
 pub mod Narrowed
 pub mod Items

@@ -19,7 +19,7 @@ module _ {v : Verdict} (n k : ℕ) (e : saidVerdict v ≡ first (rankJudged n �
   pub limit-rank : n ≤ 64
   limit-rank = let (rank, rest) = all-passing (rankJudged n ∷ lengthJudged k ∷ []) e q in rank-judged n .0 rank .1
 
-  limit-length : k ≤ 1024
+  pub limit-length : k ≤ 1024
   limit-length = let (rank, (size, t)) = all-passing (rankJudged n ∷ lengthJudged k ∷ []) e q in length-judged k .0 size
 
   -- So many of 1,024 elements can be taken.

@@ -2,12 +2,14 @@
 use acceptance::bytes::narrow;
 use refusals::numbers::least;
 ghost use mathlib.Core.List.{map};
+ghost use mathlib.Core.Path.{_≡_};
 ghost use Rattle.acceptance.specs.Bytes.{narrowed};
-ghost use Rattle.scans.specs.Kept.{Agree};
+ghost use Rattle.scans.specs.Kept.{kept};
+ghost use Rattle.line_items.specs.Blank.{blank};
 
-// Letters as bytes, at the beginning of an array, as many as it has room for. What stands behind them is of no account, and nothing is said of it.
+// Letters as bytes, at the beginning of an array, as many as it has room for; 0 behind them.
 pub fn narrow_letters(letters: &[u16]) -> [u8; 1024]
-    ensures { λ r. ⌜ Agree (map narrowed (now (letters .entry))) r ⌝ }
+    ensures { λ r. ⌜ r ≡ kept (map narrowed (now (letters .entry))) (blank 1024) ⌝ }
 {
     let count = least(letters.len(), 1024);
     let mut bytes = [0u8; 1024];

@@ -3,7 +3,7 @@
 --     letters-room, marks-room, entries-room     memory for items is as long as it was
 --     pair-broken, pair-stopped, pair-stored     the line breaks the grammar; its limits are refused; what is said of its values is said of the line
 --     reading-pairs                              the ruleset of the reader
--- W and T lines are in Readers. Assumes nothing.
+-- T lines are in Readers, W lines in word_readers. Assumes nothing.
 use Prim.Native.Nat.{ℕ, _-_, _≤_}
 use mathlib.Core.Path.{_≡_, refl, sym, _∙_}
 use mathlib.Core.Bool.{false, true}
@@ -24,15 +24,16 @@ use Rattle.refusals.specs.Said.{saidRefusal, saidVerdict}
 use Rattle.refusals.specs.declared.refusal.Refusal.{Refusal}
 use Rattle.refusals.specs.declared.answers.Verdict.{Verdict}
 use Rattle.refusals.specs.declared.answers.Verdict.the-variants.{Passed, Refused}
-use Rattle.scans.specs.Kept.{Agree}
+use Rattle.scans.specs.Kept.{kept}
 use Rattle.scans.specs.Kinds.{pair-whole}
 use Rattle.scans.specs.PairScans.{PairScanned, readPair}
 use Rattle.scans.specs.Scans.{Scanned, saidCells}
 use Rattle.scans.specs.declared.line.Line.{Line}
 use Rattle.scans.specs.declared.line.Line.the-variants as line
+use Rattle.line_items.specs.Blank.{blank}
 use Rattle.line_items.specs.Items as items
 use Rattle.line_items.specs.Narrowed.{narrowed-run}
-use Rattle.line_items.specs.Limits.{limit-part, limit-rank}
+use Rattle.line_items.specs.Limits.{limit-length, limit-part, limit-rank}
 
 -- A pair whose letters are narrowed to bytes is replied to as the pair.
 pair-narrowed : (out : Pair) (counts : List ℕ) (n : ℕ) (xs ms rs : List ℕ) → n ≤ 64 → pairRead out counts n (map narrowed xs) ms rs ≡ pairRead out counts n xs ms rs
@@ -52,13 +53,13 @@ module _ {text old-letters old-marks old-entries xs ms rs : List ℕ} {cells ent
   entries-scanned = record { told = record { says = refl; within = s .told .within }; long = s .entries-long; letters-are = s .entries-are; marks-are = refl }
 
   -- Room for 1,024 letters, marks and entries is as long as it was.
-  pub letters-room : length old-letters ≡ 1024 → length xs ≡ 1024
+  pub letters-room : old-letters ≡ blank 1024 → length xs ≡ 1024
   letters-room = items.letters-room cells-scanned
 
-  pub marks-room : length old-marks ≡ 1024 → length ms ≡ 1024
+  pub marks-room : old-marks ≡ blank 1024 → length ms ≡ 1024
   marks-room = items.marks-room cells-scanned
 
-  pub entries-room : length old-entries ≡ 1024 → length rs ≡ 1024
+  pub entries-room : old-entries ≡ blank 1024 → length rs ≡ 1024
   entries-room = items.letters-room entries-scanned
 
   module _ (out-letters out-marks out-entries out-counts : List ℕ) where
@@ -91,16 +92,16 @@ module _ {text old-letters old-marks old-entries xs ms rs : List ℕ} {cells ent
             (n ∷ length ws ∷ []) (writtenPair (pairWith ws us vs) out, countsOf ws) (out, out-counts) f (rw (items.letters-long cells-scanned e) h) q
             ∙ sym pair-is
 
-        pub pair-stored : (bytes : List ℕ) {said : Said × (Pair × List ℕ)} → v ≡ Passed → length old-letters ≡ 1024 → length old-marks ≡ 1024
-            → length old-entries ≡ 1024 → length bytes ≡ 1024 → Agree (map narrowed (take (k - 0) xs)) bytes
+        pub pair-stored : (bytes : List ℕ) {said : Said × (Pair × List ℕ)} → v ≡ Passed → old-letters ≡ blank 1024 → old-marks ≡ blank 1024
+            → old-entries ≡ blank 1024 → bytes ≡ kept (map narrowed (take (k - 0) xs)) (blank 1024)
             → said ≡ pairRead out out-counts n (take (k - 0) bytes) (take (k - 0) ms) (take (k - 0) rs) → said ≡ readPRun text out out-counts
-        pair-stored bytes {said} q l o p m a w =
+        pair-stored bytes {said} q l o p a w =
             let is : take (k - 0) bytes ≡ map narrowed (letters cells) =
-            items.bytes-all cells-scanned e bytes a (limit-part n k h q xs (letters-room l)) (limit-part n k h q bytes m) in
+            items.bytes-all cells-scanned e a (limit-part n k h q xs (letters-room l)) (limit-length n k h q) in
             let steps : take (k - 0) ms ≡ marks cells =
-            items.kept-all cells-scanned e (λ c. c .1) ms (items.marks-kept cells-scanned) (limit-part n k h q ms (marks-room o)) in
+            items.kept-all cells-scanned e (λ c. c .1) old-marks (s .marks-are) (limit-part n k h q ms (marks-room o)) in
             let places : take (k - 0) rs ≡ letters entries =
-            items.kept-all entries-scanned e (λ c. c .0) rs (items.letters-kept entries-scanned e) (limit-part n k h q rs (entries-room p)) in
+            items.kept-all entries-scanned e (λ c. c .0) old-entries (s .entries-are) (limit-part n k h q rs (entries-room p)) in
             let named : said ≡ pairRead out out-counts n (map narrowed (letters cells)) (marks cells) (letters entries) = rw (is, steps, places) at w in
             named ∙ pair-narrowed out out-counts n (letters cells) (marks cells) (letters entries) (limit-rank n k h q) ∙ sym pair-is
 

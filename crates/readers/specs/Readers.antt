@@ -19,11 +19,12 @@ use Rattle.refusals.specs.Said.{saidRefusal, saidVerdict}
 use Rattle.refusals.specs.declared.refusal.Refusal.{Refusal}
 use Rattle.refusals.specs.declared.answers.Verdict.{Verdict}
 use Rattle.refusals.specs.declared.answers.Verdict.the-variants.{Passed, Refused}
-use Rattle.scans.specs.Kept.{Agree}
+use Rattle.scans.specs.Kept.{kept}
 use Rattle.acceptance.specs.Bytes.{narrowed}
 use Rattle.scans.specs.Kinds.{tableau-whole}
-use Rattle.line_items.specs.Items.{break-place, bytes-all, kept-all, letters-long, letters-room, line-broken, line-read, marks-kept, marks-room}
-use Rattle.line_items.specs.Limits.{limit-part, limit-rank}
+use Rattle.line_items.specs.Blank.{blank}
+use Rattle.line_items.specs.Items.{break-place, bytes-all, kept-all, letters-long, letters-room, line-broken, line-read, marks-room}
+use Rattle.line_items.specs.Limits.{limit-length, limit-part, limit-rank}
 use Rattle.line_items.specs.Narrowed.{narrowed-run}
 use Rattle.scans.specs.Scans.{Scanned, readWhole}
 use Rattle.scans.specs.declared.line.Line.{Line}
@@ -51,13 +52,13 @@ module _ {text old-letters old-marks xs ms : List ℕ} {cells : List (ℕ × ℕ
           (n ∷ length ws ∷ []) (written ws out-letters, (written us out-marks, countsOf ws)) (out-letters, (out-marks, out-counts)) f (rw (letters-long s e) h) q
           ∙ sym tableau-is
 
-      pub tableau-stored : (bytes : List ℕ) {said : Said × (List ℕ × (List ℕ × List ℕ))} → v ≡ Passed → length old-letters ≡ 1024 → length old-marks ≡ 1024
-          → length bytes ≡ 1024 → Agree (map narrowed (take (k - 0) xs)) bytes
+      pub tableau-stored : (bytes : List ℕ) {said : Said × (List ℕ × (List ℕ × List ℕ))} → v ≡ Passed → old-letters ≡ blank 1024 → old-marks ≡ blank 1024
+          → bytes ≡ kept (map narrowed (take (k - 0) xs)) (blank 1024)
           → said ≡ tableauRead out-letters out-marks out-counts n (take (k - 0) bytes) (take (k - 0) ms) → said ≡ readTRun text out-letters out-marks out-counts
-      tableau-stored bytes q l o m a w =
+      tableau-stored bytes q l o a w =
           let is : take (k - 0) bytes ≡ map narrowed (letters cells) =
-          bytes-all s e bytes a (limit-part n k h q xs (letters-room s l)) (limit-part n k h q bytes m) in
-          let steps : take (k - 0) ms ≡ marks cells = kept-all s e (λ c. c .1) ms (marks-kept s) (limit-part n k h q ms (marks-room s o)) in
+          bytes-all s e a (limit-part n k h q xs (letters-room s l)) (limit-length n k h q) in
+          let steps : take (k - 0) ms ≡ marks cells = kept-all s e (λ c. c .1) old-marks (s .marks-are) (limit-part n k h q ms (marks-room s o)) in
           w ∙ ap (λ (ws : List ℕ). tableauRead out-letters out-marks out-counts n ws (take (k - 0) ms)) is
           ∙ narrowed-run n (letters cells) (λ ws. rankJudged n ∷ lengthJudged (length ws) ∷ alikeJudged (length ws) (length (take (k - 0) ms) ∷ []) ∷ [])
           (λ ws. risingJudged ws ∷ marksJudged ws (take (k - 0) ms) ∷ roomJudged (length ws) (length out-letters) ∷ roomJudged (length ws) (length out-marks) ∷ [])

@@ -1,13 +1,12 @@
 -- Values kept in memory.
 --     kept vs old              as many of the values as there is room for, and after them what was there
 --     length-kept, kept-next   it is as long as before; one value more is stored after those that are kept
---     Agree vs xs              two lists agree as far as both go; kept-agrees: so do the values and what is kept of them
---     agree-more               one value more is stored after those that are kept
---     agree-take               as many elements as there are values are the values
+--     kept-take                values that have room are all there
+--     kept-enough              of the values only as many count as have room
 -- Assumes nothing.
-use Prim.Native.Nat.{ℕ, suc, _≤_}
-use mathlib.Core.Path.{_≡_, refl, ap, ap₂}
-use mathlib.Core.List.{List, [], _∷_, _++_}
+use Prim.Native.Nat.{ℕ, zero, suc, min, _≤_}
+use mathlib.Core.Path.{_≡_, refl, ap}
+use mathlib.Core.List.{List, [], _∷_, _++_, map}
 use native.Mathlib.Omega.{arith}
 use lib.ListN.{length, set, take}
 
@@ -29,27 +28,17 @@ kept-next [] (x ∷ old) v = refl
 kept-next (u ∷ vs) [] v = refl
 kept-next (u ∷ vs) (x ∷ old) v = ap (λ (xs : List ℕ). u ∷ xs) (kept-next vs old v)
 
--- The two lists have one value at each place that both have.
-abbrev pub Agree : List ℕ → List ℕ → Type 0
-Agree [] xs = Unit {0}
-Agree (v ∷ vs) [] = Unit {0}
-Agree (v ∷ vs) (x ∷ xs) = (x ≡ v) × Agree vs xs
-
--- The values and what is kept of them.
-pub kept-agrees : (vs old : List ℕ) → Agree vs (kept vs old)
-kept-agrees [] old = tt
-kept-agrees (v ∷ vs) [] = tt
-kept-agrees (v ∷ vs) (x ∷ old) = (refl, kept-agrees vs old)
-
--- One value more.
-pub agree-more : (vs xs : List ℕ) (v : ℕ) → Agree vs xs → Agree (vs ++ (v ∷ [])) (set xs (length vs) v)
-agree-more [] [] v h = tt
-agree-more [] (x ∷ xs) v h = (refl, tt)
-agree-more (u ∷ vs) [] v h = tt
-agree-more (u ∷ vs) (x ∷ xs) v h = (h .0, agree-more vs xs v (h .1))
-
 -- Values that have room are all there.
-pub agree-take : (vs xs : List ℕ) → Agree vs xs → length vs ≤ length xs → take (length vs) xs ≡ vs
-agree-take [] xs h l = refl
-agree-take (v ∷ vs) [] h l = let z : ⊥ = omega arith in absurd z
-agree-take (v ∷ vs) (x ∷ xs) h l = ap₂ _∷_ (h .0) (agree-take vs xs (h .1) (omega arith))
+pub kept-take : (vs old : List ℕ) → length vs ≤ length old → take (length vs) (kept vs old) ≡ vs
+kept-take [] old l = refl
+kept-take (v ∷ vs) [] l = let z : ⊥ = omega arith in absurd z
+kept-take (v ∷ vs) (x ∷ old) l = ap (λ (xs : List ℕ). v ∷ xs) (kept-take vs old (omega arith))
+
+-- Of the values only as many count as there are, or as have room.
+pub kept-enough : (f : ℕ → ℕ) (k : ℕ) (vs old : List ℕ) → min (length vs) (length old) ≤ k → kept (map f (take k vs)) old ≡ kept (map f vs) old
+kept-enough f zero [] old l = refl
+kept-enough f zero (v ∷ vs) [] l = refl
+kept-enough f zero (v ∷ vs) (x ∷ old) l = let z : ⊥ = omega arith in absurd z
+kept-enough f (suc k) [] old l = refl
+kept-enough f (suc k) (v ∷ vs) [] l = refl
+kept-enough f (suc k) (v ∷ vs) (x ∷ old) l = ap (λ (xs : List ℕ). f v ∷ xs) (kept-enough f k vs old (omega arith))

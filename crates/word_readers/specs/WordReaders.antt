@@ -22,14 +22,15 @@ use Rattle.refusals.specs.Said.{saidRefusal, saidVerdict}
 use Rattle.refusals.specs.declared.refusal.Refusal.{Refusal}
 use Rattle.refusals.specs.declared.answers.Verdict.{Verdict}
 use Rattle.refusals.specs.declared.answers.Verdict.the-variants.{Passed, Refused}
-use Rattle.scans.specs.Kept.{Agree}
+use Rattle.scans.specs.Kept.{kept}
 use Rattle.scans.specs.Kinds.{word-whole}
 use Rattle.scans.specs.Scans.{Scanned, readWhole}
 use Rattle.scans.specs.declared.line.Line.{Line}
 use Rattle.scans.specs.declared.line.Line.the-variants as line
 use Rattle.acceptance.specs.Bytes.{narrowed}
 use Rattle.line_items.specs.Items.{break-place, bytes-all, letters-long, letters-room, line-broken, line-read}
-use Rattle.line_items.specs.Limits.{limit-part, limit-rank}
+use Rattle.line_items.specs.Blank.{blank}
+use Rattle.line_items.specs.Limits.{limit-length, limit-part, limit-rank}
 use Rattle.line_items.specs.Narrowed.{narrowed-run}
 
 -- ---- the values
@@ -66,11 +67,11 @@ module _ {text old-letters old-marks xs ms : List ℕ} {cells : List (ℕ × ℕ
           (written ws out) out f (rw (letters-long s e) h) q
           ∙ sym word-is
 
-      pub word-stored : (bytes : List ℕ) {said : Said × List ℕ} → v ≡ Passed → length old-letters ≡ 1024 → length bytes ≡ 1024
-          → Agree (map narrowed (take (k - 0) xs)) bytes → said ≡ wordRead out n (take (k - 0) bytes) → said ≡ readWRun text out
-      word-stored bytes q l m a w =
+      pub word-stored : (bytes : List ℕ) {said : Said × List ℕ} → v ≡ Passed → old-letters ≡ blank 1024
+          → bytes ≡ kept (map narrowed (take (k - 0) xs)) (blank 1024) → said ≡ wordRead out n (take (k - 0) bytes) → said ≡ readWRun text out
+      word-stored bytes q l a w =
           let is : take (k - 0) bytes ≡ map narrowed (letters cells) =
-          bytes-all s e bytes a (limit-part n k h q xs (letters-room s l)) (limit-part n k h q bytes m) in
+          bytes-all s e a (limit-part n k h q xs (letters-room s l)) (limit-length n k h q) in
           w ∙ ap (wordRead out n) is
           ∙ narrowed-run n (letters cells) (λ ws. rankJudged n ∷ lengthJudged (length ws) ∷ []) (λ ws. roomJudged (length ws) (length out) ∷ [])
           (λ ws. gives (n ∷ length ws ∷ [])) (λ ws. written ws out) out (limit-rank n k h q) (rw (length-map (letters cells) narrowed)) ∙ sym word-is

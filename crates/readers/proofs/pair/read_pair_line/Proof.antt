@@ -13,7 +13,7 @@ returns-3 c =
     let scanned = limits .before .before .before .before .before .before .before in
     let places = scanned .before .before .before .before in
     let marks = places .before in
-    search (marks .before .no-letters .ensures, marks .no-marks .ensures, places .no-letters2 .ensures, scanned .scan-pair .ensures, limits .check-limits .ensures, told .enum-told .given .1, narrowed .narrow-letters .ok, narrowed .narrow-letters .ensures, stored .store-pair .ensures, reading-pairs)
+    search (marks .before .no-letters .ensures, marks .no-marks .ensures, places .no-letters2 .ensures, scanned .scan-pair .ensures, limits .check-limits .ensures, told .enum-told .given .1, narrowed .narrow-letters .ensures, stored .store-pair .ensures, reading-pairs)
 
 pub read-pair-line-spec : {M : Type 1} → statement M
 read-pair-line-spec =

@@ -12,7 +12,7 @@ returns-3 c =
     let limits = told .before .before in
     let scanned = limits .before .before .before .before .before .before in
     let marks = scanned .before .before .before in
-    search (marks .before .no-letters .ensures, marks .no-marks .ensures, scanned .scan-line .ensures, limits .check-limits .ensures, told .enum-told .given .1, narrowed .narrow-letters .ok, narrowed .narrow-letters .ensures, stored .store-tableau .ensures, reading-tableaux)
+    search (marks .before .no-letters .ensures, marks .no-marks .ensures, scanned .scan-line .ensures, limits .check-limits .ensures, told .enum-told .given .1, narrowed .narrow-letters .ensures, stored .store-tableau .ensures, reading-tableaux)
 
 pub read-tableau-line-spec : {M : Type 1} → statement M
 read-tableau-line-spec =
