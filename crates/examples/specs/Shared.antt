@@ -147,7 +147,7 @@ sharedCases =
     ∷ case (tallies.leadAfter false 2 2 ∷ tallies.leadAfter false 1 2 ∷ tallies.leadAfter true 2 2 ∷ []) (3 ∷ 1 ∷ 2 ∷ [])
     ∷ case (tallies.nextCount 0 ∷ tallies.nextCount 9223372036854775807 ∷ tallies.nextCount 9223372036854775808 ∷ []) (1 ∷ 9223372036854775808 ∷ 9223372036854775808 ∷ [])
     -- a number at a letter's place, none of the letters 0 and 65
-    ∷ case (tallies.kept 1 7 (8 ∷ 9 ∷ []) ++ tallies.kept 2 7 (8 ∷ 9 ∷ []) ++ tallies.kept 0 7 (8 ∷ []) ++ tallies.kept 65 7 (8 ∷ [])) (7 ∷ 9 ∷ 8 ∷ 7 ∷ 8 ∷ 8 ∷ [])
+    ∷ case (tallies.keptAt 1 7 (8 ∷ 9 ∷ []) ++ tallies.keptAt 2 7 (8 ∷ 9 ∷ []) ++ tallies.keptAt 0 7 (8 ∷ []) ++ tallies.keptAt 65 7 (8 ∷ [])) (7 ∷ 9 ∷ 8 ∷ 7 ∷ 8 ∷ 8 ∷ [])
     -- a move once its inversion is known: 1, 9, 10, 11, or made at a place
     ∷ case (outcome (moveLettersRun 65 (raise 0) true [])) (1 ∷ 0 ∷ [])
     ∷ case (outcome (moveLettersRun 4 (raise 0) true [])) (9 ∷ 0 ∷ [])

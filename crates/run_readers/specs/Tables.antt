@@ -28,7 +28,7 @@ use Rattle.run_lines.specs.Judgements.{itemLetters}
 use Rattle.run_lines.specs.Runs.{marksOfRun, runCells, runLetters, runMarks}
 use Rattle.run_lines.proofs.Theory.Judged.{RisingItems}
 use Rattle.run_lines.proofs.Theory.Runs.{runs-length}
-use Rattle.run_tallies.specs.Tallies.{kept, tabled}
+use Rattle.run_tallies.specs.Tallies.{keptAt, tabled}
 
 -- ---- the tables
 
@@ -55,8 +55,8 @@ told-none f d x (r ∷ rs) a h l =
     rw (ne-eqb (r .letter) a (λ e. omega (arith, h .0 .0))) (told-none f d (r .letter) rs a (h .1) (omega (arith, h .0 .0)))
 
 -- One item in a table.
-kept-table : {h : ℕ → ℕ} {cs : List ℕ} (x v : ℕ) → 1 ≤ x → x ≤ 64 → Table h cs → Table (λ a. cond (eqb x a) v (h a)) (kept x v cs)
-unfolding kept
+kept-table : {h : ℕ → ℕ} {cs : List ℕ} (x v : ℕ) → 1 ≤ x → x ≤ 64 → Table h cs → Table (λ a. cond (eqb x a) v (h a)) (keptAt x v cs)
+unfolding keptAt
 kept-table {h} {cs} x v low high t =
     let place : suc (x - 1) ≡ x = omega arith in
     rw (le-ltb x 1 low, le-ltb 64 x high)

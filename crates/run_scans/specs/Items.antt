@@ -21,7 +21,7 @@ use Rattle.numerals.specs.Numbers.{Told}
 use Rattle.run_lines.specs.Runs.{runWith}
 use Rattle.run_tallies.specs.Leads.{tallied-more}
 use Rattle.run_tallies.specs.Tables.{tabled-more}
-use Rattle.run_tallies.specs.Tallies.{Added, Fresh, Tallied, kept, tabled}
+use Rattle.run_tallies.specs.Tallies.{Added, Fresh, Tallied, keptAt, tabled}
 use Rattle.run_tallies.specs.declared.tally.Tally.{Tally}
 use Rattle.scans.specs.Items.{andMore, turned-same}
 use Rattle.run_scans.specs.Runs.{RunTold, readRunItem, run-none, run-takes}
@@ -55,12 +55,12 @@ held-none n ts ms f = record { tallied = f .none n; times-are = refl; marks-are 
 
 -- and of one item more.
 held-more : {n : ℕ} {old-times old-marks ts ms ts′ ms′ : List ℕ} {y z : Tally} {rs : List Run} (x k m : ℕ) → Held n old-times old-marks ts ms y rs
-    → ts′ ≡ kept x k ts → ms′ ≡ kept x m ms → Added n x k y z → length rs < 9223372036854775808
+    → ts′ ≡ keptAt x k ts → ms′ ≡ keptAt x m ms → Added n x k y z → length rs < 9223372036854775808
     → Held n old-times old-marks ts′ ms′ z (rs ++ (runWith x k m ∷ []))
 held-more {n} {old-times} {old-marks} {ts} {ms} {ts′} {ms′} {y} {z} {rs} x k m h a b d l = record {
   tallied = tallied-more (runWith x k m) (h .tallied) d l;
-  times-are = a ∙ ap (kept x k) (h .times-are) ∙ sym (tabled-more (λ r. r .times) rs (runWith x k m) old-times);
-  marks-are = b ∙ ap (kept x m) (h .marks-are) ∙ sym (tabled-more (λ r. r .mark) rs (runWith x k m) old-marks);
+  times-are = a ∙ ap (keptAt x k) (h .times-are) ∙ sym (tabled-more (λ r. r .times) rs (runWith x k m) old-times);
+  marks-are = b ∙ ap (keptAt x m) (h .marks-are) ∙ sym (tabled-more (λ r. r .mark) rs (runWith x k m) old-marks);
 }
 
 -- ---- what is replied
@@ -185,7 +185,7 @@ module _ {text t : List ℕ} {n : ℕ} {old-times old-marks ts ms : List ℕ} {y
         pub scan-less : length text - next < length text - at
         scan-less = omega (arith, further, l)
 
-        pub scan-turn : {ts′ ms′ : List ℕ} {z : Tally} → ts′ ≡ kept x k ts → ms′ ≡ kept x m ms → Added n x k y z
+        pub scan-turn : {ts′ ms′ : List ℕ} {z : Tally} → ts′ ≡ keptAt x k ts → ms′ ≡ keptAt x m ms → Added n x k y z
             → Scanning text t n old-times old-marks ts′ ms′ z true next
         scan-turn a b d = record {
           sofar = g .sofar ++ (runWith x k m ∷ []);

@@ -17,17 +17,17 @@ use borrow.Author.Tests.{ltb-false}
 use Rattle.grammar.specs.Lines.{Run}
 use Rattle.outcomes.specs.Judgements.{outside}
 use Rattle.hypoplactic.specs.Words.{Inside}
-use Rattle.run_tallies.specs.Tallies.{kept, tabled}
+use Rattle.run_tallies.specs.Tallies.{keptAt, tabled}
 
 -- One item more is stored after the others.
-pub tabled-more : (f : Run → ℕ) (rs : List Run) (r : Run) (cs : List ℕ) → tabled f (rs ++ (r ∷ [])) cs ≡ kept (r .letter) (f r) (tabled f rs cs)
+pub tabled-more : (f : Run → ℕ) (rs : List Run) (r : Run) (cs : List ℕ) → tabled f (rs ++ (r ∷ [])) cs ≡ keptAt (r .letter) (f r) (tabled f rs cs)
 tabled-more f [] r cs = refl
-tabled-more f (s ∷ rs) r cs = tabled-more f rs r (kept (s .letter) (f s) cs)
+tabled-more f (s ∷ rs) r cs = tabled-more f rs r (keptAt (s .letter) (f s) cs)
 
 module _ {b : Bool} (x : ℕ) (t : b ≡ outside 64 x) where
   -- A letter outside has no place.
-  pub kept-outside : (v : ℕ) (cs : List ℕ) → b ≡ true → cs ≡ kept x v cs
-  unfolding kept
+  pub kept-outside : (v : ℕ) (cs : List ℕ) → b ≡ true → cs ≡ keptAt x v cs
+  unfolding keptAt
   kept-outside v cs e = rw (← t, e)
 
   module _ (e : b ≡ false) where
@@ -43,8 +43,8 @@ module _ {b : Bool} (x : ℕ) (t : b ≡ outside 64 x) where
     kept-place = let (low, high) = inside in omega arith
 
     -- and the number is stored there.
-    pub kept-inside : (v : ℕ) (cs : List ℕ) → set cs (x - 1) v ≡ kept x v cs
-    unfolding kept
+    pub kept-inside : (v : ℕ) (cs : List ℕ) → set cs (x - 1) v ≡ keptAt x v cs
+    unfolding keptAt
     kept-inside v cs = rw (← t, e)
 
 pub ruleset keeping = (kept-outside, kept-low, kept-place, kept-inside, needs)

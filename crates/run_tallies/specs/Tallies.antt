@@ -9,7 +9,7 @@
 --     Added n x k y z           the tally z is y with one item more, of the letter x and the count k
 --     tallyJudgements L y       4, 19 and 20 by a tally
 --     tallySays n L y           1, 2, 4, 19 and 20 by a tally. Of a tally that items have it is what runJudgements say of them (tally-judges in Leads)
---     kept x v cs               64 numbers, one for each letter, with v stored at the place of the letter x
+--     keptAt x v cs             64 numbers, one for each letter, with v stored at the place of the letter x
 --     tabled f rs cs            with what f tells of each item stored at its letter's place, a later item over an earlier
 -- Assumes nothing.
 use Prim.Native.Nat.{ℕ, suc, _+_, _-_, min}
@@ -84,10 +84,10 @@ tallySays n L y = first (rankJudged n ∷ lengthJudged L ∷ tallyJudgements L y
 -- ---- tables
 
 -- Nothing is stored where the letter is outside 1 to 64.
-unfoldable pub kept : ℕ → ℕ → List ℕ → List ℕ
-kept x v cs = cond (outside 64 x) cs (set cs (x - 1) v)
+unfoldable pub keptAt : ℕ → ℕ → List ℕ → List ℕ
+keptAt x v cs = cond (outside 64 x) cs (set cs (x - 1) v)
 
 -- Every item, one after another.
 abbrev pub tabled : (Run → ℕ) → List Run → List ℕ → List ℕ
 tabled f [] cs = cs
-tabled f (r ∷ rs) cs = tabled f rs (kept (r .letter) (f r) cs)
+tabled f (r ∷ rs) cs = tabled f rs (keptAt (r .letter) (f r) cs)

@@ -5,8 +5,12 @@
 --     table-ends                  a table has 64 numbers, that of the letter 1 first and that of 64 last
 --     field-told, break-told      a number of a line with the place after it, and the place of a break
 --     line-told, line-broken      a whole line with its values and what is kept of them, and one that breaks
+--     recording-told              a line without a rank, for which 0 is told
+--     step-told                   the mark of a step, and what is told where none stands
+--     items-told                  memory for items before any is kept; a letter of a line as a byte
 --     pair-told, pair-broken      the same of P lines
 --     runs-told, runs-broken      the same of C lines, of whose items a tally and two tables are kept
+--     table-told                  of two items with one letter the table has the later
 -- Assumes nothing.
 use Prim.Native.Nat.{ℕ}
 use mathlib.Core.Path.{_≡_, refl}
@@ -27,7 +31,9 @@ use Rattle.numerals.specs.Numbers.{Numbered}
 use Rattle.numerals.specs.declared.numbers.Number.the-variants as number-at
 use Rattle.occurrences.specs.Places.{foundPlace}
 use Rattle.occurrences.specs.declared.places.Found.the-variants.{At, Nothing}
-use Rattle.cell_scans.specs.Cells.{readMarked}
+use Rattle.acceptance.specs.Bytes.{narrowed}
+use Rattle.line_items.specs.Blank.{blank}
+use Rattle.cell_scans.specs.Cells.{markOf, readMarked}
 use Rattle.scans.specs.Heads.{readCounted, readEnd, readHead}
 use Rattle.scans.specs.PairScans.{PairScanned, pairCells, pairEntries, partEntries, readPair, readParts}
 use Rattle.scans.specs.Scans.{Scanned, readBody, readWhole, wholeCells}
@@ -35,7 +41,8 @@ use Rattle.scans.specs.declared.line.Line.the-variants as line
 use Rattle.words.specs.Given.{countGiven, junctionGiven}
 use Rattle.words.specs.Tables.{Table}
 use Rattle.fillings.specs.Filled.{filled, filledLetters, filledRuns}
-use Rattle.run_tallies.specs.Tallies.{kept, leadAfter, nextCount}
+use Rattle.run_lines.specs.Runs.{runWith}
+use Rattle.run_tallies.specs.Tallies.{keptAt, leadAfter, nextCount, tabled}
 use Rattle.run_scans.specs.Items.{begunRuns}
 use Rattle.run_scans.specs.Lines.{RunsScanned, wholeRuns}
 use Rattle.run_scans.specs.Runs.{readRunItem}
@@ -54,7 +61,7 @@ use Rattle.taken_cells.specs.Lettered.{cellOfLetter}
 use Rattle.examples.specs.Shared.{sharedCases}
 
 pub shared-pinned : map (λ (c : Case). c .meaning) sharedCases ≡ map (λ (c : Case). c .document) sharedCases
-unfolding sharedCases countsOf countsJudged pushed wholeCells wholeRuns begunRuns readRunItem readHead readCounted number junctionSet rankJudged lengthJudged usedJudged lettersJudged risingJudged marksJudged entriesJudged recordingJudged indexJudged inversionJudged letterJudged fullJudged roomJudged checksThen countGiven junctionGiven filled filledLetters filledRuns kept leadAfter nextCount layers moveLettersRun repeatLettersSays sameTables compareTables orders ordersGiven ordersLeft pulled cellOfNumber cellOfLetter
+unfolding sharedCases countsOf countsJudged pushed wholeCells wholeRuns begunRuns readRunItem readHead readCounted number junctionSet rankJudged lengthJudged usedJudged lettersJudged risingJudged marksJudged entriesJudged recordingJudged indexJudged inversionJudged letterJudged fullJudged roomJudged checksThen countGiven junctionGiven filled filledLetters filledRuns keptAt leadAfter nextCount layers moveLettersRun repeatLettersSays sameTables compareTables orders ordersGiven ordersLeft pulled cellOfNumber cellOfLetter
 shared-pinned = refl
 
 pub sides-named : (i : ℕ) → (moveBy Raising i ≡ raise i) × (moveBy Lowering i ≡ lower i)
@@ -88,6 +95,22 @@ pub line-broken :
 unfolding readWhole readBody readHead readCounted readEnd readMarked wholeCells
 line-broken = record { told = record { says = refl; within = omega arith }; long = refl; letters-are = refl; marks-are = refl }
 
+-- An N line has no rank.
+pub recording-told :
+    Scanned (text "N,1,1\n") false (readWhole 78 false false (text "N,1,1\n")) (wholeCells 78 false false (text "N,1,1\n")) (9 ∷ 9 ∷ []) []
+    (1 ∷ 9 ∷ []) [] (line.Read 0 1 6)
+unfolding readWhole readBody readHead readCounted readEnd readMarked wholeCells
+recording-told = record { told = record { says = refl; within = omega arith }; long = refl; letters-are = refl; marks-are = refl }
+
+-- Right, down, and no step: another byte, or the end of the text.
+pub step-told : (markOf (text "r") ≡ 0) × (markOf (text "d") ≡ 1) × (markOf (text ",r") ≡ 2) × (markOf [] ≡ 2)
+step-told = (refl, refl, refl, refl)
+
+-- Zeros before an item is kept; 0 for a letter that no byte holds.
+pub items-told : (blank 3 ≡ 0 ∷ 0 ∷ 0 ∷ []) × (map narrowed (0 ∷ 255 ∷ 256 ∷ 9999 ∷ []) ≡ 0 ∷ 255 ∷ 0 ∷ 0 ∷ [])
+unfolding blank
+items-told = (refl, refl)
+
 -- A P line: its cells, then its entries.
 pub pair-told :
     PairScanned (text "P,4,1,3,1\n") (readPair (text "P,4,1,3,1\n")) (pairCells (text "P,4,1,3,1\n")) (pairEntries (text "P,4,1,3,1\n"))
@@ -109,12 +132,17 @@ pub runs-told :
     RunsScanned (text "C,4,3,1,1,d,3,2\n") (readC (text "C,4,3,1,1,d,3,2\n")) (wholeRuns (text "C,4,3,1,1,d,3,2\n"))
     (9 ∷ 9 ∷ 9 ∷ 9 ∷ []) (8 ∷ 8 ∷ 8 ∷ 8 ∷ []) (1 ∷ 9 ∷ 2 ∷ 9 ∷ []) (0 ∷ 8 ∷ 1 ∷ 8 ∷ [])
     (runs.Read 4 3 (record { items = 2; inside = 2; rising = 2; last = 3; sum = 3 }))
-unfolding readC readRuns readHead readCounted wholeRuns begunRuns readRunItem kept
+unfolding readC readRuns readHead readCounted wholeRuns begunRuns readRunItem keptAt
 runs-told = record { told = (refl, record { items = refl; inside = refl; rising = refl; last = refl; sum = refl }); times-are = refl; marks-are = refl }
 
 -- One that breaks in the count of its third item: the two before are kept, and nothing of that one.
 pub runs-broken :
     RunsScanned (text "C,4,4,1,1,d,3,2,d,4,x") (readC (text "C,4,4,1,1,d,3,2,d,4,x")) (wholeRuns (text "C,4,4,1,1,d,3,2,d,4,x"))
     (9 ∷ 9 ∷ 9 ∷ 9 ∷ []) (8 ∷ 8 ∷ 8 ∷ 8 ∷ []) (1 ∷ 9 ∷ 2 ∷ 9 ∷ []) (0 ∷ 8 ∷ 1 ∷ 8 ∷ []) (runs.Broken 20)
-unfolding readC readRuns readHead readCounted wholeRuns begunRuns readRunItem kept
+unfolding readC readRuns readHead readCounted wholeRuns begunRuns readRunItem keptAt
 runs-broken = record { told = record { says = refl; within = omega arith }; times-are = refl; marks-are = refl }
+
+-- Of two items with one letter the later count stands in the table, and that of a letter above 64 nowhere.
+pub table-told : tabled (λ r. r .times) (runWith 2 5 0 ∷ runWith 2 7 0 ∷ runWith 65 9 0 ∷ []) (8 ∷ 8 ∷ []) ≡ 8 ∷ 7 ∷ []
+unfolding keptAt
+table-told = refl
