@@ -3,8 +3,8 @@
 use multiplication::product::product;
 use stored_tableaux::two_tableaux::compare_weights_of_tableaux;
 use stored_tableaux::two_tableaux::same_class_of_tableaux;
-use structs::converters::class_reply;
-use structs::converters::order_reply;
+use structs::comparisons::class_reply;
+use structs::comparisons::order_reply;
 use structs::counts::count_written;
 use structs::replies::ClassReply;
 use structs::replies::CountReply;

@@ -1,21 +1,17 @@
-// Answers of a move, of the junction question, of the numbers of a class, of two words and of a look, as structs of the C interface.
+// Answers of a move, of the junction question, of the numbers of a class and of a look, as structs of the C interface.
 use crate::replies::CellReply;
-use crate::replies::ClassReply;
 use crate::replies::JunctionReply;
 use crate::replies::MoveReply;
-use crate::replies::OrderReply;
 use crate::replies::ValueReply;
 use refusals::answers::Cell;
-use refusals::answers::Class;
 use refusals::answers::Junctions;
 use refusals::answers::Move;
 use refusals::answers::Numbered;
-use refusals::answers::Weights;
 use refusals::refusal::Refusal;
 use refusals::refusal::number_and_place;
 ghost use mathlib.Core.Path.{_≡_};
-ghost use Rattle.refusals.specs.Said.{saidCell, saidClass, saidJunctions, saidMove, saidNumbered, saidRefusal, saidWeights};
-ghost use Rattle.structs.specs.Replies.{cellOf, classOf, junctionOf, moveOf, orderOf, valueOf};
+ghost use Rattle.refusals.specs.Said.{saidCell, saidJunctions, saidMove, saidNumbered, saidRefusal};
+ghost use Rattle.structs.specs.Replies.{cellOf, junctionOf, moveOf, valueOf};
 
 // A refusal of a move: no place was changed, and that field is 0.
 fn move_refused(refusal: Refusal) -> MoveReply
@@ -40,76 +36,6 @@ pub fn move_reply(answer: Move) -> MoveReply
             changed,
         },
         Move::Refused(refusal) => move_refused(refusal),
-    }
-}
-
-// 1 or 0.
-fn classed(same: usize) -> ClassReply
-    ensures { λ r. ⌜ r ≡ record { number = 0; place = 0; same = same } ⌝ }
-{
-    ClassReply {
-        number: 0,
-        place: 0,
-        same,
-    }
-}
-
-// A refusal of the same-class test: the values are 0.
-fn class_refused(refusal: Refusal) -> ClassReply
-    ensures { λ r. ⌜ r ≡ classOf (saidRefusal refusal) ⌝ }
-{
-    let told = number_and_place(refusal);
-    ClassReply {
-        number: told.number,
-        place: told.place,
-        same: 0,
-    }
-}
-
-// Whether two words are in one class.
-pub fn class_reply(answer: Class) -> ClassReply
-    ensures { λ r. ⌜ r ≡ classOf (saidClass answer) ⌝ }
-{
-    match answer {
-        Class::Same => classed(1),
-        Class::Different => classed(0),
-        Class::Refused(refusal) => class_refused(refusal),
-    }
-}
-
-// One of the four answers.
-fn ordered(order: usize) -> OrderReply
-    ensures { λ r. ⌜ r ≡ record { number = 0; place = 0; order = order } ⌝ }
-{
-    OrderReply {
-        number: 0,
-        place: 0,
-        order,
-    }
-}
-
-// A refusal of the comparison of weights: the values are 0.
-fn order_refused(refusal: Refusal) -> OrderReply
-    ensures { λ r. ⌜ r ≡ orderOf (saidRefusal refusal) ⌝ }
-{
-    let told = number_and_place(refusal);
-    OrderReply {
-        number: told.number,
-        place: told.place,
-        order: 0,
-    }
-}
-
-// The comparison of weights.
-pub fn order_reply(answer: Weights) -> OrderReply
-    ensures { λ r. ⌜ r ≡ orderOf (saidWeights answer) ⌝ }
-{
-    match answer {
-        Weights::Equal => ordered(0),
-        Weights::Lower => ordered(1),
-        Weights::Higher => ordered(2),
-        Weights::Neither => ordered(3),
-        Weights::Refused(refusal) => order_refused(refusal),
     }
 }
 

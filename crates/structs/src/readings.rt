@@ -55,7 +55,7 @@ pub fn word_line_reply(answer: WordLine) -> LineReply
     lined(rank, count)
 }
 
-// The refusal that the reader of a T line passes on. Its caller has seen that it passes one on; what is told otherwise is never used.
+// The refusal that the reader of a T line or a C line passes on. Its caller has seen that it passes one on; what is told otherwise is never used.
 fn refused_tableau(answer: TableauLine) -> Refusal
     ensures { λ r. ⌜ r ≡ refusedTableau answer ⌝ }
 {
@@ -65,7 +65,7 @@ fn refused_tableau(answer: TableauLine) -> Refusal
     refusal
 }
 
-// A T line that was read.
+// A T line or a C line that was read.
 pub fn tableau_line_reply(answer: TableauLine) -> LineReply
     ensures { λ r. ⌜ r ≡ lineOf (saidTableauLine answer) ⌝ }
 {

@@ -1,7 +1,7 @@
--- `structs::converters::order_reply` meets its contract, by the laws of specs/Handing. Assumes nothing.
+-- `structs::comparisons::order_reply` meets its contract, by the laws of specs/Handing. Assumes nothing.
 use Rattle.structs.specs.Handing.{replying}
-use Rattle.structs.proofs.converters.order_reply.Statement.{statement}
-use Rattle.structs.proofs.converters.order_reply.Tie as tie
+use Rattle.structs.proofs.comparisons.order_reply.Statement.{statement}
+use Rattle.structs.proofs.comparisons.order_reply.Tie as tie
 
 pub order-reply-spec : {M : Type 1} → statement M
 order-reply-spec =

@@ -1,7 +1,7 @@
--- `structs::converters::class_reply` meets its contract, by the laws of specs/Handing. Assumes nothing.
+-- `structs::comparisons::class_reply` meets its contract, by the laws of specs/Handing. Assumes nothing.
 use Rattle.structs.specs.Handing.{replying}
-use Rattle.structs.proofs.converters.class_reply.Statement.{statement}
-use Rattle.structs.proofs.converters.class_reply.Tie as tie
+use Rattle.structs.proofs.comparisons.class_reply.Statement.{statement}
+use Rattle.structs.proofs.comparisons.class_reply.Tie as tie
 
 pub class-reply-spec : {M : Type 1} → statement M
 class-reply-spec =
