@@ -4,7 +4,11 @@ A line has the operation's name, its numbers, then its lists, parted by single s
 commas, an item a number, `v*k` for k times v, or `a-b` for the numbers from a to b; `-` is the empty list. A text stands as it is, with `$` for the line
 feed and `(t)*k` for k times t; `-` is the empty text. Letter counts are a list of up to 64 numbers, to which as many 0 are added as are missing. What came of
 the call follows after ` = `, and each lent list as it is afterwards after ` | `; of counts every number up to the last that is not 0, or `v*64` where all are
-equal. At the end of the calls on words, of those on tableaux and of those on C lines stands one of no operation.
+equal.
+
+The table has for each operation the documents' checked words, one call at least for each refusal number, each refusal that has a place at a first, a middle and
+a last one, the order of the checks, and outputs longer than needed and too short by one. At the end of the calls on words, of
+those on tableaux and of those on C lines stands one of no operation.
 """
 import os
 import re
