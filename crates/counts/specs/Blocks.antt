@@ -14,16 +14,17 @@ use mathlib.Core.List.{List, [], _∷_, _++_}
 use mathlib.Core.Logic.{_⊎_, inl, inr}
 use native.Mathlib.Numerals.{add-one}
 use native.Mathlib.Omega.{arith}
-use lib.Dec.{eqb, ltb}
+use lib.Dec.{eqb}
 use lib.ListN.{length, getD, take}
 use lib.Seq.{take-suc, take-length}
 use borrow.Author.Needs.{needs}
-use borrow.Author.Tests.{eqb-true, eqb-false, ltb-false}
+use borrow.Author.Tests.{eqb-true, eqb-false}
 use Rattle.hypoplactic.specs.Words.{count}
-use Rattle.outcomes.specs.Replies.{Passes, passed, refuseIf}
-use Rattle.outcomes.specs.Judgements.{risingFrom, risingJudged}
+use Rattle.outcomes.specs.Replies.{Passes, passed}
+use Rattle.outcomes.specs.Judgements.{risingJudged}
 use Rattle.outcomes.specs.Counts.{TrueCounts}
-use Rattle.hypoplactic.proofs.Theory.Pairs.{le-or-lt, Rising}
+use Rattle.hypoplactic.proofs.Theory.Pairs.{Rising, le-or-lt}
+use Rattle.shapes.specs.Rising.{passed-rising}
 use Rattle.counts.specs.Tallies.{count-more, count-other}
 
 -- ---- rising letters
@@ -31,17 +32,7 @@ use Rattle.counts.specs.Tallies.{count-more, count-other}
 pub record Rises (xs : List ℕ) : Type 0 where
   pub later : (p q : ℕ) → p ≤ q → q < length xs → getD xs p 0 ≤ getD xs q 0
 
--- The letters after x do not fall where 5 passes.
-from-passing : (i x : ℕ) (ys : List ℕ) → Passes (risingFrom i x ys) → Rising x ys
-from-passing i x [] h = tt
-from-passing i x (y ∷ ys) h = go (ltb y x) refl h (from-passing (suc i) y ys)
-  where
-    go : (b : Bool) → ltb y x ≡ b → Passes (refuseIf b 5 i (risingFrom (suc i) y ys)) → (Passes (risingFrom (suc i) y ys) → Rising y ys)
-        → Rising x (y ∷ ys)
-    go true e h rest = absurd h
-    go false e h rest = (ltb-false y x e, rest h)
-
--- All of them are at least x,
+-- Letters that rise after x are all at least x,
 least-first : (x : ℕ) (ys : List ℕ) → Rising x ys → (q : ℕ) → q < length ys → x ≤ getD ys q 0
 least-first x [] r q l = let z : ⊥ = omega arith in absurd z
 least-first x (y ∷ ys) r zero l = r .0
@@ -55,13 +46,8 @@ along x (y ∷ ys) r zero (suc q) h l = least-first y ys (r .1) q (omega arith)
 along x (y ∷ ys) r (suc p) zero h l = let z : ⊥ = omega arith in absurd z
 along x (y ∷ ys) r (suc p) (suc q) h l = along y ys (r .1) p q (omega arith) (omega arith)
 
-rising-passing : (xs : List ℕ) → Passes (risingJudged xs) → Rising 0 xs
-unfolding risingJudged
-rising-passing [] h = tt
-rising-passing (x ∷ xs) h = (omega arith, from-passing 1 x xs h)
-
 rises : (xs : List ℕ) → Passes (risingJudged xs) → Rises xs
-rises xs h = record { later = along 0 xs (rising-passing xs h) }
+rises xs h = record { later = along 0 xs (passed-rising xs h) }
 
 -- ---- blocks
 

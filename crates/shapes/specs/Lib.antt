@@ -1,2 +1,3 @@
 pub mod Clear
 pub mod Faults
+pub mod Rising
