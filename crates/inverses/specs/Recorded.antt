@@ -6,10 +6,8 @@
 --     length-back             the word has a letter for each cell
 --     written-at              each element of the lent word that is to be: the letter whose entry tells its place, or else what stood there
 -- Assumes nothing.
-use Prim.Native.Nat.{ℕ, zero, suc, _+_, _≤_, _<_}
+use Prim.Native.Nat.{ℕ, zero, suc, _≤_, _<_}
 use native.Mathlib.Decide.{decLt}
-use native.Mathlib.Nat.{add-zero, add-suc, suc-add}
-use native.Mathlib.Numerals.{one-add}
 use native.Mathlib.Omega.{arith}
 use mathlib.Core.Path.{_≡_, refl, sym, ap, _∙_}
 use mathlib.Core.List.{List, [], _∷_}
@@ -23,7 +21,7 @@ use Rattle.outcomes.specs.Replies.{written}
 use Rattle.hypoplactic.proofs.Theory.Limits.{count-outside}
 use Rattle.outcomes.proofs.Theory.Memory.{written-old}
 use Rattle.hypoplactic.proofs.Theory.Once.{once-entries}
-use Rattle.hypoplactic.proofs.Theory.Placing.{Once}
+use Rattle.hypoplactic.proofs.Theory.Placing.{Once, word-at}
 
 -- As many entries as letters, each of 1 to their number once, and room for the word.
 pub record Recorded (xs rs : List ℕ) (room : ℕ) : Type 0 where
@@ -72,13 +70,7 @@ length-word : (k e : ℕ) (xs rs : List ℕ) → length (wordFrom k e xs rs) ≡
 length-word zero e xs rs = refl
 length-word (suc k) e xs rs = ap suc (length-word k (suc e) xs rs)
 
--- and at place p stands the letter with entry e + p.
-letter-at : (k e : ℕ) (xs rs : List ℕ) (p : ℕ) → p < k → getD (wordFrom k e xs rs) p 0 ≡ letterWith (e + p) xs rs
-letter-at zero e xs rs p h = let z : ⊥ = omega arith in absurd z
-letter-at (suc k) e xs rs zero h = rw (add-zero e)
-letter-at (suc k) e xs rs (suc p) h = letter-at k (suc e) xs rs p (omega arith) ∙ rw (suc-add e p, add-suc e p)
-
--- The word of the cells has a letter for each.
+-- so that the word of the cells has a letter for each.
 pub length-back : (xs rs : List ℕ) → length (wordOf xs rs) ≡ length xs
 unfolding wordOf
 length-back xs rs = length-word (length xs) 1 xs rs
@@ -87,10 +79,9 @@ length-back xs rs = length-word (length xs) 1 xs rs
 module _ (xs rs old : List ℕ) (h : Recorded xs rs (length old)) where
   -- Its letters are those that the entries tell,
   letter-back : (p : ℕ) → p < length xs → getD (wordOf xs rs) p 0 ≡ letterOr (getD old p 0) (suc p) xs rs
-  unfolding wordOf
   letter-back p l =
       let stands : count (suc p) rs ≡ 1 = h .once (suc p) (omega arith) (omega (arith, h .alike)) in
-      letter-at (length xs) 1 xs rs p l ∙ rw (one-add p) (sym (letter-present (getD old p 0) (suc p) xs rs (h .alike) (omega arith)))
+      word-at xs rs p l ∙ sym (letter-present (getD old p 0) (suc p) xs rs (h .alike) (omega arith))
 
   -- and beyond them stands what stood there.
   pub written-at : (p : ℕ) → getD (written (wordOf xs rs) old) p 0 ≡ letterOr (getD old p 0) (suc p) xs rs

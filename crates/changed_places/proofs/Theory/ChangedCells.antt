@@ -1,13 +1,11 @@
 -- The place that a move changes in a word and the cell that it changes in the word's tableau: the recording ribbon leads from the one to the other.
---     word-at          the letter at a place of a pair's word is that of the cell whose entry is the place plus 1
 --     letter-at        an entry that stands once leads to its own cell
 --     changed-cell     the recording entry of the changed cell is the word's changed place plus 1
 -- The moved word has the moved letters and the same entries (MoveTableau, MoveRecording), so that both words come back from their pairs: they differ where
 -- the changed cell's entry says, and, being one move apart, at the changed place and nowhere else.
 -- Assumes nothing.
-use Prim.Native.Nat.{ℕ, zero, suc, _+_, _-_, _≤_, _<_}
+use Prim.Native.Nat.{ℕ, zero, suc, _-_, _≤_, _<_}
 use native.Mathlib.Omega.{arith}
-use native.Mathlib.Nat.{add-zero, add-suc, suc-add}
 use mathlib.Core.Path.{_≡_, refl, ap, sym, _∙_}
 use mathlib.Core.Logic.{_≢_}
 use mathlib.Core.Bool.{Bool, true, false, cond}
@@ -18,38 +16,20 @@ use lib.ListN.{length, length-set, getD, set}
 use lib.Seq.{getD-set-same, getD-set-other}
 use borrow.Author.Tests.{eqb-true, eqb-false, eq-eqb}
 use Rattle.hypoplactic.specs.Words.{count, tick}
-use Rattle.hypoplactic.specs.Insertion.{letterWith, lettersOf, marksOf, recordingOf, wordFrom, wordOf}
+use Rattle.hypoplactic.specs.Insertion.{letterWith, lettersOf, marksOf, recordingOf}
 use Rattle.hypoplactic.specs.Moves.{Side, raising, lowering, Move, below, given, movedWord, placeInTableau, placeInWord, replaced, taken}
 use Rattle.changed_places.proofs.Theory.ChangedPlaces.{changed-held}
 use Rattle.hypoplactic.proofs.Theory.Contents.{within-at}
 use Rattle.hypoplactic.proofs.Theory.Correspondence.{pair-valid, word-of-pair}
+use Rattle.hypoplactic.proofs.Theory.Letters.{count-at}
 use Rattle.hypoplactic.proofs.Theory.MoveRecording.{move-recording}
 use Rattle.hypoplactic.proofs.Theory.MoveTableau.{tableau-moved}
 use Rattle.hypoplactic.proofs.Theory.Once.{once-entries}
 use Rattle.hypoplactic.proofs.Theory.Pairs.{length-letters, length-recording}
+use Rattle.hypoplactic.proofs.Theory.Placing.{word-at}
 use Rattle.hypoplactic.proofs.Theory.Targets.{place-below, unguarded}
 
--- ---- the way back, place by place
-
-from-at : (k e : ℕ) (xs rs : List ℕ) (j : ℕ) → j < k → getD (wordFrom k e xs rs) j 0 ≡ letterWith (e + j) xs rs
-from-at zero e xs rs j l = let z : ⊥ = omega arith in absurd z
-from-at (suc k) e xs rs zero l = rw (add-zero e)
-from-at (suc k) e xs rs (suc j) l = from-at k (suc e) xs rs j (omega arith) ∙ rw (suc-add e j, add-suc e j)
-
--- The letter at a place of a pair's word.
-word-at : (xs rs : List ℕ) (j : ℕ) → j < length xs → getD (wordOf xs rs) j 0 ≡ letterWith (suc j) xs rs
-unfolding wordOf
-word-at xs rs j l = from-at (length xs) 1 xs rs j l ∙ ap (λ (e : ℕ). letterWith e xs rs) (omega arith)
-
--- What stands in a list is counted.
-count-at : (rs : List ℕ) (c : ℕ) → c < length rs → 1 ≤ count (getD rs c 0) rs
-count-at [] c l = let z : ⊥ = omega arith in absurd z
-count-at (r ∷ rs) zero l = rw (eq-eqb r r refl) (omega arith)
-count-at (r ∷ rs) (suc c) l = go (eqb r (getD rs c 0)) (count-at rs c (omega arith))
-  where
-    go : (t : Bool) → 1 ≤ count (getD rs c 0) rs → 1 ≤ tick t (count (getD rs c 0) rs)
-    go true h = omega arith
-    go false h = h
+-- ---- the letter of a cell
 
 -- An entry that stands once leads to its own cell.
 letter-at : (xs rs : List ℕ) (c : ℕ) → c < length xs → c < length rs → count (getD rs c 0) rs ≡ 1 → letterWith (getD rs c 0) xs rs ≡ getD xs c 0

@@ -3,6 +3,7 @@
 --     within-at             each letter of a word within n is one of 1 to n
 --     sum-le                the counts of some letters add up to no more than the length
 --     sum-within            each letter is inside exactly when the counts of the letters inside add up to the length
+--     sum-same              words of one content have the same sums of counts
 --     accepted-content      a word with the content of an accepted word is accepted
 --     within-snoc           a word within a rank with one letter of it more is within it
 --     accepted-snoc         so is an accepted word of fewer than 1,024 letters with one letter more
@@ -93,7 +94,7 @@ pub sum-within : (k : ℕ) (w : List ℕ) → (sumTo k w ≡ length w) ↔ Withi
 sum-within k w = (length-sum k w, sum-length k w)
 
 -- Words of the same content have the same sums of counts.
-sum-same : (k : ℕ) (u v : List ℕ) → ((a : ℕ) → count a u ≡ count a v) → sumTo k u ≡ sumTo k v
+pub sum-same : (k : ℕ) (u v : List ℕ) → ((a : ℕ) → count a u ≡ count a v) → sumTo k u ≡ sumTo k v
 sum-same zero u v f = refl
 sum-same (suc k) u v f = ap₂ _+_ (sum-same k u v f) (f (suc k))
 

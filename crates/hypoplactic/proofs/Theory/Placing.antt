@@ -4,6 +4,7 @@
 --     Once n rs                  each of 1 to n stands once
 --     placed-out                 a cell whose entry is counted can be taken out
 --     count-placed, length-placed, under-placed     counts, lengths and bounds of the entries
+--     word-at                    the letter at a place of a pair's word is that of the cell whose entry is the place plus 1
 --     word-placed                if e is the largest entry, the word gets a at its end
 -- Assumes nothing.
 use Prim.Native.Nat.{ℕ, zero, suc, _+_, _≤_, _<_}
@@ -14,7 +15,7 @@ use mathlib.Core.Path.{_≡_, refl, ap, ap₂, _∙_}
 use mathlib.Core.List.{List, [], _∷_, _++_}
 use mathlib.Core.Bool.{Bool, true, false, cond}
 use lib.Dec.{eqb}
-use lib.ListN.{length}
+use lib.ListN.{length, getD}
 use borrow.Author.Tests.{eq-eqb, eqb-true, ne-eqb}
 use Rattle.hypoplactic.specs.Words.{count, tick}
 use Rattle.hypoplactic.specs.Insertion.{letterWith, putAt, wordFrom, wordOf}
@@ -87,6 +88,16 @@ under-larger m n [] h u = tt
 under-larger m n (r ∷ rs) h u = let k : r < m = u .0 in (omega arith, under-larger m n rs h (u .1))
 
 -- ---- the word of the pair
+
+from-at : (k e : ℕ) (xs rs : List ℕ) (p : ℕ) → p < k → getD (wordFrom k e xs rs) p 0 ≡ letterWith (e + p) xs rs
+from-at zero e xs rs p l = let z : ⊥ = omega arith in absurd z
+from-at (suc k) e xs rs zero l = rw (add-zero e)
+from-at (suc k) e xs rs (suc p) l = from-at k (suc e) xs rs p (omega arith) ∙ rw (suc-add e p, add-suc e p)
+
+-- The letter at a place of a pair's word.
+pub word-at : (xs rs : List ℕ) (p : ℕ) → p < length xs → getD (wordOf xs rs) p 0 ≡ letterWith (suc p) xs rs
+unfolding wordOf
+word-at xs rs p l = from-at (length xs) 1 xs rs p l ∙ rw (one-add p)
 
 -- An entry other than e has the letter it had,
 letter-other : (d : ℕ) {a e : ℕ} {xs rs ys ss : List ℕ} → Placed a e xs rs ys ss → d < e → letterWith d ys ss ≡ letterWith d xs rs

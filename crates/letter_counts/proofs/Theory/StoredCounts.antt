@@ -6,7 +6,7 @@
 --     weights-stored        the comparison of weights of two column readings is that of the tableaux' letters
 --     one-truth             two tests that pass exactly when one fact holds are equal
 -- Each tableau is within the limits of its own rank. Assumes nothing.
-use Prim.Native.Nat.{ℕ, zero, suc, _+_, _≤_}
+use Prim.Native.Nat.{ℕ, zero, suc, _≤_}
 use mathlib.Core.Path.{_≡_, refl, sym, ap, ap₂, _∙_}
 use mathlib.Core.Logic.{_↔_}
 use mathlib.Core.List.{List}
@@ -20,9 +20,10 @@ use Rattle.outcomes.specs.Counts.{countsFrom, countsOf}
 use Rattle.hypoplactic.specs.Ribbons.{Tableau, TableauAt}
 use Rattle.hypoplactic.specs.Reading.{columnReading}
 use Rattle.hypoplactic.specs.Junctions.{sameClass, sameCounts}
-use Rattle.hypoplactic.specs.Weights.{atMost, comparison, compareWeights, sumTo}
+use Rattle.hypoplactic.specs.Weights.{atMost, comparison, compareWeights}
 use Rattle.hypoplactic.proofs.Theory.Boundary.{along-of-tableau}
 use Rattle.hypoplactic.proofs.Theory.Closure.{reading-accepted}
+use Rattle.hypoplactic.proofs.Theory.Contents.{sum-same}
 use Rattle.outcomes.proofs.Theory.Counts.{counts-same}
 use Rattle.hypoplactic.proofs.Theory.Letters.{rising-unique}
 use Rattle.hypoplactic.proofs.Theory.Limits.{accepted-within, and-both, count-outside}
@@ -98,15 +99,10 @@ module _ {n m : ℕ} {xs ms ys ns : List ℕ} (h : TableauAt n xs ms) (k : Table
 
 -- ---- weights
 
--- Words that have each letter equally often have equal sums of counts,
-sums-same : (k : ℕ) (u v : List ℕ) → ((a : ℕ) → count a u ≡ count a v) → sumTo k u ≡ sumTo k v
-sums-same zero u v e = refl
-sums-same (suc k) u v e = ap₂ _+_ (sums-same k u v e) (e (suc k))
-
--- which compare alike.
+-- Words that have each letter equally often have equal sums of counts (sum-same), which compare alike.
 at-most-same : (k : ℕ) (u v u′ v′ : List ℕ) → ((a : ℕ) → count a u ≡ count a u′) → ((a : ℕ) → count a v ≡ count a v′) → atMost k u v ≡ atMost k u′ v′
 at-most-same zero u v u′ v′ e f = refl
-at-most-same (suc k) u v u′ v′ e f = ap₂ _&&_ (at-most-same k u v u′ v′ e f) (ap₂ leb (sums-same (suc k) u u′ e) (sums-same (suc k) v v′ f))
+at-most-same (suc k) u v u′ v′ e f = ap₂ _&&_ (at-most-same k u v u′ v′ e f) (ap₂ leb (sum-same (suc k) u u′ e) (sum-same (suc k) v v′ f))
 
 pub weights-same : (u v u′ v′ : List ℕ) → ((a : ℕ) → count a u ≡ count a u′) → ((a : ℕ) → count a v ≡ count a v′)
     → compareWeights u v ≡ compareWeights u′ v′

@@ -15,7 +15,7 @@ use lib.ListN.{getD}
 use borrow.Author.Tests.{eq-eqb, ne-eqb, lt-ltb}
 use Rattle.hypoplactic.specs.Words.{before, count, occurs, tick}
 use Rattle.hypoplactic.specs.Ribbons.{Along}
-use Rattle.hypoplactic.proofs.Theory.Letters.{count-head, count-low}
+use Rattle.hypoplactic.proofs.Theory.Letters.{count-head, count-low, tick-inj}
 use Rattle.hypoplactic.proofs.Theory.Limits.{count-outside, occurs-none}
 use Rattle.hypoplactic.proofs.Theory.Occurrences.{count-tail, occurs-count}
 use Rattle.hypoplactic.proofs.Theory.Pairs.{le-or-lt}
@@ -197,10 +197,6 @@ choices-walked p (y ∷ ys) (m ∷ ms) h =
           (λ k. (step .0 (k .0), rest .0 (k .1)), λ k. (step .1 (k .0), rest .1 (k .1))),
     )
 
-tick-equal : (t : Bool) (m n : ℕ) → tick t m ≡ tick t n → m ≡ n
-tick-equal true m n e = omega arith
-tick-equal false m n e = e
-
 free-seen : (w ms : List ℕ) → FirstFree ms → Seen w 0 ms
 free-seen w [] f h = let z : ⊥ = omega arith in absurd z
 free-seen w (m ∷ ms) f h = let z : ⊥ = omega arith in absurd z
@@ -223,7 +219,7 @@ kept-first n l ys ms h = every-both _ _ _ (choices ys ms) both (choice-letters y
 
         forth : Kept ys ms (c .letter ∷ w) → Kept (c .letters) (c .marks) w
         forth k = record {
-          counts = λ b. tick-equal (eqb (c .letter) b) _ _ (sym (e b) ∙ k .counts b);
+          counts = λ b. tick-inj (eqb (c .letter) b) _ _ (sym (e b) ∙ k .counts b);
           steps = t (part (k .counts)) (free-seen w ms (h .first)) .0 (k .steps);
         }
 

@@ -29,11 +29,12 @@ use Rattle.hypoplactic.proofs.Theory.Correspondence.{pair-of-word}
 use Rattle.outcomes.proofs.Theory.Counts.{counts-same, counts-size, snoc-counts}
 use Rattle.outcomes.proofs.Theory.Judged.{counted-pair-passing}
 use Rattle.outcomes.proofs.Theory.Judgements.{alike-judged, used-judged}
+use Rattle.hypoplactic.proofs.Theory.Letters.{count-at}
 use Rattle.hypoplactic.proofs.Theory.Occurrences.{count-append}
 use Rattle.outcomes.proofs.Theory.Passing.{Passing, passes-test, ran-answer, refused-keeps}
 use Rattle.windows.specs.Departures.{WindowAt, departRun, departSays, emptyJudged, windowJudgements, windowWord}
 use Rattle.windows.specs.Gaps.{closed}
-use Rattle.windows.proofs.Theory.Oldest.{count-at, oldest-leaves}
+use Rattle.windows.proofs.Theory.Oldest.{oldest-leaves}
 
 -- ---- the closed form
 

@@ -4,7 +4,6 @@
 --     placed-drop        taking out the cell with an entry that no other has leaves the cells without it
 --     descents-drop      the descents without an entry are those left, with the one after it set anew
 --     oldest-leaves      the pair of a word without its first letter is its pair with the cell of that letter taken out
---     count-at           what stands at a place of a list is counted in it
 -- Assumes nothing.
 use Prim.Native.Nat.{ℕ, zero, suc, _≤_, _<_}
 use native.Mathlib.Omega.{arith}
@@ -15,7 +14,7 @@ use lib.Dec.{leb·suc-suc, ltb}
 use lib.ListN.{drop, getD, length, set}
 use Rattle.hypoplactic.specs.Words.{count, tick}
 use Rattle.hypoplactic.specs.Insertion.{insert, lettersOf, marksOf, pairOf, putAt, recordingOf, seat}
-use Rattle.hypoplactic.proofs.Theory.Letters.{count-head}
+use Rattle.hypoplactic.proofs.Theory.Letters.{count-at, count-head}
 use Rattle.hypoplactic.proofs.Theory.Occurrences.{count-tail}
 use Rattle.hypoplactic.proofs.Theory.Pairs.{Rising, le-or-lt, length-recording, letters-rising, letters-snoc, recording-snoc, seat-high, seat-low, snoc-ind}
 use Rattle.hypoplactic.proofs.Theory.Placing.{Placed, here, later, count-placed}
@@ -58,12 +57,6 @@ placed-cons a = snoc-ind (λ w. Placed a 1 (lettersOf w) (map suc (recordingOf w
         (placed-insert b (suc (suc (length w))) 0 p (letters-rising w) (letters-rising (a ∷ w)))
 
 -- ---- the cell taken out
-
--- What stands at a place is counted.
-pub count-at : (xs : List ℕ) (k : ℕ) → k < length xs → 1 ≤ count (getD xs k 0) xs
-count-at [] k l = let z : ⊥ = omega arith in absurd z
-count-at (x ∷ xs) zero l = omega (arith, count-head x xs)
-count-at (x ∷ xs) (suc k) l = omega (arith, count-at xs k (omega arith), count-tail (getD xs k 0) x xs)
 
 -- The place of an entry that no other cell has is that of the one cell more.
 pub placed-drop : (k : ℕ) {a e : ℕ} {xs rs ys ss : List ℕ} → Placed a e xs rs ys ss → count e rs ≡ 0 → k < length ss → getD ss k 0 ≡ e
