@@ -1,5 +1,5 @@
 // The checks of insertion in rising number, each over the whole input. The used cells can be looked at once 1, 2 and 3 have passed; every later check is
-// total and linear, so all of them are made and the first refusal counts.
+// total and linear, and the first refusal counts.
 use acceptance::letters::check_letters;
 use counts::shape::check_counted_shape;
 use refusals::answers::Verdict;

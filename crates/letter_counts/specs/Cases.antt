@@ -1,4 +1,5 @@
 -- Cases for two tableaux with letter counts (document 02, N6), in the form of the starred ones.
+--     x4323, m4323      the tableau of 4323: its letters and its marks
 --     onBoth            what an operation says of two tableaux that break one check or more, each in its place
 --     bothOrder         what it must say: 1 to 6 and 17, of the first before the second, and of either before the next
 --     tableauxCases     classes, weights and refusals

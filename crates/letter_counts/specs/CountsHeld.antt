@@ -1,5 +1,5 @@
 -- Letter counts in lent memory after a call (document 02, N6): after each accepted call they are those of the letters in memory.
---     cellsGiven s              how many cells a reply says are in memory: its last value
+--     cellsGiven s              how many cells a reply says are in memory: the last of its values, lastOf
 --     Held s letters counts     the counts are those of the letters of these cells
 --     HeldIn run                the same of a call that leaves letters, marks and counts
 --     HeldBeside run            the same of a call that leaves a pair and counts

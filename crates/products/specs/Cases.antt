@@ -1,8 +1,9 @@
 -- Cases of the product: what the written meaning gives beside what is expected, in the form of outcomes' specs/Starred. A reply stands as its numbers:
 -- 0 and the values, or the refusal's number and place; what lent letters, marks and counts then hold follows.
---     productCases      products, with one element of lent memory beyond those needed
---     productRefusals      every refusal number in both factors, at its place and in its order
---     productLimits      1,024 cells together are not refused by their number
+--     timesRun, timesSays   reply and memory, and the reply alone, where the factors bring true letter counts
+--     productCases          products, with one element of lent memory beyond those needed
+--     productRefusals       every refusal number in both factors, at its place and in its order
+--     productLimits         1,024 cells together are not refused by their number
 -- That the checker computes the one from the other stands in proofs/Theory/ProductCases. Assumes nothing.
 use Prim.Native.Nat.{ℕ}
 use mathlib.Core.List.{List, [], _∷_}

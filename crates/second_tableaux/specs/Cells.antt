@@ -1,5 +1,5 @@
 -- What is judged of the cells and the letter counts of two tableaux, once their sizes have passed.
---     shapesJudgements      5 and 6 of both
+--     shapeJudgements       5, 6 and 17 of one tableau; shapesJudgements: 5 and 6 of both
 --     cellsJudgements       4 to 6 and 17 of both, each at its rank
 --     shaped-both           where 5, 6 and 17 pass in each, 4 of both is what is said
 --     shaping               the ruleset of that

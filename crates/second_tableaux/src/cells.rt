@@ -1,5 +1,5 @@
-// The checks on elements of two tableaux, each over the first and then over the second. They are total and linear, so all of them are made and the first
-// refusal counts.
+// The checks on elements of two tableaux, each over the first and then over the second. Each is total and linear, and the first refusal counts, in whatever
+// order they are made.
 use acceptance::letters::check_letters;
 use counts::check::check_counts;
 use counts::shape::check_counted_shape;
