@@ -1,18 +1,12 @@
 // The junction set of the product of two tableaux, by shifts and masks from the largest letter down: from the letter counts of both factors and the letters
 // that a down step leads out of in each.
+use refusals::numbers::both;
 use refusals::numbers::either;
 ghost use Prim.Native.Nat.{_≤_};
 ghost use mathlib.Core.Path.{_≡_};
-ghost use mathlib.Core.Bool.{_&&_, cond};
+ghost use mathlib.Core.Bool.{cond};
 ghost use Rattle.hypoplactic.specs.Words.{tick};
 ghost use Rattle.multiplication.specs.Merging.{Merged, productBit};
-
-// Whether both of two tests pass.
-fn both(one: bool, other: bool) -> bool
-    ensures { λ r. ⌜ r ≡ (one && other) ⌝ }
-{
-    one && other
-}
 
 // One of two counts, by a test.
 fn choose(test: bool, one: u16, other: u16) -> u16
