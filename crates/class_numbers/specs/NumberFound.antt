@@ -18,7 +18,7 @@ use borrow.Author.Needs.{needs}
 use Rattle.hypoplactic.proofs.Theory.Pairs.{le-or-lt}
 use Rattle.numbering.specs.Orders.{choices, placeFrom, placeOf}
 use Rattle.taken_cells.specs.Lettered.{Met, cellOfLetter, met-told}
-use Rattle.taken_cells.specs.Removal.{free-told, marksWithout, pulled, pulled-long, pulled-told, pulledFree}
+use Rattle.taken_cells.specs.Removal.{free-told, marksWithout, takenOut, pulled-long, pulled-told, pulledFree}
 use Rattle.windows.specs.Gaps.{without}
 
 -- The place of a word among those of a ribbon in as many first cells as it has letters.
@@ -72,7 +72,7 @@ module _ {w xs ms ys ns : List ℕ} {number i n : ℕ} (h : Finding w xs ms ys n
       finding-none q = omega (arith, h .is, opens, m .none q (placeOf (drop (suc i) w)))
 
       -- or one does, and is taken out.
-      pub finding-turn : {ys′ ns′ : List ℕ} → cell < n → ys′ ≡ pulled cell (n - 1) ys → ns′ ≡ pulledFree cell (n - 1) ns
+      pub finding-turn : {ys′ ns′ : List ℕ} → cell < n → ys′ ≡ takenOut cell (n - 1) ys → ns′ ≡ pulledFree cell (n - 1) ns
           → Finding w xs ms ys′ ns′ (number + before) (i + 1) (n - 1)
       finding-turn {ys′} {ns′} q a b =
           let rest : placeOf (drop (suc i) w) (without cell (take n ys)) (marksWithout cell (take n ns))
@@ -83,7 +83,7 @@ module _ {w xs ms ys ns : List ℕ} {number i n : ℕ} (h : Finding w xs ms ys n
           record {
             placed = h .placed;
             letters-long = ap length a ∙ pulled-long cell n ys q small (h .letters-long);
-            marks-long = ap length b ∙ length-set (pulled cell (n - 1) ns) cell 2 ∙ pulled-long cell n ns q small (h .marks-long);
+            marks-long = ap length b ∙ length-set (takenOut cell (n - 1) ns) cell 2 ∙ pulled-long cell n ns q small (h .marks-long);
             reached = omega (arith, h .reached);
             is = rw (add-one i) all;
           }

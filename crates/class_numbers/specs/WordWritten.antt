@@ -13,7 +13,7 @@ use Rattle.outcomes.specs.Replies.{written}
 use Rattle.numbering.specs.Orders.{choices, wordAt, wordFrom}
 use Rattle.refusals.specs.Running.{written-element}
 use Rattle.taken_cells.specs.Numbered.{Sought, cellOfNumber, sought-told}
-use Rattle.taken_cells.specs.Removal.{free-told, pulled, pulled-long, pulled-told, pulledFree}
+use Rattle.taken_cells.specs.Removal.{free-told, takenOut, pulled-long, pulled-told, pulledFree}
 
 -- i letters are written.
 pub record Writing (c : ℕ) (xs ms : List ℕ) (k : ℕ) (old now ys ns : List ℕ) (left i n : ℕ) : Type 0 where
@@ -76,7 +76,7 @@ module _ {c : ℕ} {xs ms : List ℕ} {k : ℕ} {old now ys ns : List ℕ} {left
           h .is ∙ sym (ap (λ (w : List ℕ). written w old) all)
 
       -- or one does, its letter is written, and it is taken out.
-      pub writing-turn : {ys′ ns′ : List ℕ} → cell < n → ys′ ≡ pulled cell (n - 1) ys → ns′ ≡ pulledFree cell (n - 1) ns
+      pub writing-turn : {ys′ ns′ : List ℕ} → cell < n → ys′ ≡ takenOut cell (n - 1) ys → ns′ ≡ pulledFree cell (n - 1) ns
           → Writing c xs ms k old (set now i (getD ys cell 0)) ys′ ns′ next (i + 1) (n - 1)
       writing-turn {ys′} {ns′} m p q =
           let word : wordAt n (take n ys) (take n ns) left ≡ getD ys cell 0 ∷ wordAt (n - 1) (take (n - 1) ys′) (take (n - 1) ns′) next =
@@ -88,7 +88,7 @@ module _ {c : ℕ} {xs ms : List ℕ} {k : ℕ} {old now ys ns : List ℕ} {left
             room = h .room;
             cells = omega (arith, h .cells);
             letters-long = ap length p ∙ pulled-long cell n ys m small (h .letters-long);
-            marks-long = ap length q ∙ length-set (pulled cell (n - 1) ns) cell 2 ∙ pulled-long cell n ns m small (h .marks-long);
+            marks-long = ap length q ∙ length-set (takenOut cell (n - 1) ns) cell 2 ∙ pulled-long cell n ns m small (h .marks-long);
             size = length-set now i (getD ys cell 0) ∙ h .size;
             sofar = h .sofar ++ (getD ys cell 0 ∷ []);
             long = length-append (h .sofar) (getD ys cell 0 ∷ []) ∙ ap (λ (j : ℕ). j + 1) (h .long);

@@ -17,9 +17,13 @@ use Rattle.outcomes.specs.WordOperations.{comparisonNumber}
 use Rattle.outcomes.specs.Starred.{Case, case, counts, lower, numbers, outcome, raise, text, w4323}
 use Rattle.acceptance.specs.Bytes.{narrowed}
 use Rattle.buffers.specs.Copies.{copied}
+use Rattle.buffers.specs.Pulls.{pulled}
 use Rattle.buffers.specs.Shifts.{pushed}
+use Rattle.closings.specs.Closings.{closedEntries, closedLetters, closedMarks}
+use Rattle.closings.specs.Oldest.{oldestPlace}
 use Rattle.numerals.specs.Bytes.{startsWith}
 use Rattle.occurrences.specs.Places.{standsLeft}
+use Rattle.openings.specs.Openings.{opened, openedMarks}
 use Rattle.scans.specs.Items.{stepMarks}
 use Rattle.scans.specs.Kept.{kept}
 use Rattle.scans.specs.Scans.{wholeCells}
@@ -33,7 +37,7 @@ use Rattle.operators.specs.Changes.{moveLettersRun, repeatLettersSays}
 use Rattle.classes.specs.Tables.{sameTables}
 use Rattle.weights.specs.Tables.{compareTables}
 use Rattle.ribbon_orders.specs.Rows.{ordersGiven}
-use Rattle.taken_cells.specs.Removal.{pulled, pulledFree}
+use Rattle.taken_cells.specs.Removal.{pulledFree, takenOut}
 use Rattle.taken_cells.specs.Numbered.{cellOfNumber}
 use Rattle.taken_cells.specs.Lettered.{cellOfLetter}
 use Rattle.admissions.specs.Checks.{insertChecks}
@@ -76,10 +80,28 @@ itemNumbers (r ∷ rs) = r .letter ∷ r .times ∷ r .mark ∷ itemNumbers rs
 
 unfoldable pub sharedCases : List Case
 sharedCases =
-    -- values copied as far as there is room; a tail shifted by one, the last element falling off
+    -- values copied as far as there is room; a tail shifted by one, the last element falling off, and pulled by one, the last place keeping its value
     case (copied (1 ∷ 2 ∷ 3 ∷ []) (9 ∷ 9 ∷ [])) (1 ∷ 2 ∷ [])
     ∷ case (copied (1 ∷ []) (9 ∷ 9 ∷ [])) (1 ∷ 9 ∷ [])
     ∷ case (pushed 1 (8 ∷ 9 ∷ []) ++ pushed 1 []) (1 ∷ 8 ∷ [])
+    ∷ case (pulled (7 ∷ 8 ∷ 9 ∷ []) ++ pulled (9 ∷ []) ++ pulled []) (8 ∷ 9 ∷ 9 ∷ 9 ∷ [])
+    -- a new element among the used ones and straight after them; as it was where the place is further on, or no element is free
+    ∷ case (opened 1 2 5 (1 ∷ 2 ∷ 9 ∷ 9 ∷ []) ++ opened 2 2 5 (1 ∷ 2 ∷ 9 ∷ [])) (1 ∷ 5 ∷ 2 ∷ 9 ∷ 1 ∷ 2 ∷ 5 ∷ [])
+    ∷ case (opened 3 2 5 (1 ∷ 2 ∷ 9 ∷ 9 ∷ []) ++ opened 0 2 5 (1 ∷ 2 ∷ [])) (1 ∷ 2 ∷ 9 ∷ 9 ∷ 1 ∷ 2 ∷ [])
+    ∷ case (openedMarks 1 2 (0 ∷ 0 ∷ 9 ∷ 9 ∷ []) ++ openedMarks 2 2 (0 ∷ 1 ∷ 9 ∷ [])) (0 ∷ 0 ∷ 1 ∷ 9 ∷ 0 ∷ 1 ∷ 0 ∷ [])
+    ∷ case (openedMarks 3 2 (0 ∷ 1 ∷ 9 ∷ 9 ∷ []) ++ openedMarks 0 2 (0 ∷ 1 ∷ [])) (0 ∷ 1 ∷ 9 ∷ 9 ∷ 0 ∷ 1 ∷ [])
+    -- an element out of the used ones, the last of them keeping its value; as it was where the place is past them; a used count beyond the list
+    ∷ case (closedLetters 1 3 (1 ∷ 2 ∷ 3 ∷ 9 ∷ []) ++ closedLetters 3 3 (1 ∷ 2 ∷ 3 ∷ 9 ∷ []) ++ closedLetters 0 9 (1 ∷ 2 ∷ []))
+    (1 ∷ 3 ∷ 3 ∷ 9 ∷ 1 ∷ 2 ∷ 3 ∷ 9 ∷ 2 ∷ 2 ∷ [])
+    -- a mark, and the step that joins its neighbours: a rise, a fall, none out of a last cell, none into a first one; past the used ones
+    ∷ case (closedMarks 1 3 (2 ∷ 1 ∷ 3 ∷ []) (0 ∷ 1 ∷ 0 ∷ 9 ∷ []) ++ closedMarks 1 3 (3 ∷ 1 ∷ 2 ∷ []) (0 ∷ 1 ∷ 0 ∷ 9 ∷ []))
+    (0 ∷ 0 ∷ 0 ∷ 9 ∷ 0 ∷ 1 ∷ 0 ∷ 9 ∷ [])
+    ∷ case (closedMarks 2 3 (3 ∷ 2 ∷ 1 ∷ []) (0 ∷ 1 ∷ 1 ∷ 9 ∷ []) ++ closedMarks 0 2 (1 ∷ 2 ∷ []) (0 ∷ 1 ∷ []) ++ closedMarks 1 1 (1 ∷ []) (0 ∷ 9 ∷ []))
+    (0 ∷ 1 ∷ 1 ∷ 9 ∷ 0 ∷ 1 ∷ 0 ∷ 9 ∷ [])
+    -- an entry, the others one less, of which 0 stays; past the used ones all of these are one less
+    ∷ case (closedEntries 1 3 (2 ∷ 1 ∷ 3 ∷ 9 ∷ []) ++ closedEntries 3 3 (2 ∷ 0 ∷ 3 ∷ 9 ∷ [])) (1 ∷ 2 ∷ 3 ∷ 9 ∷ 1 ∷ 0 ∷ 2 ∷ 9 ∷ [])
+    -- the first entry 1; where there is none, how many entries there are
+    ∷ case (oldestPlace (2 ∷ 1 ∷ 1 ∷ []) ∷ oldestPlace (1 ∷ []) ∷ oldestPlace (2 ∷ 3 ∷ []) ∷ oldestPlace [] ∷ []) (1 ∷ 0 ∷ 2 ∷ 0 ∷ [])
     -- a line by the grammar alone: the cells read before it breaks, of which as many are kept as have room, and marks only where the line tells steps
     ∷ case (kept (1 ∷ 2 ∷ 3 ∷ []) (9 ∷ 9 ∷ []) ++ kept (1 ∷ []) (9 ∷ 9 ∷ [])) (1 ∷ 2 ∷ 1 ∷ 9 ∷ [])
     ∷ case (letters (wholeCells 87 true false (text "W,4,3,3,1x"))) (3 ∷ 1 ∷ [])
@@ -114,7 +136,7 @@ sharedCases =
     ∷ case (map ordersGiven ([] ∷ (0 ∷ []) ∷ (1 ∷ []) ∷ (2 ∷ []) ∷ (2 ∷ 2 ∷ []) ∷ f4323 ∷ [])) (1 ∷ 1 ∷ 0 ∷ 1 ∷ 2 ∷ 5 ∷ [])
     ∷ case (ordersGiven (replicate 20 0) ∷ ordersGiven (replicate 21 0) ∷ []) (1 ∷ 0 ∷ [])
     -- a cell taken out: those after it, up to the last place, move one back; none where the place is the last, or that is past 19; of marks a free step
-    ∷ case (pulled 1 2 (5 ∷ 6 ∷ 7 ∷ 8 ∷ []) ++ pulled 2 2 (5 ∷ 6 ∷ 7 ∷ []) ++ pulled 0 20 (5 ∷ 6 ∷ 7 ∷ [])) (5 ∷ 7 ∷ 7 ∷ 8 ∷ 5 ∷ 6 ∷ 7 ∷ 5 ∷ 6 ∷ 7 ∷ [])
+    ∷ case (takenOut 1 2 (5 ∷ 6 ∷ 7 ∷ 8 ∷ []) ++ takenOut 2 2 (5 ∷ 6 ∷ 7 ∷ []) ++ takenOut 0 20 (5 ∷ 6 ∷ 7 ∷ [])) (5 ∷ 7 ∷ 7 ∷ 8 ∷ 5 ∷ 6 ∷ 7 ∷ 5 ∷ 6 ∷ 7 ∷ [])
     ∷ case (pulledFree 1 2 (5 ∷ 6 ∷ 7 ∷ 8 ∷ []) ++ pulledFree 0 20 (5 ∷ 6 ∷ []) ++ pulledFree 2 20 (5 ∷ 6 ∷ [])) (5 ∷ 2 ∷ 7 ∷ 8 ∷ 2 ∷ 6 ∷ 5 ∷ 6 ∷ [])
     -- the cell with which the word of a number goes on, and what is left of the number; past the last where there is none, or for more than 20 cells
     ∷ case (going (cellOfNumber 4 f4323 0) ++ going (cellOfNumber 4 f4323 2) ++ going (cellOfNumber 4 f4323 3)) (1 ∷ 0 ∷ 1 ∷ 2 ∷ 3 ∷ 0 ∷ [])

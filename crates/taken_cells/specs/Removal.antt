@@ -1,6 +1,6 @@
 -- A cell taken out of lists and out of 20 bytes of which only the first count.
 --     marksWithout p ms         marks without the one at place p, with a free step across the gap
---     pulled p e xs             20 bytes with the one at place p taken out of those up to place e: those after it, up to e, are one place back
+--     takenOut p e xs           20 bytes with the one at place p taken out of those up to place e: those after it, up to e, are one place back
 --     pulledFree p e ms         the same of marks, with a free step across the gap
 --     Pulling p e xs now i      the loop that moves bytes one back: those before i are moved
 --     pulling                   the ruleset of both functions
@@ -27,11 +27,11 @@ abbrev pub marksWithout : ℕ → List ℕ → List ℕ
 marksWithout p ms = take p ms ++ freed (drop (suc p) ms)
 
 -- Nothing moves where the place is the last one or past it, or where that is past 19.
-unfoldable pub pulled : ℕ → ℕ → List ℕ → List ℕ
-pulled p e xs = cond (ltb 19 e) xs (take e (without p xs) ++ drop e xs)
+unfoldable pub takenOut : ℕ → ℕ → List ℕ → List ℕ
+takenOut p e xs = cond (ltb 19 e) xs (take e (without p xs) ++ drop e xs)
 
 abbrev pub pulledFree : ℕ → ℕ → List ℕ → List ℕ
-pulledFree p e ms = set (pulled p e ms) p 2
+pulledFree p e ms = set (takenOut p e ms) p 2
 
 -- ---- lists without an element
 
@@ -89,8 +89,8 @@ pub record Pulling (p e : ℕ) (xs now : List ℕ) (i : ℕ) : Type 0 where
   pub moved : take i now ≡ take i (without p xs)
   pub kept : drop i now ≡ drop i xs
 
-pub pulled-none : (p e : ℕ) (xs : List ℕ) → 19 < e → xs ≡ pulled p e xs
-unfolding pulled
+pub pulled-none : (p e : ℕ) (xs : List ℕ) → 19 < e → xs ≡ takenOut p e xs
+unfolding takenOut
 pulled-none p e xs l = rw (lt-ltb 19 e l)
 
 pub pulling-start : (p e : ℕ) (xs : List ℕ) → length xs ≡ 20 → e ≤ 19 → Pulling p e xs xs p
@@ -134,8 +134,8 @@ module _ {p e : ℕ} {xs now : List ℕ} {i : ℕ} (h : Pulling p e xs now i) wh
       next = place now ∙ ap (λ (ys : List ℕ). getD ys 0 0) later ∙ sym (place xs)
 
   -- All are moved, or there was none to be moved.
-  pub pulling-end : e ≤ i → now ≡ pulled p e xs
-  unfolding pulled
+  pub pulling-end : e ≤ i → now ≡ takenOut p e xs
+  unfolding takenOut
   pulling-end l =
       sym (take-append-drop i now) ∙ ap₂ _++_ (h .moved) (h .kept) ∙ dite (decLe p e) inside (λ (m : ¬ (p ≤ e)). past (omega arith))
       ∙ sym (rw (le-ltb 19 e (h .small)))
@@ -154,8 +154,8 @@ module _ {p e : ℕ} {xs now : List ℕ} {i : ℕ} (h : Pulling p e xs now i) wh
 -- ---- marks
 
 -- No mark is that far,
-pub free-past : {ys : List ℕ} (p e : ℕ) (ms : List ℕ) → length ms ≡ 20 → length ys ≡ 20 → ys ≡ pulled p e ms → 19 < p → ys ≡ pulledFree p e ms
-free-past {ys} p e ms d s q l = q ∙ sym (beyond (pulled p e ms) p (omega (arith, ap length (sym q))))
+pub free-past : {ys : List ℕ} (p e : ℕ) (ms : List ℕ) → length ms ≡ 20 → length ys ≡ 20 → ys ≡ takenOut p e ms → 19 < p → ys ≡ pulledFree p e ms
+free-past {ys} p e ms d s q l = q ∙ sym (beyond (takenOut p e ms) p (omega (arith, ap length (sym q))))
   where
     beyond : (xs : List ℕ) (k : ℕ) → length xs ≤ k → set xs k 2 ≡ xs
     beyond [] k l = refl
@@ -163,7 +163,7 @@ free-past {ys} p e ms d s q l = q ∙ sym (beyond (pulled p e ms) p (omega (arit
     beyond (x ∷ xs) (suc k) l = ap (λ (zs : List ℕ). x ∷ zs) (beyond xs k (omega arith))
 
 -- or the follower's becomes free.
-pub free-pulled : {ys : List ℕ} (p e : ℕ) (ms : List ℕ) → ys ≡ pulled p e ms → set ys p 2 ≡ pulledFree p e ms
+pub free-pulled : {ys : List ℕ} (p e : ℕ) (ms : List ℕ) → ys ≡ takenOut p e ms → set ys p 2 ≡ pulledFree p e ms
 free-pulled p e ms q = ap (λ (zs : List ℕ). set zs p 2) q
 
 pub ruleset pulling = (pulled-none, pulling-start, place-in, next-in, pulling-turn, pulling-end, free-past, free-pulled, needs)
@@ -171,19 +171,19 @@ pub ruleset pulling = (pulled-none, pulling-start, place-in, next-in, pulling-tu
 -- ---- what it means for a ribbon in the first c of 20 bytes
 
 module _ (p c : ℕ) (xs : List ℕ) (l : p < c) (m : c ≤ 20) (s : length xs ≡ 20) where
-  moved : pulled p (c - 1) xs ≡ take (c - 1) (without p xs) ++ drop (c - 1) xs
-  unfolding pulled
+  moved : takenOut p (c - 1) xs ≡ take (c - 1) (without p xs) ++ drop (c - 1) xs
+  unfolding takenOut
   moved = rw (le-ltb 19 (c - 1) (omega arith))
 
   inner : length (take (c - 1) (without p xs)) ≡ c - 1
   inner = length-take-le (c - 1) (without p xs) (omega (arith, length-without p xs (omega arith)))
 
   -- There are 20 bytes again.
-  pub pulled-long : length (pulled p (c - 1) xs) ≡ 20
+  pub pulled-long : length (takenOut p (c - 1) xs) ≡ 20
   pulled-long = ap length moved ∙ omega (arith, length-append (take (c - 1) (without p xs)) (drop (c - 1) xs), inner, length-drop (c - 1) xs)
 
   -- The first are those of the ribbon without the cell at p,
-  pub pulled-told : {ys : List ℕ} → ys ≡ pulled p (c - 1) xs → take (c - 1) ys ≡ without p (take c xs)
+  pub pulled-told : {ys : List ℕ} → ys ≡ takenOut p (c - 1) xs → take (c - 1) ys ≡ without p (take c xs)
   pulled-told {ys} q = ap (take (c - 1)) (q ∙ moved) ∙ first ∙ beginning p (c - 1) xs (omega arith) ∙ ap (λ (k : ℕ). without p (take k xs)) whole
     where
       whole : suc (c - 1) ≡ c
@@ -197,4 +197,4 @@ module _ (p c : ℕ) (xs : List ℕ) (l : p < c) (m : c ≤ 20) (s : length xs �
   -- and of marks those that the cell leaves.
   pub free-told : {ys : List ℕ} → ys ≡ pulledFree p (c - 1) xs → take (c - 1) ys ≡ marksWithout p (take c xs)
   free-told {ys} q =
-      ap (take (c - 1)) q ∙ take-set (c - 1) p 2 (pulled p (c - 1) xs) ∙ ap (λ (zs : List ℕ). set zs p 2) (pulled-told refl) ∙ set-without p (take c xs)
+      ap (take (c - 1)) q ∙ take-set (c - 1) p 2 (takenOut p (c - 1) xs) ∙ ap (λ (zs : List ℕ). set zs p 2) (pulled-told refl) ∙ set-without p (take c xs)

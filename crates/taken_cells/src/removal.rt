@@ -1,10 +1,10 @@
 // A cell taken out of a ribbon: the letters and the marks that it leaves.
 ghost use mathlib.Core.Path.{_≡_};
-ghost use Rattle.taken_cells.specs.Removal.{pulled, pulledFree};
+ghost use Rattle.taken_cells.specs.Removal.{pulledFree, takenOut};
 
 // The bytes up to a last place without the one at a place: those after it move one back. Bytes past the last place do not count, so none is moved.
 pub fn pulled(bytes: [u8; 20], place: usize, last: usize) -> [u8; 20]
-    ensures { λ r. ⌜ r ≡ pulled place last bytes ⌝ }
+    ensures { λ r. ⌜ r ≡ takenOut place last bytes ⌝ }
 {
     let mut out = bytes;
     if 19 < last {

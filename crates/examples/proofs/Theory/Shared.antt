@@ -25,7 +25,11 @@ use Rattle.outcomes.specs.Counts.{countsJudged, countsOf}
 use Rattle.outcomes.specs.Judgements.{entriesJudged, fullJudged, indexJudged, inversionJudged, lengthJudged, letterJudged, lettersJudged, marksJudged, rankJudged, recordingJudged, risingJudged, roomJudged, usedJudged}
 use Rattle.hypoplactic.specs.Places.{layers}
 use Rattle.outcomes.specs.Starred.{Case, lower, raise, text}
+use Rattle.buffers.specs.Pulls.{pulled}
 use Rattle.buffers.specs.Shifts.{pushed}
+use Rattle.closings.specs.Closings.{closedEntries, closedLetters, closedMarks}
+use Rattle.openings.specs.Openings.{roomFor}
+use Rattle.windows.specs.Gaps.{joint}
 use Rattle.refusals.specs.Running.{checksThen}
 use Rattle.numerals.specs.Numbers.{Numbered}
 use Rattle.numerals.specs.declared.numbers.Number.the-variants as number-at
@@ -55,13 +59,13 @@ use Rattle.weights.specs.Tables.{compareTables}
 use Rattle.numbering.specs.Orders.{orders}
 use Rattle.ribbon_orders.specs.Rows.{ordersGiven}
 use Rattle.taken_cells.specs.Choices.{ordersLeft}
-use Rattle.taken_cells.specs.Removal.{pulled}
+use Rattle.taken_cells.specs.Removal.{takenOut}
 use Rattle.taken_cells.specs.Numbered.{cellOfNumber}
 use Rattle.taken_cells.specs.Lettered.{cellOfLetter}
 use Rattle.examples.specs.Shared.{sharedCases}
 
 pub shared-pinned : map (λ (c : Case). c .meaning) sharedCases ≡ map (λ (c : Case). c .document) sharedCases
-unfolding sharedCases countsOf countsJudged pushed wholeCells wholeRuns begunRuns readRunItem readHead readCounted number junctionSet rankJudged lengthJudged usedJudged lettersJudged risingJudged marksJudged entriesJudged recordingJudged indexJudged inversionJudged letterJudged fullJudged roomJudged checksThen countGiven junctionGiven filled filledLetters filledRuns keptAt leadAfter nextCount layers moveLettersRun repeatLettersSays sameTables compareTables orders ordersGiven ordersLeft pulled cellOfNumber cellOfLetter
+unfolding sharedCases countsOf countsJudged pushed wholeCells wholeRuns begunRuns readRunItem readHead readCounted number junctionSet rankJudged lengthJudged usedJudged lettersJudged risingJudged marksJudged entriesJudged recordingJudged indexJudged inversionJudged letterJudged fullJudged roomJudged checksThen countGiven junctionGiven filled filledLetters filledRuns keptAt leadAfter nextCount layers moveLettersRun repeatLettersSays sameTables compareTables orders ordersGiven ordersLeft pulled takenOut cellOfNumber cellOfLetter roomFor joint closedLetters closedMarks closedEntries
 shared-pinned = refl
 
 pub sides-named : (i : ℕ) → (moveBy Raising i ≡ raise i) × (moveBy Lowering i ≡ lower i)
