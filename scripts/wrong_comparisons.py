@@ -43,8 +43,8 @@ EDITS = [
 RIGHT = [
     (
         "one class by tableaux, whatever the ranks", "comparisons",
-        "    same = %s and junction_set(first) == junction_set(second)\n" % SAME_COUNTS,
-        "    from ribbons import pair_of\n    same = pair_of(first)[:2] == pair_of(second)[:2]\n",
+        SAME_COUNTS + " and junction_set(first) == junction_set(second)",
+        "pair_of(first)[:2] == pair_of(second)[:2]",
     ),
 ]
 

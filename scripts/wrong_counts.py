@@ -23,7 +23,6 @@ MULTIPLIED_INTO = "    return put_tableau(new_letters, new_marks, letters, marks
 READ = "    put_tableau(new_letters, new_marks, letters, marks, counts)\n    return [rank, len(new_letters)]\n"
 CLASS_OF_TABLEAUX = "    return of_one_class(reading(first_letters, first_marks), reading(second_letters, second_marks))\n"
 WEIGHTS_OF_TABLEAUX = "    return weights(reading(first_letters, first_marks), reading(second_letters, second_marks))\n"
-JUDGED_APART = "    from checks import check_counts, check_tableau\n"
 LENGTHS = "    check_length(len(first_letters))\n    check_length(len(second_letters))\n"
 
 
@@ -111,17 +110,17 @@ EDITS = [
     (
         "counts: put right by a move instead of refused", "moves",
         "    %s\n    check_index(rank, index)\n    changed" % COUNTED,
-        JUDGED_APART + "    check_tableau(rank, letters, marks)\n    check_index(rank, index)\n    changed",
+        "    check_tableau(rank, letters, marks)\n    check_index(rank, index)\n    changed",
     ),
     (
         "counts: 9 of a move before 17", "moves",
         "    %s\n    check_index(rank, index)\n    changed" % COUNTED,
-        JUDGED_APART + "    check_tableau(rank, letters, marks)\n    check_index(rank, index)\n    check_counts(letters, counts)\n    changed",
+        "    check_tableau(rank, letters, marks)\n    check_index(rank, index)\n    check_counts(letters, counts)\n    changed",
     ),
     (
         "counts: 9 of a repeat count before 17", "moves",
         "    %s\n    check_index(rank, index)\n    return" % COUNTED,
-        JUDGED_APART + "    check_tableau(rank, letters, marks)\n    check_index(rank, index)\n    check_counts(letters, counts)\n    return",
+        "    check_tableau(rank, letters, marks)\n    check_index(rank, index)\n    check_counts(letters, counts)\n    return",
     ),
     ("counts: insertion leaves them alone", "ribbons", INSERTED, inserted("pass")),
     ("counts: insertion adds to the next letter's", "ribbons", INSERTED, inserted("counts[letter % 64] += 1")),

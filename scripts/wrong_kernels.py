@@ -43,8 +43,9 @@ MODULES = ("checks", "ribbons", "moves", "comparisons", "lines", "class_numbers"
 
 
 def edited(module, old, new):
-    """The module replies over those before it, one of them with an edit at the one place where its text stands."""
-    right = {name: sys.modules[name] for name in MODULES}
+    """The module replies over those before it, one of them with an edit at the one place where its text stands. An edit may use every name of the modules
+    before its own."""
+    right, names = {name: sys.modules[name] for name in MODULES}, {}
     try:
         for name in MODULES:
             with open(os.path.join(header.ROOT, "scripts", name + ".py")) as file:
@@ -52,8 +53,10 @@ def edited(module, old, new):
             if name == module:
                 assert text.count(old) == 1, (name, old)
                 text = text.replace(old, new)
-            sys.modules[name] = types.ModuleType(name)
-            exec(compile(text, name, "exec"), sys.modules[name].__dict__)
+            sys.modules[name] = made = types.ModuleType(name)
+            made.__dict__.update(names)
+            exec(compile(text, name, "exec"), made.__dict__)
+            names.update((known, value) for known, value in vars(made).items() if not known.startswith("__"))
         return sys.modules["replies"]
     finally:
         sys.modules.update(right)

@@ -13,8 +13,7 @@ def moves_reply(reply):
 
 
 # The place that a move changes in a word, by the recording entry of the cell that it changes in the word's tableau.
-BY_ENTRY = """    from ribbons import pair_of
-    letters, marks, entries = pair_of(word)
+BY_ENTRY = """    letters, marks, entries = pair_of(word)
     %s
     return [entries[cell] - 1 for cell in %s]""" % (IN_WORD, MOVED_BESIDE)
 
@@ -37,12 +36,12 @@ EDITS = [
     (
         "the tableau's move tells a place in its column reading", "moves",
         "    changed = " + IN_TABLEAU,
-        "    from ribbons import reading\n    word = reading(letters, marks)\n    %s\n    changed = move_word(raising, rank, index, word)" % IN_TABLEAU,
+        "    word = reading(letters, marks)\n    %s\n    changed = move_word(raising, rank, index, word)" % IN_TABLEAU,
     ),
     (
         "the word's move tells a cell of its tableau", "moves",
         "    return " + IN_WORD,
-        "    from ribbons import pair_of\n    letters, marks, _ = pair_of(word)\n    %s\n    return %s" % (IN_WORD, MOVED_BESIDE),
+        "    letters, marks, _ = pair_of(word)\n    %s\n    return %s" % (IN_WORD, MOVED_BESIDE),
     ),
     ("the changed place in place, and not in changed", "replies", "[0, 0] + (%s)" % VALUES, moves_reply("[0, *values, 0]")),
     ("the changed place in place and in changed", "replies", "[0, 0] + (%s)" % VALUES, moves_reply("[0, *values, *values]")),

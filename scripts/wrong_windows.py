@@ -34,11 +34,6 @@ def lowered(part):
     return "    entries[%s] = [entry - 1 for entry in entries[%s]]\n" % (part, part)
 
 
-def judged(names, checks):
-    """A window judged by other checks."""
-    return "    from checks import %s\n%s" % (names, checks)
-
-
 EDITS = [
     taken_out("the joint mark left as it was", JOINED, ""),
     taken_out("the joint mark always 0", JOINT, "False"),
@@ -87,15 +82,15 @@ EDITS = [
     ("departure: 18 before 1", "windows", WINDOW, EMPTY + WINDOW),
     ("departure: 12 from a full window", "windows", EMPTY, EMPTY + FULL),
     ("departure: 2 of a full window", "windows", LENGTH, "    check_length(used + 1)\n"),
-    ("departure: room for one more asked for", "windows", EMPTY, EMPTY + judged("check_room", "    check_room(used + 1, letters, marks, entries)\n")),
+    ("departure: room for one more asked for", "windows", EMPTY, EMPTY + "    check_room(used + 1, letters, marks, entries)\n"),
     (
         "departure: 7 and 8 not judged", "windows",
         PAIR,
-        judged("check_counted_tableau", "    check_counted_tableau(rank, letters[:used], marks[:used], counts)\n"),
+        "    check_counted_tableau(rank, letters[:used], marks[:used], counts)\n",
     ),
-    ("departure: 17 not judged", "windows", PAIR, judged("check_pair", "    check_pair(rank, letters[:used], marks[:used], entries[:used])\n")),
+    ("departure: 17 not judged", "windows", PAIR, "    check_pair(rank, letters[:used], marks[:used], entries[:used])\n"),
     ("departure: all lent cells judged", "windows", PAIR, PAIR.replace("[:used]", "")),
-    ("departure: entries judged by all that are lent", "windows", PAIR, judged("check_entries", "    check_entries(entries)\n") + PAIR),
+    ("departure: entries judged by all that are lent", "windows", PAIR, "    check_entries(entries)\n" + PAIR),
     ("departure: a used count above all three lists passes", "windows", USED, "False"),
     ("departure: a used count that equals a length refused", "windows", USED, USED.replace(">", ">=")),
     ("departure: lists of unequal lengths refused", "windows", USED, USED + " or not len(letters) == len(marks) == len(entries)"),
