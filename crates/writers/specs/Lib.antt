@@ -6,5 +6,6 @@ pub mod Lines
 pub mod Parts
 pub mod RunLengths
 pub mod RunForms
+pub mod RunLoops
 pub mod Runs
 pub mod Lengths

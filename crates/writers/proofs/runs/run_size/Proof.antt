@@ -1,5 +1,5 @@
--- `writers::runs::run_size` meets its contract, by the laws of specs/RunForms. Assumes nothing.
-use Rattle.writers.specs.RunForms.{totalling-runs}
+-- `writers::runs::run_size` meets its contract, by the laws of specs/RunLoops. Assumes nothing.
+use Rattle.writers.specs.RunLoops.{totalling-runs}
 use Rattle.writers.proofs.runs.run_size.Statement.{statement}
 use Rattle.writers.proofs.runs.run_size.Tie as tie
 

@@ -1,7 +1,7 @@
--- `writers::runs::runs_size` meets its contract, by the laws of specs/RunForms. The invariant: the count and the runs before place i are counted. Assumes nothing.
+-- `writers::runs::runs_size` meets its contract, by the laws of specs/RunLoops. The invariant: the count and the runs before place i are counted. Assumes nothing.
 use Prim.Native.Nat.{_-_}
 use lib.ListN.{length}
-use Rattle.writers.specs.RunForms.{totalling-runs, RunsTotalling}
+use Rattle.writers.specs.RunLoops.{totalling-runs, RunsTotalling}
 use Rattle.writers.proofs.runs.runs_size.Statement.{statement}
 use Rattle.writers.proofs.runs.runs_size.Tie as tie
 

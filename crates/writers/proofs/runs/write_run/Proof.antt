@@ -1,5 +1,5 @@
--- `writers::runs::write_run` meets its contract, by the laws of specs/RunForms. Assumes nothing.
-use Rattle.writers.specs.RunForms.{writing-runs}
+-- `writers::runs::write_run` meets its contract, by the laws of specs/RunLoops. Assumes nothing.
+use Rattle.writers.specs.RunLoops.{writing-runs}
 use Rattle.writers.proofs.runs.write_run.Statement.{statement}
 use Rattle.writers.proofs.runs.write_run.Tie as tie
 

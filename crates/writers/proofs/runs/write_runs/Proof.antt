@@ -1,7 +1,7 @@
--- `writers::runs::write_runs` meets its contract, by the laws of specs/RunForms. The invariant: the runs before place i are written. Assumes nothing.
+-- `writers::runs::write_runs` meets its contract, by the laws of specs/RunLoops. The invariant: the runs before place i are written. Assumes nothing.
 use Prim.Native.Nat.{_-_}
 use lib.ListN.{length}
-use Rattle.writers.specs.RunForms.{writing-runs, RunsWriting}
+use Rattle.writers.specs.RunLoops.{writing-runs, RunsWriting}
 use Rattle.writers.proofs.runs.write_runs.Statement.{statement}
 use Rattle.writers.proofs.runs.write_runs.Tie as tie
 
