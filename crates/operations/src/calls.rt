@@ -1,34 +1,24 @@
 // The calls, by the place of an operation in the list of names. Each takes the numbers of a line and its lists, and prints what came of it.
+use crate::questions::ask_tableau;
+use crate::questions::ask_words;
 use crate::two_tableaux::call_on_two;
-use class_numbers::classes::class_number;
-use class_numbers::classes::class_size;
 use class_numbers::classes::class_word;
-use classes::two_words::same_class;
 use columns::reading::column_reading;
 use conversions::former::convert_lines;
 use departures::departure::remove_oldest;
 use inverses::way_back::word_of_pair;
 use lines::runs::run_line_of_word;
 use lines::tableau::tableau_line_of_word;
-use notation::answers::print_cell;
-use notation::answers::print_class;
-use notation::answers::print_junctions;
 use notation::answers::print_move;
-use notation::answers::print_numbered;
 use notation::answers::print_pair;
-use notation::answers::print_repeat;
 use notation::answers::print_tableau;
 use notation::answers::print_used;
-use notation::answers::print_verdict;
-use notation::answers::print_weights;
 use notation::answers::print_word;
 use notation::answers::print_written;
 use notation::fields::field;
 use notation::fields::large_number;
 use notation::fields::number;
-use operators::moves::lower_count_word;
 use operators::moves::lower_word;
-use operators::moves::raise_count_word;
 use operators::moves::raise_word;
 use pairs::insertion::insert_letter;
 use readers::pair::read_pair_line;
@@ -37,69 +27,14 @@ use ribbons::pair::pair_of_word;
 use run_conversions::forms::runs_to_tableau;
 use run_conversions::forms::tableau_to_runs;
 use run_readers::runs::read_run_line;
-use tableaux::moves::lower_count_tableau;
 use tableaux::moves::lower_tableau;
-use tableaux::moves::raise_count_tableau;
 use tableaux::moves::raise_tableau;
-use validity::counted::check_counted_pair;
-use validity::counted::check_counted_tableau;
-use viewer::viewers::look_once;
-use weights::two_words::compare_weights;
 use word_readers::word::read_word_line;
-use words::junctions::junctions;
 use writers::line::write_junction_line;
 use writers::line::write_pair_line;
 use writers::line::write_run_line;
 use writers::line::write_tableau_line;
 use writers::line::write_word_line;
-
-// Questions about words, 0 to 5.
-fn ask_words(operation: usize, rank: usize, index: usize, a: &[u8], b: &[u8]) {
-    if operation == 0 {
-        return print_repeat(raise_count_word(rank, index, a));
-    }
-    if operation == 1 {
-        return print_repeat(lower_count_word(rank, index, a));
-    }
-    if operation == 2 {
-        return print_class(same_class(rank, a, index, b));
-    }
-    if operation == 3 {
-        return print_weights(compare_weights(rank, a, index, b));
-    }
-    if operation == 4 {
-        return print_junctions(junctions(rank, a));
-    }
-    print_numbered(class_number(rank, a))
-}
-
-// Questions about a tableau, 6 to 10, and about a pair, 11.
-fn ask_tableau(
-    operation: usize,
-    rank: usize,
-    index: usize,
-    a: &[u8],
-    b: &[u8],
-    entries: &[u16],
-    counts: &[u16; 64],
-) {
-    if operation == 6 {
-        return print_numbered(class_size(rank, a, b, counts));
-    }
-    if operation == 7 {
-        return print_repeat(raise_count_tableau(rank, index, a, b, counts));
-    }
-    if operation == 8 {
-        return print_repeat(lower_count_tableau(rank, index, a, b, counts));
-    }
-    if operation == 9 {
-        return print_cell(look_once(rank, a, b, index));
-    }
-    if operation == 10 {
-        return print_verdict(check_counted_tableau(rank, a, b, counts));
-    }
-    print_verdict(check_counted_pair(rank, a, b, entries, counts))
-}
 
 // Moves of a word, 12 and 13, a W line read, 14, and a word's W line and J line, 15 and 16.
 fn call_on_word(operation: usize, rank: usize, index: usize, a: &[u8], out: &mut [u8]) {

@@ -1,6 +1,7 @@
 // Makes every call that a table names, and prints each line of the table with what came of its call (notation).
 mod calls;
 mod lending;
+mod questions;
 mod two_tableaux;
 
 use lending::make_call;
