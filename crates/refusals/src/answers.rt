@@ -79,7 +79,7 @@ pub enum WordLine {
     Refused(Refusal),
 }
 
-// What the reader of a T line answers: rank and number of cells.
+// What the readers of T lines and of C lines answer: rank and number of cells.
 pub enum TableauLine {
     Tableau(usize, usize),
     Refused(Refusal),

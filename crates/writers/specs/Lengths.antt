@@ -192,6 +192,6 @@ j-length set rows h l =
     omega (arith, length-line 74 set (field rows), field-short 19 set (lt-of-lt-of-le h (omega arith)), field-short 1 rows (omega arith))
 
 -- E: a refusal at a place below 10,000.
-pub e-length : (number place : ℕ) → number ≤ 14 → place < 10000 → length (eLine number place) ≤ 10
+pub e-length : (number place : ℕ) → number ≤ 20 → place < 10000 → length (eLine number place) ≤ 10
 unfolding eLine lineOf
 e-length number place h l = omega (arith, length-line 69 number (field place), field-short 1 number (omega arith), field-short 3 place l)
