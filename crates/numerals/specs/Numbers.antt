@@ -21,7 +21,7 @@ use borrow.Author.Needs.{needs}
 use borrow.Author.Tests.{eq-eqb, ne-eqb}
 use Rattle.grammar.specs.Reading.{Read, broken, digit, furtherDigits, got, moreDigits, readField, readNumber}
 use Rattle.grammar.proofs.Theory.NumbersExact.{digit-range}
-use Rattle.numerals.specs.Bytes.{after-none, after-there, digit-inside, digitOf, left-there, next-fits, starts-within, startsWith}
+use Rattle.numerals.specs.Bytes.{Digit, after-none, after-there, digit-inside, digitOf, left-there, next-fits, starts-within, startsWith}
 use Rattle.numerals.specs.declared.numbers.Number.{Number}
 use Rattle.numerals.specs.declared.numbers.Number.the-variants as number
 
@@ -68,6 +68,13 @@ digit-not b t h = go (digit b) refl h
     go : (d : Bool) → digit b ≡ d → 9 < cond d (b - 48) 10 → d ≡ false
     go true e h = let (low, high) = digit-range b e in let z : ⊥ = omega arith in absurd z
     go false e h = refl
+
+-- What a number up to 9 tells, and one above 9.
+digit-small : (t : List ℕ) {d : ℕ} → Digit t d → d ≤ 9 → d ≡ digitOf t
+digit-small t {d} told h = let l : d ≤ 10 = omega arith in sym (min-eq-left l) ∙ told .is
+
+digit-large : (t : List ℕ) {d : ℕ} → Digit t d → 9 < d → 9 < digitOf t
+digit-large t {d} told h = let l : 10 ≤ d = omega arith in let e : 10 ≡ digitOf t = sym (min-eq-right l) ∙ told .is in omega arith
 
 -- A digit that stands first.
 module _ (b d : ℕ) (t : List ℕ) (is : d ≡ digitOf (b ∷ t)) (h : d ≤ 9) where
@@ -131,8 +138,9 @@ module _ {text : List ℕ} {whole : Read ℕ} {left n at : ℕ} (g : Digiting te
   digit-fits l s = let h : n < 1000 = few-digits left n l (g .few) (g .short) in omega arith
 
   -- One digit more,
-  pub digits-turn : {d : ℕ} → 0 < left → d ≡ digitOf (drop at text) → d ≤ 9 → Digiting text whole (left - 1) (n * 10 + d) (at + 1)
-  digits-turn {d} l is s =
+  pub digits-turn : {d : ℕ} → 0 < left → Digit (drop at text) d → d ≤ 9 → Digiting text whole (left - 1) (n * 10 + d) (at + 1)
+  digits-turn {d} l told s =
+      let is : d ≡ digitOf (drop at text) = digit-small (drop at text) told s in
       let inside : at < length text = digit-inside text at (rw is at s) in
       let here : drop at text ≡ getD text at 0 ∷ drop (at + 1) text = left-there text at inside in
       let one : left ≡ suc (left - 1) = omega arith in
@@ -146,8 +154,8 @@ module _ {text : List ℕ} {whole : Read ℕ} {left n at : ℕ} (g : Digiting te
       }
 
   -- or none,
-  pub digits-stop : {d : ℕ} → d ≡ digitOf (drop at text) → 9 < d → Told text whole (got n (drop at text)) at
-  digits-stop is h = record { says = g .left-of ∙ last-read left n (drop at text) (rw is at h); within = g .within }
+  pub digits-stop : {d : ℕ} → Digit (drop at text) d → 9 < d → Told text whole (got n (drop at text)) at
+  digits-stop is h = record { says = g .left-of ∙ last-read left n (drop at text) (digit-large (drop at text) is h); within = g .within }
 
   -- or as many as there may be.
   pub digits-end : left ≤ 0 → Told text whole (got n (drop at text)) at
@@ -158,27 +166,30 @@ module _ {text : List ℕ} {whole : Read ℕ} {left n at : ℕ} (g : Digiting te
 pub digit-under : {d : ℕ} → d ≤ 9 → d < 10
 digit-under h = omega arith
 
-module _ (text : List ℕ) (at : ℕ) {d : ℕ} (is : d ≡ digitOf (drop at text)) where
+module _ (text : List ℕ) (at : ℕ) {d : ℕ} (told : Digit (drop at text) d) where
   pub number-broken : 9 < d → at ≤ length text → Told text (readNumber (drop at text)) (broken (drop at text)) at
-  number-broken h l = record { says = none-read (drop at text) (rw is at h); within = l }
+  number-broken h l = record { says = none-read (drop at text) (digit-large (drop at text) told h); within = l }
+
+  number-digit : d ≤ 9 → d ≡ digitOf (drop at text)
+  number-digit h = digit-small (drop at text) told h
 
   -- A first digit stands in the text.
   pub number-begun : d ≤ 9 → at + 1 ≤ length text
-  number-begun h = let l : at < length text = digit-inside text at (rw is at h) in omega arith
+  number-begun h = let l : at < length text = digit-inside text at (rw (number-digit h) at h) in omega arith
 
   number-left : d ≤ 9 → drop at text ≡ getD text at 0 ∷ drop (at + 1) text
-  number-left h = left-there text at (digit-inside text at (rw is at h))
+  number-left h = left-there text at (digit-inside text at (rw (number-digit h) at h))
 
   pub number-zero : d ≤ 9 → d ≡ 0 → Told text (readNumber (drop at text)) (got 0 (drop (at + 1) text)) (at + 1)
   number-zero h z =
       let here : drop at text ≡ getD text at 0 ∷ drop (at + 1) text = number-left h in
-      record { says = rw here (zero-read (getD text at 0) d (drop (at + 1) text) (rw here at is) h z); within = number-begun h }
+      record { says = rw here (zero-read (getD text at 0) d (drop (at + 1) text) (rw here at (number-digit h)) h z); within = number-begun h }
 
   pub number-more : {s : Read ℕ} {p : ℕ} → d ≤ 9 → (d ≡ 0 → ⊥) → Told text (moreDigits furtherDigits d (drop (at + 1) text)) s p
       → Told text (readNumber (drop at text)) s p
   number-more h z t =
       let here : drop at text ≡ getD text at 0 ∷ drop (at + 1) text = number-left h in
-      record { says = rw here (begun-read (getD text at 0) d (drop (at + 1) text) (rw here at is) h z) ∙ t .says; within = t .within }
+      record { says = rw here (begun-read (getD text at 0) d (drop (at + 1) text) (rw here at (number-digit h)) h z) ∙ t .says; within = t .within }
 
 -- Past the end of the text no more is left than at its end.
 pub left-within : (at : ℕ) (text : List ℕ) → drop at text ≡ drop (min at (length text)) text

@@ -1,9 +1,10 @@
 // Numbers of a line, read at a place of the text. What is left at a place is the text without the bytes before it.
 ghost use Prim.Native.Nat.{_<_, _≤_, min};
+ghost use mathlib.Core.List.{[], _∷_};
 ghost use mathlib.Core.Path.{_≡_};
 ghost use lib.ListN.{drop, length};
 ghost use Rattle.grammar.specs.Reading.{furtherDigits, moreDigits, readField, readNumber};
-ghost use Rattle.numerals.specs.Bytes.{digitOf, startsWith};
+ghost use Rattle.numerals.specs.Bytes.{Digit, startsWith};
 ghost use Rattle.numerals.specs.Numbers.{Numbered};
 
 // A number and the place after it, or the place of the byte that breaks the grammar.
@@ -22,21 +23,21 @@ pub fn stands(text: &[u8], at: usize, byte: u8) -> bool
     text[at] == byte
 }
 
-// The digit at a place, or 10 where no digit stands there.
+// The digit that a byte stands for, or a number above 9 where it is none: what is left of byte - 48 by 256, so that the compiled code subtracts once and tests once.
+fn digit_of(byte: u8) -> u16
+    ensures { λ r. ⌜ Digit (byte ∷ []) r ⌝ }
+{
+    (byte as u16 + 208) % 256
+}
+
+// The digit at a place, or a number above 9 where no digit stands there.
 fn digit_at(text: &[u8], at: usize) -> u16
-    ensures { λ r. ⌜ r ≡ digitOf (drop at (now (text .entry))) ⌝ }
+    ensures { λ r. ⌜ Digit (drop at (now (text .entry))) r ⌝ }
 {
     if text.len() <= at {
         return 10;
     }
-    let byte = text[at];
-    if byte < b'0' {
-        return 10;
-    }
-    if b'9' < byte {
-        return 10;
-    }
-    (byte - b'0') as u16
+    digit_of(text[at])
 }
 
 // The digits after the first, of which there are at most three.

@@ -5,6 +5,7 @@
 --     inversion-places         the same of an i-inversion
 --     further i o              a place, if there is one, counted from i places further left
 --     Seeking, Returning               what the scans keep: forward and backward
+--     Stopped                          where the scan forward ends
 --     standing, seeking, returning     the rulesets
 -- Assumes nothing.
 use Prim.Native.Nat.{ℕ, suc, _+_, _-_, _≤_, _<_}
@@ -128,14 +129,31 @@ module _ {a : ℕ} {w : List ℕ} {i : ℕ} (s : Seeking a w i) where
   }
 
   -- or a, and this is its leftmost place.
-  pub seek-hit : i < length w → getD w i 0 ≡ a → some i ≡ leftmost a w
+  seek-hit : i < length w → getD w i 0 ≡ a → some i ≡ leftmost a w
   seek-hit h e = let z : i + 0 ≡ i = omega arith in sym (seek-open h ∙ rw (eq-eqb (getD w i 0) a e, z))
 
   -- Where nothing is left there is none.
-  pub seek-end : length w ≤ i → none ≡ leftmost a w
+  seek-end : length w ≤ i → none ≡ leftmost a w
   seek-end h = sym (s .left ∙ rw (drop-of-length-le w h))
 
-pub ruleset seeking = (seek-start, seek-turn, seek-hit, seek-end, needs)
+-- The scan has come to the leftmost a, or past the word.
+pub record Stopped (a : ℕ) (w : List ℕ) (i : ℕ) : Type 0 where
+  pub before : Seeking a w i
+  pub here : i < length w → getD w i 0 ≡ a
+
+pub stop-here : {a i : ℕ} {w : List ℕ} → Seeking a w i → getD w i 0 ≡ a → Stopped a w i
+stop-here s e = record { before = s; here = λ l. e }
+
+pub stop-past : {a i : ℕ} {w : List ℕ} → Seeking a w i → length w ≤ i → Stopped a w i
+stop-past s h = record { before = s; here = λ l. let z : ⊥ = omega arith in absurd z }
+
+pub stopped-at : {a i : ℕ} {w : List ℕ} → Stopped a w i → i < length w → some i ≡ leftmost a w
+stopped-at s l = seek-hit (s .before) l (s .here l)
+
+pub stopped-past : {a i : ℕ} {w : List ℕ} → Stopped a w i → length w ≤ i → none ≡ leftmost a w
+stopped-past s h = seek-end (s .before) h
+
+pub ruleset seeking = (seek-start, seek-turn, stop-here, stop-past, stopped-at, stopped-past, needs)
 
 -- ---- the rightmost place
 

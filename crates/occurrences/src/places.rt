@@ -1,7 +1,7 @@
 // Where a letter stands in a word. Each scan leaves at its first hit; each function takes whatever slice it is given.
 ghost use mathlib.Core.Path.{_≡_};
 ghost use Rattle.hypoplactic.specs.Moves.{leftmost as leftmostOf, rightmost as rightmostOf};
-ghost use Rattle.occurrences.specs.Places.{foundPlace, standsLeft};
+ghost use Rattle.occurrences.specs.Places.{Stopped, foundPlace, standsLeft};
 
 // The place of a letter, if it stands in the word.
 pub enum Found {
@@ -9,16 +9,27 @@ pub enum Found {
     Nothing,
 }
 
-// The place of the leftmost `letter`.
-pub fn leftmost(letter: u8, word: &[u8]) -> Found
-    ensures { λ r. ⌜ foundPlace r ≡ leftmostOf letter (now (word .entry)) ⌝ }
+// The place of the leftmost `letter`, or the word's length where there is none: one number, so that the compiled loop keeps nothing else.
+fn place_of(letter: u8, word: &[u8]) -> usize
+    ensures { λ r. ⌜ Stopped letter (now (word .entry)) r ⌝ }
 {
     let mut i = 0;
     while i < word.len() {
         if word[i] == letter {
-            return Found::At(i);
+            return i;
         }
         i += 1;
+    }
+    i
+}
+
+// The place of the leftmost `letter`.
+pub fn leftmost(letter: u8, word: &[u8]) -> Found
+    ensures { λ r. ⌜ foundPlace r ≡ leftmostOf letter (now (word .entry)) ⌝ }
+{
+    let place = place_of(letter, word);
+    if place < word.len() {
+        return Found::At(place);
     }
     Found::Nothing
 }

@@ -1,9 +1,10 @@
 -- The checks on a recording ribbon, 7 and 8.
 --     entryFault         7: the entry at a place is 0, above the limit, or met before
 --     stepFault          8: the entry at a place breaks the step into its cell
---     Meeting            the invariant of the scan for 7
+--     start-entries      where the scan for 7 begins
+--     Meeting            the invariant of that scan
 --     meeting, stepping  the rulesets of the two checks
--- The table of entries met is in Seen, the pass before the scan for 8 in Clear of shapes. Assumes nothing.
+-- The table of entries met is in Seen, the pass before the scan for 7 in Noted, that before the scan for 8 in Clear of shapes. Assumes nothing.
 use Prim.Native.Nat.{ℕ, zero, suc, _+_, _-_, _<_, _≤_, min}
 use mathlib.Core.Path.{_≡_, refl, _∙_}
 use mathlib.Core.Bool.{Bool, true, false, _||_}
@@ -39,13 +40,17 @@ pub record Meeting (limit size : ℕ) (rs table : List ℕ) (i : ℕ) : Type 0 w
   pub long : length table ≡ size
   pub reaches : Reaches (length table) limit
 
-pub start-meeting : {limit : ℕ} {rs table : List ℕ} → Seen table [] → Reaches (length table) limit → Meeting limit (length table) rs table 0
+-- Where the scan begins.
+pub start-entries : (limit : ℕ) (rs : List ℕ) → Scanning 7 (entryFault limit rs) (length rs) (entriesJudged limit rs) 0
 unfolding entryFault
+start-entries limit rs =
+    start (length rs)
+    (entries-scan limit rs ∙ scan-from 7 0 (length rs) _ (entryFault limit rs) (λ q l. let e : 0 + q ≡ q = omega arith in rw e))
+    (omega arith)
+
+pub start-meeting : {limit : ℕ} {rs table : List ℕ} → Seen table [] → Reaches (length table) limit → Meeting limit (length table) rs table 0
 start-meeting {limit} {rs} {table} s r = record {
-  scan =
-      start (length rs)
-      (entries-scan limit rs ∙ scan-from 7 0 (length rs) _ (entryFault limit rs) (λ q l. let e : 0 + q ≡ q = omega arith in rw e))
-      (omega arith);
+  scan = start-entries limit rs;
   seen = s;
   long = refl;
   reaches = r;

@@ -134,9 +134,6 @@ seen-more table met r t s = record {
 pub record Reaches (size limit : ℕ) : Type 0 where
   pub covers : (e : ℕ) → 1 ≤ e → e ≤ limit → Fits w16 e → InTable size e
 
-pub reaches-limit : {size limit : ℕ} → limit ≤ 64 * size → Reaches size limit
-reaches-limit h = record { covers = λ e l f s. record { low = l; high = omega arith } }
-
 pub reaches-all : {limit : ℕ} → Reaches 1024 limit
 reaches-all = record { covers = λ e l f s. record { low = l; high = omega arith } }
 

@@ -1,13 +1,13 @@
-// The checks on a recording ribbon: 7 and 8. The second scans for the first broken step only where a pass over all steps saw one.
+// The checks on a recording ribbon: 7 and 8. Each scans for the first fault only where a pass over all places saw one.
 use refusals::answers::Verdict;
 use refusals::numbers::either;
 use refusals::numbers::least;
 use refusals::refusal::Refusal;
-ghost use Prim.Native.Nat.{_<_, _≤_, min};
+ghost use Prim.Native.Nat.{_%_, _<_, _≤_, min};
 ghost use mathlib.Core.Path.{_≡_};
 ghost use mathlib.Core.List.{[]};
 ghost use lib.ListN.{length};
-ghost use Rattle.outcomes.specs.Judgements.{entriesJudged, recordingJudged};
+ghost use Rattle.outcomes.specs.Judgements.{entriesJudged, outside, recordingJudged};
 ghost use Rattle.shapes.specs.Clear.{Cleared};
 ghost use Rattle.recordings.specs.Entries.{stepFault};
 ghost use Rattle.recordings.specs.Seen.{InTable, Judged, Met, Reaches, Seen};
@@ -56,13 +56,45 @@ fn scan_entries(limit: usize, entries: &[u16], seen: &mut [u64]) -> Verdict
     Verdict::Passed
 }
 
-// 7: each entry is 1 to limit, and none is met twice. No operation asks with a limit above 1,024; a larger one takes a table of all 16-bit entries.
+// Whether an entry is 0 or above the limit.
+fn entry_outside(limit: usize, entry: u16) -> bool
+    ensures { λ r. ⌜ r ≡ outside limit entry ⌝ }
+{
+    let number = entry as usize;
+    either(number < 1, limit < number)
+}
+
+// Where an entry is noted: its remainder by 1,024, which no two entries from 1 to 1,024 share.
+fn note_of(entry: u16) -> usize
+    ensures { λ r. ⌜ r ≡ entry % 1024 ⌝ }
+{
+    entry as usize % 1024
+}
+
+// Whether an entry is 0, above the limit, or noted where one before it is, which is met again or above 1,024. The loop leaves at no place.
+fn some_entry_wrong(limit: usize, entries: &[u16]) -> bool
+    ensures { λ r. ⌜ Cleared (entriesJudged limit (now (entries .entry))) r ⌝ }
+{
+    let mut noted = [false; 1024];
+    let mut wrong = false;
+    let mut i = 0;
+    while i < entries.len() {
+        let entry = entries[i];
+        let at = note_of(entry);
+        let here = either(entry_outside(limit, entry), noted[at]);
+        wrong = either(wrong, here);
+        noted[at] = true;
+        i += 1;
+    }
+    wrong
+}
+
+// 7: each entry is 1 to limit, and none is met twice.
 pub fn check_entries(limit: usize, entries: &[u16]) -> Verdict
     ensures { λ r. ⌜ saidVerdict r ≡ entriesJudged limit (now (entries .entry)) ⌝ }
 {
-    if limit <= 1024 {
-        let mut seen = [0u64; 16];
-        return scan_entries(limit, entries, &mut seen);
+    if !some_entry_wrong(limit, entries) {
+        return Verdict::Passed;
     }
     let mut seen = [0u64; 1024];
     scan_entries(limit, entries, &mut seen)

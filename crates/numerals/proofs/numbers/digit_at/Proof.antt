@@ -4,7 +4,4 @@ use Rattle.numerals.proofs.numbers.digit_at.Statement.{statement}
 use Rattle.numerals.proofs.numbers.digit_at.Tie as tie
 
 pub digit-at-spec : {M : Type 1} → statement M
-digit-at-spec =
-    tie.close
-    (tie.spec (λ c. search seeking) (λ c. search seeking) (λ c. search seeking) (λ c. search seeking)
-    (λ c. search seeking) (λ c. search seeking))
+digit-at-spec = tie.close (tie.spec (λ c. search seeking) (λ c. search seeking) (λ c κs. search seeking) (λ c. search seeking))

@@ -1,18 +1,7 @@
--- `occurrences::places::leftmost` meets its contract. The invariant: the letter is not before place i. Assumes nothing.
-use Prim.Native.Nat.{_-_}
-use lib.ListN.{length}
-use Rattle.occurrences.specs.Places.{seeking, Seeking}
+-- `occurrences::places::leftmost` meets its contract, by the laws of specs/Places. Assumes nothing.
+use Rattle.occurrences.specs.Places.{seeking}
 use Rattle.occurrences.proofs.places.leftmost.Statement.{statement}
 use Rattle.occurrences.proofs.places.leftmost.Tie as tie
 
-abbrev Inv-loop : tie.InvT-loop
-Inv-loop letter word i₀ i = Seeking letter word i
-
-abbrev μ-loop : tie.MeasureT-loop
-μ-loop letter word i₀ i = length word - i
-
 pub leftmost-spec : {M : Type 1} → statement M
-leftmost-spec =
-    tie.close
-    (tie.spec Inv-loop μ-loop (λ c. search seeking) (λ c. search seeking) (λ c. search seeking)
-    (λ c. search seeking) (λ c. search seeking) (λ c. search seeking) (λ c. search seeking))
+leftmost-spec = tie.close (tie.spec (λ c κs. search seeking) (λ c. search seeking) (λ c. search seeking))
