@@ -18,13 +18,20 @@ ghost use Prim.Native.Nat.{_≤_};
 // How many answers are spoilt.
 pub(crate) const SPOILT: usize = 16;
 
-// Lowering 1 in 3113 at rank 3, which gives 3123 by its place 2 and can be made twice: refusal, place, letters and count.
+// 1 where the comparison finds one difference from an answer to lowering 1 in 3113 at rank 3, else 0.
+fn found_on_word(answer: Moved, times: usize) -> usize
+    ensures { λ r. ⌜ r ≤ 1 ⌝ }
+{
+    let word = word_of(6, 0);
+    let before = word.letters;
+    one_if(compare_on_word(Side::Lowering, 3, 1, 4, before, answer, times) == 1)
+}
+
+// It gives 3123 by its place 2 and can be made twice: refusal, place, letters and count.
 pub(crate) fn spoilt_on_word() -> usize
     ensures { λ r. ⌜ r ≤ 4 ⌝ }
 {
-    let word = word_of(6, 0);
     let after = word_of(7, 0);
-    let before = word.letters;
     let letters = after.letters;
     let right = Moved {
         reply: 0,
@@ -46,26 +53,44 @@ pub(crate) fn spoilt_on_word() -> usize
         place: 2,
         letters,
     };
-    let reply = compare_on_word(Side::Lowering, 3, 1, 4, before, refused, 2);
-    let place = compare_on_word(Side::Lowering, 3, 1, 4, before, earlier, 2);
-    let letter = compare_on_word(Side::Lowering, 3, 1, 4, before, wrong, 2);
-    let times = compare_on_word(Side::Lowering, 3, 1, 4, before, right, 1);
-    one_if(reply == 1) + one_if(place == 1) + one_if(letter == 1) + one_if(times == 1)
+    found_on_word(refused, 2)
+        + found_on_word(earlier, 2)
+        + found_on_word(wrong, 2)
+        + found_on_word(right, 1)
 }
 
-// The same on its tableau, by its cell 1: refusal, cell, letters, marks, letter counts and repeat count.
+// The same for its tableau, the reply as one number.
+fn found_on_tableau(expected: usize, answer: Tableau, times: usize) -> usize
+    ensures { λ r. ⌜ r ≤ 1 ⌝ }
+{
+    let word = word_of(6, 0);
+    let word_letters = word.letters;
+    let before = plain_tableau(4, word_letters);
+    let letters = before.letters;
+    let marks = before.marks;
+    let counts = before.counts;
+    let found = compare_on_tableau(
+        Side::Lowering,
+        3,
+        1,
+        4,
+        letters,
+        marks,
+        counts,
+        expected,
+        answer,
+        times,
+    );
+    one_if(found == 1)
+}
+
+// The move changes its cell 1: refusal, cell, letters, marks, letter counts and repeat count.
 pub(crate) fn spoilt_on_tableau() -> usize
     ensures { λ r. ⌜ r ≤ 6 ⌝ }
 {
-    let word = word_of(6, 0);
     let moved = word_of(7, 0);
-    let word_letters = word.letters;
     let moved_letters = moved.letters;
-    let before = plain_tableau(4, word_letters);
     let right = plain_tableau(4, moved_letters);
-    let from = before.letters;
-    let steps = before.marks;
-    let numbers = before.counts;
     let letters = right.letters;
     let marks = right.marks;
     let counts = right.counts;
@@ -84,29 +109,12 @@ pub(crate) fn spoilt_on_tableau() -> usize
         marks,
         counts: turned_counts(counts),
     };
-    let reply = compare_on_tableau(
-        Side::Lowering,
-        3,
-        1,
-        4,
-        from,
-        steps,
-        numbers,
-        2058,
-        right,
-        2,
-    );
-    let cell = compare_on_tableau(Side::Lowering, 3, 1, 4, from, steps, numbers, 2, right, 2);
-    let letter = compare_on_tableau(Side::Lowering, 3, 1, 4, from, steps, numbers, 1, wrong, 2);
-    let mark = compare_on_tableau(Side::Lowering, 3, 1, 4, from, steps, numbers, 1, stepped, 2);
-    let number = compare_on_tableau(Side::Lowering, 3, 1, 4, from, steps, numbers, 1, counted, 2);
-    let times = compare_on_tableau(Side::Lowering, 3, 1, 4, from, steps, numbers, 1, right, 3);
-    one_if(reply == 1)
-        + one_if(cell == 1)
-        + one_if(letter == 1)
-        + one_if(mark == 1)
-        + one_if(number == 1)
-        + one_if(times == 1)
+    found_on_tableau(2058, right, 2)
+        + found_on_tableau(2, right, 2)
+        + found_on_tableau(1, wrong, 2)
+        + found_on_tableau(1, stepped, 2)
+        + found_on_tableau(1, counted, 2)
+        + found_on_tableau(1, right, 3)
 }
 
 // How many of two comparisons find a class or weights that are wrong for 3243 of rank 4 beside 4323 of a rank, which are of one class: that of the words and
