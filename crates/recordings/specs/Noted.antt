@@ -71,18 +71,17 @@ weaker true a b f e = e
 weaker false a b f e = f e
 
 -- The place of an entry is in the table.
-pub note-there : {limit i : ℕ} {wrong : Bool} {rs : List ℕ} {table : List Bool} (e at : ℕ) → Noting limit rs table i wrong → at ≡ e % 1024 → at < length table
-note-there e at m q = omega (arith, q, m .noted .long, mod-lt e {m = 1024} (omega arith))
+pub note-there : {limit i : ℕ} {wrong : Bool} {rs : List ℕ} {table : List Bool} (n : ℕ) → Noting limit rs table i wrong → n % 1024 < length table
+note-there n m = omega (arith, m .noted .long, mod-lt n {m = 1024} (omega arith))
 
-pub turn-noting : {limit i at : ℕ} {wrong out here next : Bool} {rs : List ℕ} {table : List Bool} → Noting limit rs table i wrong → i < length rs
-    → at ≡ getD rs i 0 % 1024 → out ≡ outside limit (getD rs i 0) → here ≡ (out || getD table at false) → next ≡ (wrong || here)
-    → Noting limit rs (set table at true) (i + 1) next
+pub turn-noting : {limit i n : ℕ} {wrong out here next : Bool} {rs : List ℕ} {table : List Bool} → Noting limit rs table i wrong → i < length rs → n ≡ getD rs i 0
+    → out ≡ outside limit n → here ≡ (out || getD table (n % 1024) false) → next ≡ (wrong || here) → Noting limit rs (set table (n % 1024) true) (i + 1) next
 unfolding entryFault
-turn-noting {limit} {i} {at} {wrong} {out} {here} {next} {rs} {table} m l q o h n = record {
+turn-noting {limit} {i} {n} {wrong} {out} {here} {next} {rs} {table} m l q o h x = record {
   clear = record {
     scan = λ z.
         turn-clear {wrong = wrong} {here = entryFault limit rs i} {next = wrong || entryFault limit rs i} refl (m .clear) refl l .scan
-        (weaker wrong here (entryFault limit rs i) fault (sym n ∙ z));
+        (weaker wrong here (entryFault limit rs i) fault (sym x ∙ z));
   };
   noted = rw (q, add-one, take-suc rs i 0 l) (noted-more table (take i rs) (getD rs i 0) (m .noted));
 }

@@ -3,7 +3,7 @@ use refusals::answers::Verdict;
 use refusals::numbers::either;
 use refusals::numbers::least;
 use refusals::refusal::Refusal;
-ghost use Prim.Native.Nat.{_%_, _<_, _≤_, min};
+ghost use Prim.Native.Nat.{_<_, _≤_, min};
 ghost use mathlib.Core.Path.{_≡_};
 ghost use mathlib.Core.List.{[]};
 ghost use lib.ListN.{length};
@@ -56,22 +56,22 @@ fn scan_entries(limit: usize, entries: &[u16], seen: &mut [u64]) -> Verdict
     Verdict::Passed
 }
 
-// Whether an entry is 0 or above the limit.
-fn entry_outside(limit: usize, entry: u16) -> bool
-    ensures { λ r. ⌜ r ≡ outside limit entry ⌝ }
+// An entry as a number that is compared and counted with.
+fn wide(entry: u16) -> usize
+    ensures { λ r. ⌜ r ≡ entry ⌝ }
 {
-    let number = entry as usize;
+    entry as usize
+}
+
+// Whether a number is 0 or above the limit.
+fn number_outside(limit: usize, number: usize) -> bool
+    ensures { λ r. ⌜ r ≡ outside limit number ⌝ }
+{
     either(number < 1, limit < number)
 }
 
-// Where an entry is noted: its remainder by 1,024, which no two entries from 1 to 1,024 share.
-fn note_of(entry: u16) -> usize
-    ensures { λ r. ⌜ r ≡ entry % 1024 ⌝ }
-{
-    entry as usize % 1024
-}
-
-// Whether an entry is 0, above the limit, or noted where one before it is, which is met again or above 1,024. The loop leaves at no place.
+// Whether an entry is 0, above the limit, or noted where one before it is: at its remainder by 1,024, which no two entries from 1 to 1,024 share. The loop leaves at
+// no place.
 fn some_entry_wrong(limit: usize, entries: &[u16]) -> bool
     ensures { λ r. ⌜ Cleared (entriesJudged limit (now (entries .entry))) r ⌝ }
 {
@@ -79,9 +79,9 @@ fn some_entry_wrong(limit: usize, entries: &[u16]) -> bool
     let mut wrong = false;
     let mut i = 0;
     while i < entries.len() {
-        let entry = entries[i];
-        let at = note_of(entry);
-        let here = either(entry_outside(limit, entry), noted[at]);
+        let number = wide(entries[i]);
+        let at = number % 1024;
+        let here = either(number_outside(limit, number), noted[at]);
         wrong = either(wrong, here);
         noted[at] = true;
         i += 1;
