@@ -139,7 +139,7 @@ extern "C" {
 
 /* The version; and the number at the end of the shared library's name, which goes one up whenever a program must be
  * compiled anew to run with the library. */
-#define LUCHTRAV_VERSION "0.10.0"
+#define LUCHTRAV_VERSION "0.10.1"
 #define LUCHTRAV_INTERFACE 3
 
 /* The limits; the last is that of letters or cells where a class is counted. */

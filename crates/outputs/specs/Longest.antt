@@ -59,7 +59,7 @@ output-short text = go (outputs text)
   where
     go : Outputs text → length (output text) ≤ 16384
     go (lines n w a t e) = rw e (omega (arith, three-short a))
-    go (refusal k p some low high e) = rw e (omega (arith, e-length k p low (omega arith)))
+    go (refusal k p some low high e) = rw e (omega (arith, e-length k p (omega (arith, low)) (omega arith)))
 
 -- The W line of an accepted word is never too long.
 pub accepted-output : {n : ℕ} {w : List ℕ} → Accepted n w → output (wLine n w) ≡ threeLines n w
