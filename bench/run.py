@@ -2,7 +2,7 @@
 """Builds the benchmark, runs it under callgrind and prints instructions a letter as Markdown.
 
     bench/run.py            prints
-    bench/run.py write      writes the same into docs/SPEED.md, from its mark on
+    bench/run.py write      writes the same into docs/SPEED-TABLES.md, from its mark on
 
 It needs rustc, valgrind and target/library/libluchtrav.a; its own files go to target/bench/.
 """
@@ -15,7 +15,7 @@ from pathlib import Path
 ROOT = Path(__file__).resolve().parent.parent
 LIBRARY = ROOT / "target" / "library" / "libluchtrav.a"
 PLACE = ROOT / "target" / "bench"
-PAGE = ROOT / "docs" / "SPEED.md"
+PAGE = ROOT / "docs" / "SPEED-TABLES.md"
 MARK = "<!-- From here on as `bench/run.py write` writes it. -->\n\n"
 FLAGS = ["--edition=2021", "-Copt-level=3", "-Ccodegen-units=1"]
 

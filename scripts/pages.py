@@ -65,7 +65,7 @@ def check_structs():
 
 
 def check_lengths():
-    most = {README: 150, ROOT / "docs/SPEED.md": 400}  # the one is read first, the other has tables of figures
+    most = {README: 150}  # it is read first
     told = [(page, len(page.read_text().splitlines()), most.get(page, 250)) for page in pages() + notes()]
     yield from ((page, f"{lines} lines, more than {allowed}") for page, lines, allowed in told if lines > allowed)
 

@@ -9,6 +9,7 @@ pub mod lines;
 pub mod pairs;
 pub mod products;
 pub mod readers;
+pub mod recordings;
 pub mod runs;
 pub mod stored;
 pub mod tableaux;
