@@ -4,6 +4,7 @@ pub mod StoredCounts
 pub mod TwoTableaux
 -- ---- counts in lent memory after a call
 pub mod MovedEntries
+pub mod ReadCounts
 pub mod CountsHeld
 pub mod NextCalls
 -- ---- cases

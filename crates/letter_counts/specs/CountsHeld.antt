@@ -17,6 +17,7 @@ use Rattle.hypoplactic.specs.Moves.{Move}
 use Rattle.outcomes.specs.Replies.{Passes, Said, gives, refused}
 use Rattle.outcomes.specs.TableauOperations.{insertRun, moveTableauRun, pairRun}
 use Rattle.products.specs.Products.{productRun}
+use Rattle.run_lines.specs.Operations.{readCRun}
 use Rattle.windows.specs.Departures.{departRun}
 
 -- The last of some values.
@@ -60,3 +61,6 @@ pub record CountsHeld : Type 0 where
       → HeldIn (readTRun text letters marks counts)
   -- A P line read.
   pub read-pair : (text : List ℕ) (p : Pair) (counts : List ℕ) → Passes ((readPRun text p counts) .0) → HeldBeside (readPRun text p counts)
+  -- A C line read.
+  pub read-runs : (text letters marks counts : List ℕ) → Passes ((readCRun text letters marks counts) .0)
+      → HeldIn (readCRun text letters marks counts)

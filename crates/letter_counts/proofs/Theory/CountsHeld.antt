@@ -2,10 +2,10 @@
 -- contracts cite, for every input that is not refused.
 --     counts-held                                                       the claim: the counts left are those of the letters left
 --     pair-word-held                                                    after the pair of a word they are those of the word
---     pair-kept, read-kept, read-pair-kept, insert-kept, move-kept      a refusal leaves the counts, and all lent memory, as they were
+--     pair-kept, insert-kept, move-kept                                 a refusal leaves the counts, and all lent memory, as they were
 --     seventeen-exactly                                                 17 passes exactly the counts of the letters, and else names the first wrong one
 -- Counts that a call takes are 64 numbers, as lent memory has; those that it only gives may be any. Which of them a move changes is in
--- MovedEntries. That a refused product leaves all outputs as they were is product-refused of products, Theory.ProductReplies, and of a refused departure
+-- MovedEntries; readers of lines are in ReadCounts. That a refused product leaves all outputs as they were is product-refused of products, Theory.ProductReplies, and of a refused departure
 -- depart-kept of windows, Theory.Departures. Assumes nothing.
 use Prim.Native.Nat.{ℕ, suc, _+_, _≤_, _<_}
 use native.Mathlib.Omega.{arith}
@@ -17,23 +17,21 @@ use lib.Dec.{eqb}
 use lib.ListN.{length, drop, getD, take}
 use lib.Seq.{length-take-le}
 use borrow.Author.Tests.{eq-eqb}
-use Rattle.grammar.specs.Reading.{Read, broken, got, readP, readT}
 use Rattle.hypoplactic.specs.Words.{Inside, count, tick}
-use Rattle.hypoplactic.specs.Insertion.{Pair, insert, pairOf, pairWith, putAt, seat}
+use Rattle.hypoplactic.specs.Insertion.{Pair, insert, pairOf, putAt, seat}
 use Rattle.hypoplactic.specs.Moves.{Move}
-use Rattle.outcomes.specs.Replies.{Passes, Said, first, gives, ranTo, refused, written}
+use Rattle.outcomes.specs.Replies.{Passes, Said, gives, refused, written}
 use Rattle.outcomes.specs.FirstPlaces.{First}
 use Rattle.outcomes.specs.Counts.{countFault, countsJudged, countsOf, oneMore}
-use Rattle.outcomes.specs.Judgements.{fullJudged, pairJudgements, pairRooms, tableauJudgements, tableauRooms, wordJudgements}
+use Rattle.outcomes.specs.Judgements.{fullJudged, pairRooms, tableauRooms, wordJudgements}
 use Rattle.outcomes.specs.TableauOperations.{insertJudgements, insertRun, insertSays, moveTableauRun, pairRun, pairSays, usedCells, writtenPair}
-use Rattle.outcomes.specs.LineReadings.{pairRead, readPRun, readRun, readTRun, tableauRead}
 use Rattle.outcomes.proofs.Theory.Counts.{counts-first, counts-judged, counts-same, counts-true, counts-whole, letters-counts, snoc-counts}
 use Rattle.outcomes.proofs.Theory.Judgements.{letters-judged, rank-judged, used-judged}
 use Rattle.hypoplactic.proofs.Theory.Layers.{within-snoc}
 use Rattle.outcomes.proofs.Theory.MoveResults.{move-tableau-result}
 use Rattle.hypoplactic.proofs.Theory.Occurrences.{count-append}
 use Rattle.hypoplactic.proofs.Theory.Pairs.{le-or-lt, length-letters}
-use Rattle.outcomes.proofs.Theory.Passing.{first-answer, passing-append, passing-first, refused-keeps}
+use Rattle.outcomes.proofs.Theory.Passing.{passing-append, passing-first, refused-keeps}
 use Rattle.hypoplactic.proofs.Theory.Placing.{count-placed, length-placed, placed-at}
 use Rattle.products.specs.Products.{factorsJudgements, productLetters, productMarks, productRun, productSays, productWord}
 use Rattle.products.proofs.Theory.ProductContents.{product-cells, product-counts}
@@ -41,8 +39,9 @@ use Rattle.products.proofs.Theory.ProductReplies.{factors-passing, needed}
 use Rattle.windows.specs.Departures.{departRun, windowWord}
 use Rattle.windows.specs.Windows.{leave}
 use Rattle.windows.proofs.Theory.Calls.{accepted-afresh}
-use Rattle.letter_counts.specs.CountsHeld.{CountsHeld, HeldBeside, HeldIn, lastOf}
+use Rattle.letter_counts.specs.CountsHeld.{CountsHeld, HeldBeside, HeldIn}
 use Rattle.letter_counts.proofs.Theory.MovedEntries.{move-passing}
+use Rattle.letter_counts.proofs.Theory.ReadCounts.{after-values, pair-held, read-held, read-pair-held, read-runs-held, written-held}
 
 -- ---- 17
 
@@ -74,32 +73,6 @@ seventeen-exactly cs xs e = (
 
 -- ---- calls that give counts
 
--- What the reading of a T line comes to.
-abbrev tableauReading : List ℕ → List ℕ → List ℕ → List ℕ → Read (ℕ × List ℕ × List ℕ) → Said × (List ℕ × (List ℕ × List ℕ))
-tableauReading text letters marks counts r =
-    readRun text (λ v. tableauRead letters marks counts (v .0) (v .1) (v .2)) (letters, (marks, counts)) r
-
--- And that of a P line.
-abbrev pairReading : List ℕ → Pair → List ℕ → Read (ℕ × List ℕ × List ℕ × List ℕ) → Said × (Pair × List ℕ)
-pairReading text p counts r = readRun text (λ v. pairRead p counts (v .0) (v .1) (v .2) (v .3)) (p, counts) r
-
--- Where a call is not refused, its values and the new memory tell what is so after it.
-after-values : {A : Type 0} (P : Said × A → Type 0) (js : List Said) (vs : List ℕ) (new old : A) → Passes (first js (gives vs)) → P (gives vs, new)
-    → P (ranTo (first js (gives vs)) new old)
-after-values P js vs new old p h = rw (first-answer js (gives vs) (passing-first js vs p)) h
-
--- Letters are written, as many as is said last, beside marks and the counts of these letters.
-written-held : (js : List Said) (vs us letters ms cs : List ℕ) (old : List ℕ × (List ℕ × List ℕ)) → length us ≡ lastOf vs → cs ≡ countsOf us
-    → Passes (first js (gives vs)) → HeldIn (ranTo (first js (gives vs)) (written us letters, (ms, cs)) old)
-written-held js vs us letters ms cs old size e p =
-    after-values HeldIn js vs (written us letters, (ms, cs)) old p (e ∙ sym (ap countsOf (needed (lastOf vs) us letters size)))
-
--- The same beside a pair.
-pair-held : (js : List Said) (vs : List ℕ) (q p : Pair) (cs counts : List ℕ) → length (q .letters) ≡ lastOf vs → cs ≡ countsOf (q .letters)
-    → Passes (first js (gives vs)) → HeldBeside (ranTo (first js (gives vs)) (writtenPair q p, cs) (p, counts))
-pair-held js vs q p cs counts size e h =
-    after-values HeldBeside js vs (writtenPair q p, cs) (p, counts) h (e ∙ sym (ap countsOf (needed (lastOf vs) (q .letters) (p .letters) size)))
-
 -- The checks of the pair of a word, in order.
 abbrev wordChecks : ℕ → List ℕ → Pair → List Said
 wordChecks n w p = wordJudgements n w ++ pairRooms (length w) (length (p .letters)) (length (p .marks)) (length (p .recording))
@@ -115,28 +88,6 @@ pub pair-word-held : (n : ℕ) (w : List ℕ) (p : Pair) (counts : List ℕ) →
 unfolding pairRun pairSays
 pair-word-held n w p counts h =
     after-values (λ (r : Said × (Pair × List ℕ)). r .1 .1 ≡ countsOf w) (wordChecks n w p) (length w ∷ []) (writtenPair (pairOf w) p, countsOf w) (p, counts) h refl
-
--- The reading of a T line: the counts left are those of the letters read.
-read-held : (text letters marks counts : List ℕ) → Passes ((readTRun text letters marks counts) .0) → HeldIn (readTRun text letters marks counts)
-unfolding readTRun
-read-held text letters marks counts p = go (readT text) p
-  where
-    go : (r : Read (ℕ × List ℕ × List ℕ)) → Passes ((tableauReading text letters marks counts r) .0) → HeldIn (tableauReading text letters marks counts r)
-    go (broken rest) p = absurd p
-    go (got (n, xs, ms) rest) p =
-        written-held (tableauJudgements n xs ms ++ tableauRooms (length xs) (length letters) (length marks)) (n ∷ length xs ∷ []) xs letters (written ms marks)
-        (countsOf xs) (letters, (marks, counts)) refl refl p
-
--- So with a P line.
-read-pair-held : (text : List ℕ) (p : Pair) (counts : List ℕ) → Passes ((readPRun text p counts) .0) → HeldBeside (readPRun text p counts)
-unfolding readPRun
-read-pair-held text p counts h = go (readP text) h
-  where
-    go : (r : Read (ℕ × List ℕ × List ℕ × List ℕ)) → Passes ((pairReading text p counts r) .0) → HeldBeside (pairReading text p counts r)
-    go (broken rest) h = absurd h
-    go (got (n, xs, ms, rs) rest) h =
-        pair-held (pairJudgements n xs ms rs ++ pairRooms (length xs) (length (p .letters)) (length (p .marks)) (length (p .recording)))
-        (n ∷ length xs ∷ []) (pairWith xs ms rs) p (countsOf xs) counts refl refl h
 
 -- The product: the counts left are those of its letters left.
 product-held : (n : ℕ) (xs ms cs ys ns ds letters marks counts : List ℕ) → Passes ((productRun n xs ms cs ys ns ds letters marks counts) .0)
@@ -203,7 +154,7 @@ move-held n m xs ms cs e p =
 
 pub counts-held : CountsHeld
 counts-held =
-    record { pair = word-held; inserted = insert-held; departed = depart-held; moved = move-held; multiplied = product-held; read = read-held; read-pair = read-pair-held }
+    record { pair = word-held; inserted = insert-held; departed = depart-held; moved = move-held; multiplied = product-held; read = read-held; read-pair = read-pair-held; read-runs = read-runs-held }
 
 -- ---- refusals
 
@@ -212,27 +163,6 @@ pub pair-kept : (n : ℕ) (w : List ℕ) (p : Pair) (counts : List ℕ) (k i : �
     → pairRun n w p counts ≡ (refused k i, (p, counts))
 unfolding pairRun
 pair-kept n w p counts k i e = refused-keeps _ k i _ (p, counts) e
-
--- The reading of a T line, refused.
-pub read-kept : (text letters marks counts : List ℕ) (k i : ℕ) → (readTRun text letters marks counts) .0 ≡ refused k i
-    → readTRun text letters marks counts ≡ (refused k i, (letters, (marks, counts)))
-unfolding readTRun
-read-kept text letters marks counts k i e = go (readT text) e
-  where
-    go : (r : Read (ℕ × List ℕ × List ℕ)) → (tableauReading text letters marks counts r) .0 ≡ refused k i
-        → tableauReading text letters marks counts r ≡ (refused k i, (letters, (marks, counts)))
-    go (broken rest) e = rw e
-    go (got (n, xs, ms) rest) e = refused-keeps _ k i _ (letters, (marks, counts)) e
-
--- The reading of a P line, refused.
-pub read-pair-kept : (text : List ℕ) (p : Pair) (counts : List ℕ) (k i : ℕ) → (readPRun text p counts) .0 ≡ refused k i
-    → readPRun text p counts ≡ (refused k i, (p, counts))
-unfolding readPRun
-read-pair-kept text p counts k i e = go (readP text) e
-  where
-    go : (r : Read (ℕ × List ℕ × List ℕ × List ℕ)) → (pairReading text p counts r) .0 ≡ refused k i → pairReading text p counts r ≡ (refused k i, (p, counts))
-    go (broken rest) e = rw e
-    go (got (n, xs, ms, rs) rest) e = refused-keeps _ k i _ (p, counts) e
 
 -- Insertion, refused.
 pub insert-kept : (n used a : ℕ) (p : Pair) (cs : List ℕ) (k i : ℕ) → (insertRun n used a p cs) .0 ≡ refused k i → insertRun n used a p cs ≡ (refused k i, (p, cs))
