@@ -5,9 +5,7 @@ use outputs::answer::answer;
 use readers::pair::read_pair_line;
 use readers::tableau::read_tableau_line;
 use structs::counts::count_written;
-use structs::readings::pair_line_reply;
-use structs::readings::tableau_line_reply;
-use structs::readings::word_line_reply;
+use structs::readings::line_reply;
 use structs::replies::CountReply;
 use structs::replies::LineReply;
 use word_readers::word::read_word_line;
@@ -102,7 +100,7 @@ pub extern "C" fn luchtrav_write_refusal_line(
 pub extern "C" fn luchtrav_read_word_line(text: &[u8], letters: &mut [u8]) -> LineReply
     ensures { λ r. ⌜ (r, now (letters .exit)) ≡ replied lineOf (readWRun (now (text .entry)) (now (letters .entry))) ⌝ }
 {
-    word_line_reply(read_word_line(text, letters))
+    line_reply(read_word_line(text, letters))
 }
 
 // A T line, into lent letters, marks and counts.
@@ -118,7 +116,7 @@ pub extern "C" fn luchtrav_read_tableau_line(
         ≡ replied lineOf (readTRun (now (text .entry)) (now (letters .entry)) (now (marks .entry)) (now (counts .entry)))
         ⌝ }
 {
-    tableau_line_reply(read_tableau_line(text, letters, marks, counts))
+    line_reply(read_tableau_line(text, letters, marks, counts))
 }
 
 // A P line, into lent letters, marks, entries and counts.
@@ -139,7 +137,7 @@ pub extern "C" fn luchtrav_read_pair_line(
         (now (counts .entry)))
         ⌝ }
 {
-    pair_line_reply(read_pair_line(text, letters, marks, entries, counts))
+    line_reply(read_pair_line(text, letters, marks, entries, counts))
 }
 
 // The P line of a former T line and N line.

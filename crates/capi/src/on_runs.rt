@@ -4,7 +4,7 @@ use run_conversions::forms::runs_to_tableau;
 use run_conversions::forms::tableau_to_runs;
 use run_readers::runs::read_run_line;
 use structs::counts::count_written;
-use structs::readings::tableau_line_reply;
+use structs::readings::line_reply;
 use structs::replies::CountReply;
 use structs::replies::LineReply;
 use writers::line::write_run_line;
@@ -46,7 +46,7 @@ pub extern "C" fn luchtrav_read_run_line(
         ≡ replied lineOf (readCRun (now (text .entry)) (now (letters .entry)) (now (marks .entry)) (now (counts .entry)))
         ⌝ }
 {
-    tableau_line_reply(read_run_line(text, letters, marks, counts))
+    line_reply(read_run_line(text, letters, marks, counts))
 }
 
 // The C line of a T line.

@@ -6,13 +6,11 @@ use refusals::answers::Class;
 use refusals::answers::Junctions;
 use refusals::answers::Move;
 use refusals::answers::Numbered;
-use refusals::answers::PairLine;
+use refusals::answers::ReadLine;
 use refusals::answers::Repeat;
-use refusals::answers::TableauLine;
 use refusals::answers::Used;
 use refusals::answers::Verdict;
 use refusals::answers::Weights;
-use refusals::answers::WordLine;
 use refusals::answers::Written;
 use refusals::refusal::Refusal;
 use refusals::refusal::number_and_place;
@@ -85,27 +83,11 @@ pub fn print_junctions(answer: Junctions) {
     }
 }
 
-// Rank and number of letters of a word that is read.
-pub fn print_word(answer: WordLine) {
+// Rank and number of letters or cells of a line that is read.
+pub fn print_read(answer: ReadLine) {
     match answer {
-        WordLine::Word(rank, count) => print_gives_two(rank, count),
-        WordLine::Refused(refusal) => print_refusal(refusal),
-    }
-}
-
-// Rank and number of cells of a pair that is read.
-pub fn print_pair(answer: PairLine) {
-    match answer {
-        PairLine::Pair(rank, cells) => print_gives_two(rank, cells),
-        PairLine::Refused(refusal) => print_refusal(refusal),
-    }
-}
-
-// Rank and number of cells of a tableau that is read.
-pub fn print_tableau(answer: TableauLine) {
-    match answer {
-        TableauLine::Tableau(rank, cells) => print_gives_two(rank, cells),
-        TableauLine::Refused(refusal) => print_refusal(refusal),
+        ReadLine::Values(rank, count) => print_gives_two(rank, count),
+        ReadLine::Refused(refusal) => print_refusal(refusal),
     }
 }
 

@@ -10,10 +10,8 @@ use inverses::way_back::word_of_pair;
 use lines::runs::run_line_of_word;
 use lines::tableau::tableau_line_of_word;
 use notation::answers::print_move;
-use notation::answers::print_pair;
-use notation::answers::print_tableau;
+use notation::answers::print_read;
 use notation::answers::print_used;
-use notation::answers::print_word;
 use notation::answers::print_written;
 use notation::fields::field;
 use notation::fields::large_number;
@@ -45,7 +43,7 @@ fn call_on_word(operation: usize, rank: usize, index: usize, a: &[u8], out: &mut
         return print_move(lower_word(rank, index, out));
     }
     if operation == 14 {
-        return print_word(read_word_line(a, out));
+        return print_read(read_word_line(a, out));
     }
     if operation == 15 {
         return print_written(write_word_line(rank, a, out));
@@ -117,9 +115,9 @@ fn call_on_cells(
         return print_move(lower_tableau(rank, index, letters, a, counts));
     }
     if operation == 30 {
-        return print_tableau(read_tableau_line(a, letters, marks, counts));
+        return print_read(read_tableau_line(a, letters, marks, counts));
     }
-    print_tableau(read_run_line(a, letters, marks, counts))
+    print_read(read_run_line(a, letters, marks, counts))
 }
 
 // Calls from 32 to 35, which write into entries too. The third number of a line is that of a letter.
@@ -135,7 +133,7 @@ fn call_on_pair(
     let rank = number(line, 1);
     let index = number(line, 2);
     if operation == 32 {
-        return print_pair(read_pair_line(a, letters, marks, entries, counts));
+        return print_read(read_pair_line(a, letters, marks, entries, counts));
     }
     if operation == 33 {
         return print_written(pair_of_word(rank, a, letters, marks, entries, counts));

@@ -21,12 +21,12 @@ use Rattle.outcomes.proofs.Theory.Memory.{written-length, written-needed}
 use Rattle.refusals.specs.Chains.{ends}
 use Rattle.buffers.specs.Copies.{copied, copied-all}
 use Rattle.refusals.specs.Running.{checksThen, run-passed, run-refused, then-passing}
-use Rattle.refusals.specs.Said.{number, place, saidRefusal, saidVerdict, saidWordLine, saidWritten}
+use Rattle.refusals.specs.Said.{number, place, saidRefusal, saidVerdict, saidReadLine, saidWritten}
 use Rattle.refusals.specs.declared.refusal.Refusal.{Refusal}
 use Rattle.refusals.specs.declared.answers.Verdict.{Verdict}
 use Rattle.refusals.specs.declared.answers.Verdict.the-variants as verdict
-use Rattle.refusals.specs.declared.answers.WordLine.{WordLine}
-use Rattle.refusals.specs.declared.answers.WordLine.the-variants as wordLine
+use Rattle.refusals.specs.declared.answers.ReadLine.{ReadLine}
+use Rattle.refusals.specs.declared.answers.ReadLine.the-variants as readLine
 use Rattle.refusals.specs.declared.answers.Written.{Written}
 use Rattle.refusals.specs.declared.answers.Written.the-variants.{Elements, Refused}
 use Rattle.writers.specs.Lengths.{e-length}
@@ -38,9 +38,9 @@ use Rattle.outputs.specs.Printing.{Printed, Ready, printed-by, printed-n
 -- ---- refusals
 
 -- The E line of a reader's answer; nothing where it is a word.
-abbrev pub refusedLine : WordLine → List ℕ
-refusedLine (wordLine.Word n l) = []
-refusedLine (wordLine.Refused q) = eLine (number q) (place q)
+abbrev pub refusedLine : ReadLine → List ℕ
+refusedLine (readLine.Values n l) = []
+refusedLine (readLine.Refused q) = eLine (number q) (place q)
 
 module _ (k p : ℕ) (old now : List ℕ) (a : Written) (e : (saidWritten a, now) ≡ eLineRun k p old) (r : length (eLine k p) ≤ length old) where
   pub refusal-printed : (m : ℕ) → a ≡ Elements m → Printed (eLine k p) old now m
@@ -49,7 +49,7 @@ module _ (k p : ℕ) (old now : List ℕ) (a : Written) (e : (saidWritten a, now
   pub refusal-never : (q : Refusal) (m : ℕ) → a ≡ Refused q → Printed (eLine k p) old now m
   refusal-never = printed-never (eLine k p) old now a r (e ∙ e-line-result k p old r)
 
-module _ (line : WordLine) (q : Refusal) (h : line ≡ wordLine.Refused q) where
+module _ (line : ReadLine) (q : Refusal) (h : line ≡ readLine.Refused q) where
   pub refused-room : (have : ℕ) → length (refusedLine line) ≤ have → length (eLine (number q) (place q)) ≤ have
   refused-room have r = rw h at r
 
@@ -57,7 +57,7 @@ module _ (line : WordLine) (q : Refusal) (h : line ≡ wordLine.Refused q) where
   refused-printed old now m r = rw h r
 
 -- A word is no refusal, and prints nothing as one.
-pub word-printed : (line : WordLine) (n l : ℕ) (old : List ℕ) → line ≡ wordLine.Word n l → Printed (refusedLine line) old old 0
+pub word-printed : (line : ReadLine) (n l : ℕ) (old : List ℕ) → line ≡ readLine.Values n l → Printed (refusedLine line) old old 0
 word-printed line n l old h = rw h (record { held = refl; size = refl; fits = omega arith })
 
 -- ---- the first letters of a buffer
@@ -76,23 +76,23 @@ module _ (n m : ℕ) (word : List ℕ) where
 -- ---- the reader's answer
 
 -- To a text of at most 4,096 bytes, with a buffer for every accepted word, and an output that has room.
-module _ (text buffer word old : List ℕ) (line : WordLine) (e : (saidWordLine line, word) ≡ readWRun text buffer) (short : length text ≤ 4096)
+module _ (text buffer word old : List ℕ) (line : ReadLine) (e : (saidReadLine line, word) ≡ readWRun text buffer) (short : length text ≤ 4096)
     (long : 1024 ≤ length buffer) where
-  refused-is : (q : Refusal) → line ≡ wordLine.Refused q → output text ≡ refusedLine line
+  refused-is : (q : Refusal) → line ≡ readLine.Refused q → output text ≡ refusedLine line
   refused-is q h = refused-output text buffer word short long line e q h ∙ sym (ap refusedLine h)
 
-  pub line-room : (q : Refusal) (have : ℕ) → line ≡ wordLine.Refused q → 16384 ≤ have → length (refusedLine line) ≤ have
+  pub line-room : (q : Refusal) (have : ℕ) → line ≡ readLine.Refused q → 16384 ≤ have → length (refusedLine line) ≤ have
   line-room q have h r = rw (← refused-is q h) (omega (arith, output-short text))
 
-  pub line-refused : (q : Refusal) (now : List ℕ) (m : ℕ) → line ≡ wordLine.Refused q → Printed (refusedLine line) old now m → Printed (output text) old now m
+  pub line-refused : (q : Refusal) (now : List ℕ) (m : ℕ) → line ≡ readLine.Refused q → Printed (refusedLine line) old now m → Printed (output text) old now m
   line-refused q now m h p = rw (refused-is q h) p
 
-  pub line-begun : (n l have : ℕ) → line ≡ wordLine.Word n l → 16384 ≤ have → Begun n l word have
+  pub line-begun : (n l have : ℕ) → line ≡ readLine.Values n l → 16384 ≤ have → Begun n l word have
   line-begun n l have h r =
       let t : Taken text word n l = word-taken text buffer word short long line e n l h in
       record { reach = t .within; ready = three-ready have (t .accepted) r }
 
-  pub line-printed : (n l : ℕ) (now : List ℕ) (m : ℕ) → line ≡ wordLine.Word n l → Printed (threeLines n (take l word)) old now m → Printed (output text) old now m
+  pub line-printed : (n l : ℕ) (now : List ℕ) (m : ℕ) → line ≡ readLine.Values n l → Printed (threeLines n (take l word)) old now m → Printed (output text) old now m
   line-printed n l now m h p =
       let t : Taken text word n l = word-taken text buffer word short long line e n l h in rw (t .prints) p
 

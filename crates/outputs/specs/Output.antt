@@ -21,10 +21,10 @@ use Rattle.outcomes.proofs.Theory.Judgements.{room-judged}
 use Rattle.outcomes.proofs.Theory.LineResults.{program-result}
 use Rattle.outcomes.proofs.Theory.Memory.{written-length, written-needed}
 use Rattle.outcomes.proofs.Theory.Passing.{Passing}
-use Rattle.refusals.specs.Said.{number, place, saidWordLine}
+use Rattle.refusals.specs.Said.{number, place, saidReadLine}
 use Rattle.refusals.specs.declared.refusal.Refusal.{Refusal}
-use Rattle.refusals.specs.declared.answers.WordLine.{WordLine}
-use Rattle.refusals.specs.declared.answers.WordLine.the-variants.{Word, Refused}
+use Rattle.refusals.specs.declared.answers.ReadLine.{ReadLine}
+use Rattle.refusals.specs.declared.answers.ReadLine.the-variants.{Refused, Values}
 use Rattle.refusals.specs.Outcomes.{Outcome, accepted, stopped, outcome, not-both, same-values, same-refusal}
 
 -- More than 4,096 bytes.
@@ -93,11 +93,11 @@ module _ (text buffer now : List ℕ) (short : length text ≤ 4096) (long : 102
           }
 
   -- By the reader's answer.
-  module _ (line : WordLine) (e : (saidWordLine line, now) ≡ readWRun text buffer) where
+  module _ (line : ReadLine) (e : (saidReadLine line, now) ≡ readWRun text buffer) where
     pub refused-output : (q : Refusal) → line ≡ Refused q → output text ≡ eLine (number q) (place q)
     unfolding readWRun
-    refused-output q h = short-output text short ∙ refused-for (number q) (place q) (readW text) (sym (ap (λ (x : WordLine). (saidWordLine x, now)) h) ∙ e)
+    refused-output q h = short-output text short ∙ refused-for (number q) (place q) (readW text) (sym (ap (λ (x : ReadLine). (saidReadLine x, now)) h) ∙ e)
 
-    pub word-taken : (n l : ℕ) → line ≡ Word n l → Taken text now n l
+    pub word-taken : (n l : ℕ) → line ≡ Values n l → Taken text now n l
     unfolding readWRun
-    word-taken n l h = taken-for n l (readW text) (sym (ap (λ (x : WordLine). (saidWordLine x, now)) h) ∙ e) (short-output text short)
+    word-taken n l h = taken-for n l (readW text) (sym (ap (λ (x : ReadLine). (saidReadLine x, now)) h) ∙ e) (short-output text short)

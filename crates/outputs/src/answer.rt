@@ -2,7 +2,7 @@
 use crate::printing::print_word;
 use buffers::copies::copy_bytes;
 use refusals::answers::Verdict;
-use refusals::answers::WordLine;
+use refusals::answers::ReadLine;
 use refusals::answers::Written;
 use refusals::numbers::check_room;
 use refusals::refusal::Refusal;
@@ -30,11 +30,11 @@ fn print_refusal(refusal: Refusal, out: &mut [u8]) -> usize
 }
 
 // The same for a reader's answer that is a refusal.
-fn print_refused(line: WordLine, out: &mut [u8]) -> usize
+fn print_refused(line: ReadLine, out: &mut [u8]) -> usize
     requires { ⌜ length (refusedLine line) ≤ length (now out) ⌝ }
     ensures { λ r. ⌜ Printed (refusedLine line) (now (out .entry)) (now (out .exit)) r ⌝ }
 {
-    let WordLine::Refused(refusal) = line else {
+    let ReadLine::Refused(refusal) = line else {
         return 0;
     };
     print_refusal(refusal, out)
@@ -56,7 +56,7 @@ fn print_line(text: &[u8], out: &mut [u8]) -> usize
 {
     let mut word = [0u8; 1024];
     let line = read_word_line(text, &mut word);
-    let WordLine::Word(rank, letters) = line else {
+    let ReadLine::Values(rank, letters) = line else {
         return print_refused(line, out);
     };
     print_letters(rank, letters, &word, out)

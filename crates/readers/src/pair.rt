@@ -4,7 +4,7 @@ use buffers::copies::copy_entries;
 use line_items::letters::narrow_letters;
 use line_items::room::no_letters;
 use line_items::room::no_marks;
-use refusals::answers::PairLine;
+use refusals::answers::ReadLine;
 use refusals::answers::Verdict;
 use refusals::chains::check_limits;
 use refusals::chains::check_pair_rooms;
@@ -20,7 +20,7 @@ ghost use Rattle.hypoplactic.specs.Insertion.{pairWith};
 ghost use Rattle.outcomes.specs.Judgements.{pairJudgements, pairRooms};
 ghost use Rattle.outcomes.specs.LineReadings.{pairRead, readPRun};
 ghost use Rattle.refusals.specs.Running.{checksThen};
-ghost use Rattle.refusals.specs.Said.{saidPairLine, saidVerdict};
+ghost use Rattle.refusals.specs.Said.{saidReadLine, saidVerdict};
 ghost use Rattle.readers.specs.PairStores.{PairCopied};
 
 // 1 to 8 of a pair that was read, and 13 of lent letters, marks and entries.
@@ -72,9 +72,9 @@ fn store_pair(
     marks: &mut [u8],
     entries: &mut [u16],
     counts: &mut [u16; 64],
-) -> PairLine
+) -> ReadLine
     ensures { λ r. ⌜
-        (saidPairLine r, (pairWith (now (letters .exit)) (now (marks .exit)) (now (entries .exit)), now (counts .exit)))
+        (saidReadLine r, (pairWith (now (letters .exit)) (now (marks .exit)) (now (entries .exit)), now (counts .exit)))
         ≡ pairRead (pairWith (now (letters .entry)) (now (marks .entry)) (now (entries .entry))) (now (counts .entry))
         rank (now (cells .entry)) (now (steps .entry)) (now (places .entry))
         ⌝ }
@@ -88,11 +88,11 @@ fn store_pair(
         marks.len(),
         entries.len(),
     ) {
-        return PairLine::Refused(refusal);
+        return ReadLine::Refused(refusal);
     }
     copy_pair(cells, steps, places, letters, marks, entries);
     *counts = letter_counts(rank, cells);
-    PairLine::Pair(rank, cells.len())
+    ReadLine::Values(rank, cells.len())
 }
 
 // The pair of a P line into lent letters, marks, entries and letter counts, or the refusal of 14, 1 to 8 or 13, which leaves them as they were.
@@ -102,9 +102,9 @@ pub fn read_pair_line(
     marks: &mut [u8],
     entries: &mut [u16],
     counts: &mut [u16; 64],
-) -> PairLine
+) -> ReadLine
     ensures { λ r. ⌜
-        (saidPairLine r, (pairWith (now (letters .exit)) (now (marks .exit)) (now (entries .exit)), now (counts .exit)))
+        (saidReadLine r, (pairWith (now (letters .exit)) (now (marks .exit)) (now (entries .exit)), now (counts .exit)))
         ≡ readPRun (now (text .entry)) (pairWith (now (letters .entry)) (now (marks .entry)) (now (entries .entry)))
         (now (counts .entry))
         ⌝ }
@@ -114,10 +114,10 @@ pub fn read_pair_line(
     let mut places = no_letters();
     let line = scan_pair(text, &mut values, &mut steps, &mut places);
     match line {
-        Line::Broken(place) => PairLine::Refused(Refusal::Line(place)),
+        Line::Broken(place) => ReadLine::Refused(Refusal::Line(place)),
         Line::Read(rank, count, _) => {
             if let Verdict::Refused(refusal) = check_limits(rank, count) {
-                return PairLine::Refused(refusal);
+                return ReadLine::Refused(refusal);
             }
             let bytes = narrow_letters(&values[0..count]);
             store_pair(

@@ -3,7 +3,7 @@ use buffers::copies::copy_bytes;
 use line_items::letters::narrow_letters;
 use line_items::room::no_letters;
 use line_items::room::no_marks;
-use refusals::answers::TableauLine;
+use refusals::answers::ReadLine;
 use refusals::answers::Verdict;
 use refusals::chains::check_limits;
 use refusals::chains::or_else;
@@ -19,7 +19,7 @@ ghost use lib.ListN.{length};
 ghost use Rattle.outcomes.specs.Judgements.{roomJudged, tableauJudgements};
 ghost use Rattle.outcomes.specs.LineReadings.{readTRun, tableauRead};
 ghost use Rattle.refusals.specs.Running.{checksThen};
-ghost use Rattle.refusals.specs.Said.{saidTableauLine, saidVerdict};
+ghost use Rattle.refusals.specs.Said.{saidReadLine, saidVerdict};
 ghost use Rattle.readers.specs.Stores.{Copied};
 
 // 1 to 6 of a tableau that was read, and 13 of lent letters and marks.
@@ -61,9 +61,9 @@ fn store_tableau(
     letters: &mut [u8],
     marks: &mut [u8],
     counts: &mut [u16; 64],
-) -> TableauLine
+) -> ReadLine
     ensures { λ r. ⌜
-        (saidTableauLine r, (now (letters .exit), (now (marks .exit), now (counts .exit))))
+        (saidReadLine r, (now (letters .exit), (now (marks .exit), now (counts .exit))))
         ≡ tableauRead (now (letters .entry)) (now (marks .entry)) (now (counts .entry)) rank (now (cells .entry)) (now (steps .entry))
         ⌝ }
 {
@@ -74,11 +74,11 @@ fn store_tableau(
         letters.len(),
         marks.len(),
     ) {
-        return TableauLine::Refused(refusal);
+        return ReadLine::Refused(refusal);
     }
     copy_cells(cells, steps, letters, marks);
     *counts = letter_counts(rank, cells);
-    TableauLine::Tableau(rank, cells.len())
+    ReadLine::Values(rank, cells.len())
 }
 
 // The tableau of a T line into lent letters, marks and letter counts, or the refusal of 14, 1 to 6 or 13, which leaves them as they were.
@@ -87,9 +87,9 @@ pub fn read_tableau_line(
     letters: &mut [u8],
     marks: &mut [u8],
     counts: &mut [u16; 64],
-) -> TableauLine
+) -> ReadLine
     ensures { λ r. ⌜
-        (saidTableauLine r, (now (letters .exit), (now (marks .exit), now (counts .exit))))
+        (saidReadLine r, (now (letters .exit), (now (marks .exit), now (counts .exit))))
         ≡ readTRun (now (text .entry)) (now (letters .entry)) (now (marks .entry)) (now (counts .entry))
         ⌝ }
 {
@@ -97,10 +97,10 @@ pub fn read_tableau_line(
     let mut steps = no_marks();
     let line = scan_line(text, b'T', true, true, &mut values, &mut steps);
     match line {
-        Line::Broken(place) => TableauLine::Refused(Refusal::Line(place)),
+        Line::Broken(place) => ReadLine::Refused(Refusal::Line(place)),
         Line::Read(rank, count, _) => {
             if let Verdict::Refused(refusal) = check_limits(rank, count) {
-                return TableauLine::Refused(refusal);
+                return ReadLine::Refused(refusal);
             }
             let bytes = narrow_letters(&values[0..count]);
             store_tableau(

@@ -3,8 +3,7 @@
 --     number, place      of a refusal, as the tables of documents 01 and 02 fix them
 --     saidRefusal        a refusal
 --     saidFault k        the first fault that a scan for refusal k finds
---     saidVerdict, saidMove, saidRepeat, saidJunctions, saidNumbered, saidClass, saidWeights, saidWritten, saidUsed, saidCell, saidWordLine, saidTableauLine,
---     saidPairLine
+--     saidVerdict, saidMove, saidRepeat, saidJunctions, saidNumbered, saidClass, saidWeights, saidWritten, saidUsed, saidCell, saidReadLine
 --                        the answers
 -- That each of them tells all cases apart is proofs/Theory/Apart. Assumes nothing.
 use Prim.Native.Nat.{ℕ}
@@ -34,12 +33,8 @@ use Rattle.refusals.specs.declared.answers.Used.{Used}
 use Rattle.refusals.specs.declared.answers.Used.the-variants as used
 use Rattle.refusals.specs.declared.answers.Cell.{Cell}
 use Rattle.refusals.specs.declared.answers.Cell.the-variants as cell
-use Rattle.refusals.specs.declared.answers.WordLine.{WordLine}
-use Rattle.refusals.specs.declared.answers.WordLine.the-variants as wordLine
-use Rattle.refusals.specs.declared.answers.TableauLine.{TableauLine}
-use Rattle.refusals.specs.declared.answers.TableauLine.the-variants as tableauLine
-use Rattle.refusals.specs.declared.answers.PairLine.{PairLine}
-use Rattle.refusals.specs.declared.answers.PairLine.the-variants as pairLine
+use Rattle.refusals.specs.declared.answers.ReadLine.{ReadLine}
+use Rattle.refusals.specs.declared.answers.ReadLine.the-variants as readLine
 
 abbrev pub number : Refusal → ℕ
 number Rank = 1
@@ -145,17 +140,7 @@ saidCell (cell.Found letter row column) = gives (letter ∷ row ∷ column ∷ [
 saidCell cell.NoSuchCell = gives []
 saidCell (cell.Refused r) = saidRefusal r
 
--- Rank and number of letters.
-abbrev pub saidWordLine : WordLine → Said
-saidWordLine (wordLine.Word n l) = gives (n ∷ l ∷ [])
-saidWordLine (wordLine.Refused r) = saidRefusal r
-
--- Rank and number of cells.
-abbrev pub saidTableauLine : TableauLine → Said
-saidTableauLine (tableauLine.Tableau n l) = gives (n ∷ l ∷ [])
-saidTableauLine (tableauLine.Refused r) = saidRefusal r
-
--- Rank and number of cells.
-abbrev pub saidPairLine : PairLine → Said
-saidPairLine (pairLine.Pair n l) = gives (n ∷ l ∷ [])
-saidPairLine (pairLine.Refused r) = saidRefusal r
+-- Rank and number of letters or cells.
+abbrev pub saidReadLine : ReadLine → Said
+saidReadLine (readLine.Values n l) = gives (n ∷ l ∷ [])
+saidReadLine (readLine.Refused r) = saidRefusal r

@@ -73,20 +73,8 @@ pub enum Cell {
     Refused(Refusal),
 }
 
-// What the reader of a W line answers: rank and number of letters.
-pub enum WordLine {
-    Word(usize, usize),
-    Refused(Refusal),
-}
-
-// What the readers of T lines and of C lines answer: rank and number of cells.
-pub enum TableauLine {
-    Tableau(usize, usize),
-    Refused(Refusal),
-}
-
-// What the reader of a P line answers: rank and number of cells.
-pub enum PairLine {
-    Pair(usize, usize),
+// What the reader of a line answers: rank and number of letters or cells.
+pub enum ReadLine {
+    Values(usize, usize),
     Refused(Refusal),
 }

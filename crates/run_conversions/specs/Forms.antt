@@ -24,10 +24,10 @@ use Rattle.outcomes.proofs.Theory.Judgements.{room-judged}
 use Rattle.outcomes.proofs.Theory.Memory.{written-length, written-needed}
 use Rattle.outcomes.proofs.Theory.Passing.{Passing, first-answer, passing-before, ran-answer}
 use Rattle.refusals.specs.Outcomes.{not-both, same-values}
-use Rattle.refusals.specs.Said.{saidRefusal, saidTableauLine}
+use Rattle.refusals.specs.Said.{saidRefusal, saidReadLine}
 use Rattle.refusals.specs.declared.refusal.Refusal.{Refusal}
-use Rattle.refusals.specs.declared.answers.TableauLine.{TableauLine}
-use Rattle.refusals.specs.declared.answers.TableauLine.the-variants.{Refused, Tableau}
+use Rattle.refusals.specs.declared.answers.ReadLine.{ReadLine}
+use Rattle.refusals.specs.declared.answers.ReadLine.the-variants.{Refused, Values}
 
 -- So many letters and marks, within the limit.
 pub record Sized (size : ℕ) (xs ms : List ℕ) : Type 0 where
@@ -47,14 +47,14 @@ pub record Form (A : Type 0) : Type 0 where
 -- ---- answers
 
 -- What a writer answers where a reader has: how many cells, or the refusal.
-abbrev pub asWritten : TableauLine → Said
-asWritten (Tableau n m) = gives (m ∷ [])
+abbrev pub asWritten : ReadLine → Said
+asWritten (Values n m) = gives (m ∷ [])
 asWritten (Refused q) = saidRefusal q
 
-pub written-cells : (line : TableauLine) (n m : ℕ) → line ≡ Tableau n m → gives (m ∷ []) ≡ asWritten line
+pub written-cells : (line : ReadLine) (n m : ℕ) → line ≡ Values n m → gives (m ∷ []) ≡ asWritten line
 written-cells line n m h = sym (ap asWritten h)
 
-pub written-refused : (line : TableauLine) (q : Refusal) → line ≡ Refused q → saidRefusal q ≡ asWritten line
+pub written-refused : (line : ReadLine) (q : Refusal) → line ≡ Refused q → saidRefusal q ≡ asWritten line
 written-refused line q h = sym (ap asWritten h)
 
 -- What a reader replies, and memory: letters, marks and letter counts.
@@ -110,17 +110,17 @@ module _ {A : Type 0} (f : Form A) (ls ks cs : List ℕ) (long : 1024 ≤ length
   enough a h = let short : f .size a ≤ 1024 = f .sized a h .short in (room-judged _ _ .1 (omega arith), (room-judged _ _ .1 (omega arith), tt))
 
   -- The reader's answer, and memory after it.
-  module _ (text : List ℕ) (made : TableauLine) (xs ms ds : List ℕ) where
+  module _ (text : List ℕ) (made : ReadLine) (xs ms ds : List ℕ) where
     abbrev Replied : Read A → Type 0
-    Replied reading = (saidTableauLine made, (xs, (ms, ds))) ≡ readRun text (stored f ls ks cs) (ls, (ks, cs)) reading
+    Replied reading = (saidReadLine made, (xs, (ms, ds))) ≡ readRun text (stored f ls ks cs) (ls, (ks, cs)) reading
 
     -- A refusal.
     pub line-refused : (reading : Read A) → Replied reading → (q : Refusal) → made ≡ Refused q → (bytes : A → List ℕ) (out : List ℕ)
         → (asWritten made, out) ≡ readRun text (λ a. lineRun (f .judged a) (bytes a) out) out reading
     line-refused (broken rest) e q h bytes out =
-        ap (λ (s : Said). (s, out)) (rw h (sym (ap saidTableauLine h) ∙ ap (λ (o : Reply). o .0) e))
+        ap (λ (s : Said). (s, out)) (rw h (sym (ap saidReadLine h) ∙ ap (λ (o : Reply). o .0) e))
     line-refused (got a rest) e q h bytes out =
-        let says = sym (ap (λ (o : Reply). o .0) e) ∙ ap saidTableauLine h in
+        let says = sym (ap (λ (o : Reply). o .0) e) ∙ ap saidReadLine h in
         rw (
           h,
           first-stays (f .judged a) (tableauRooms (f .size a) (length ls) (length ks)) (roomJudged (length (bytes a)) (length out) ∷ []) _
@@ -128,16 +128,16 @@ module _ {A : Type 0} (f : Form A) (ls ks cs : List ℕ) (long : 1024 ≤ length
         )
 
     -- Rank and cells.
-    pub line-kept : (reading : Read A) → Replied reading → (n m : ℕ) → made ≡ Tableau n m → Kept f reading n m xs ms
+    pub line-kept : (reading : Read A) → Replied reading → (n m : ℕ) → made ≡ Values n m → Kept f reading n m xs ms
     line-kept (broken rest) e n m h =
-        absurd (not-both (sym (ap saidTableauLine h) ∙ ap (λ (o : Reply). o .0) e))
+        absurd (not-both (sym (ap saidReadLine h) ∙ ap (λ (o : Reply). o .0) e))
     line-kept (got a rest) e n m h =
         let given : gives (n ∷ m ∷ []) ≡ first (f .judged a ++ tableauRooms (f .size a) (length ls) (length ks)) (gives (f .rank a ∷ f .size a ∷ [])) =
-        sym (ap saidTableauLine h) ∙ ap (λ (o : Reply). o .0) e in
+        sym (ap saidReadLine h) ∙ ap (λ (o : Reply). o .0) e in
         let passes : Passing (f .judged a) = passing-before (f .judged a) _ _ (subst Passes given tt) in
         let sized : Sized (f .size a) (f .letters a) (f .marks a) = f .sized a passes in
         let all = e ∙ ran-answer (f .judged a) (tableauRooms (f .size a) (length ls) (length ks)) _ _ _ passes (enough a passes) in
-        let values : n ∷ m ∷ [] ≡ f .rank a ∷ f .size a ∷ [] = same-values (sym (ap saidTableauLine h) ∙ ap (λ (o : Reply). o .0) all) in
+        let values : n ∷ m ∷ [] ≡ f .rank a ∷ f .size a ∷ [] = same-values (sym (ap saidReadLine h) ∙ ap (λ (o : Reply). o .0) all) in
         let size : m ≡ f .size a = ap (λ (vs : List ℕ). getD vs 1 0) values in
         let is-letters : xs ≡ written (f .letters a) ls = ap (λ (o : Reply). o .1 .0) all in
         let is-marks : ms ≡ written (f .marks a) ks = ap (λ (o : Reply). o .1 .1 .0) all in

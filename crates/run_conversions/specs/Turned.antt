@@ -18,10 +18,10 @@ use Rattle.outcomes.proofs.Theory.Judged.{tableau-passing}
 use Rattle.outcomes.proofs.Theory.Judgements.{alike-judged, length-judged}
 use Rattle.outcomes.proofs.Theory.LineResults.{past-checks}
 use Rattle.outcomes.proofs.Theory.Passing.{Passing}
-use Rattle.refusals.specs.Said.{saidTableauLine}
+use Rattle.refusals.specs.Said.{saidReadLine}
 use Rattle.refusals.specs.declared.refusal.Refusal.{Refusal}
-use Rattle.refusals.specs.declared.answers.TableauLine.{TableauLine}
-use Rattle.refusals.specs.declared.answers.TableauLine.the-variants.{Refused, Tableau}
+use Rattle.refusals.specs.declared.answers.ReadLine.{ReadLine}
+use Rattle.refusals.specs.declared.answers.ReadLine.the-variants.{Refused, Values}
 use Rattle.run_lines.specs.Judgements.{runJudgements}
 use Rattle.run_lines.specs.Operations.{cLineRun, readCRun, runLine, runsToTableauRun, runsTurned, tableauToRunsRun}
 use Rattle.run_lines.specs.Runs.{runCells, runLetters, runMarks}
@@ -62,7 +62,7 @@ runsForm = record {
 
 -- ---- from T to C
 
-module _ (text ls ks cs xs ms ds : List ℕ) (made : TableauLine) (e : (saidTableauLine made, (xs, (ms, ds))) ≡ readTRun text ls ks cs)
+module _ (text ls ks cs xs ms ds : List ℕ) (made : ReadLine) (e : (saidReadLine made, (xs, (ms, ds))) ≡ readTRun text ls ks cs)
     (long : 1024 ≤ length ls) (long′ : 1024 ≤ length ks) where
   pub to-runs-refused : {s : Said} (q : Refusal) (out : List ℕ) → made ≡ Refused q → s ≡ asWritten made → (s, out) ≡ tableauToRunsRun text out
   unfolding readTRun tableauToRunsRun cLineRun
@@ -70,17 +70,17 @@ module _ (text ls ks cs xs ms ds : List ℕ) (made : TableauLine) (e : (saidTabl
       ap (λ (t : Said). (t, out)) g
       ∙ line-refused tableauForm ls ks cs long long′ text made xs ms ds (readT text) e q h (λ v. runLine (v .0) (v .1) (v .2)) out
 
-  tableau-kept : (n m : ℕ) → made ≡ Tableau n m → Kept tableauForm (readT text) n m xs ms
+  tableau-kept : (n m : ℕ) → made ≡ Values n m → Kept tableauForm (readT text) n m xs ms
   unfolding readTRun
   tableau-kept n m h = line-kept tableauForm ls ks cs long long′ text made xs ms ds (readT text) e n m h
 
-  pub to-runs-letters : (n m : ℕ) → made ≡ Tableau n m → m ≤ length xs
+  pub to-runs-letters : (n m : ℕ) → made ≡ Values n m → m ≤ length xs
   to-runs-letters n m h = tableau-kept n m h .letters-reach
 
-  pub to-runs-marks : (n m : ℕ) → made ≡ Tableau n m → m ≤ length ms
+  pub to-runs-marks : (n m : ℕ) → made ≡ Values n m → m ≤ length ms
   to-runs-marks n m h = tableau-kept n m h .marks-reach
 
-  pub to-runs-made : {p : Said × List ℕ} (n m : ℕ) (out : List ℕ) → made ≡ Tableau n m → p ≡ cLineRun n (take (m - 0) xs) (take (m - 0) ms) out
+  pub to-runs-made : {p : Said × List ℕ} (n m : ℕ) (out : List ℕ) → made ≡ Values n m → p ≡ cLineRun n (take (m - 0) xs) (take (m - 0) ms) out
       → p ≡ tableauToRunsRun text out
   unfolding tableauToRunsRun
   to-runs-made n m out h g =
@@ -98,7 +98,7 @@ turned-line text n L rs rest out e h =
     let passes = tableau-passing n (runLetters rs) (runMarks rs) .1 (c-values text n L rs rest e h .0) in
     sym (past-checks (tableauJudgements n (runLetters rs) (runMarks rs)) bytes out passes) ∙ past-checks (runJudgements n L rs) bytes out h
 
-module _ (text ls ks cs xs ms ds : List ℕ) (made : TableauLine) (e : (saidTableauLine made, (xs, (ms, ds))) ≡ readCRun text ls ks cs)
+module _ (text ls ks cs xs ms ds : List ℕ) (made : ReadLine) (e : (saidReadLine made, (xs, (ms, ds))) ≡ readCRun text ls ks cs)
     (long : 1024 ≤ length ls) (long′ : 1024 ≤ length ks) where
   pub to-tableau-refused : {s : Said} (q : Refusal) (out : List ℕ) → made ≡ Refused q → s ≡ asWritten made → (s, out) ≡ runsToTableauRun text out
   unfolding readCRun runsToTableauRun
@@ -106,17 +106,17 @@ module _ (text ls ks cs xs ms ds : List ℕ) (made : TableauLine) (e : (saidTabl
       ap (λ (t : Said). (t, out)) g
       ∙ line-refused runsForm ls ks cs long long′ text made xs ms ds (readC text) e q h (λ v. tLine (v .0) (runLetters (v .2)) (runMarks (v .2))) out
 
-  runs-kept : (n m : ℕ) → made ≡ Tableau n m → Kept runsForm (readC text) n m xs ms
+  runs-kept : (n m : ℕ) → made ≡ Values n m → Kept runsForm (readC text) n m xs ms
   unfolding readCRun
   runs-kept n m h = line-kept runsForm ls ks cs long long′ text made xs ms ds (readC text) e n m h
 
-  pub to-tableau-letters : (n m : ℕ) → made ≡ Tableau n m → m ≤ length xs
+  pub to-tableau-letters : (n m : ℕ) → made ≡ Values n m → m ≤ length xs
   to-tableau-letters n m h = runs-kept n m h .letters-reach
 
-  pub to-tableau-marks : (n m : ℕ) → made ≡ Tableau n m → m ≤ length ms
+  pub to-tableau-marks : (n m : ℕ) → made ≡ Values n m → m ≤ length ms
   to-tableau-marks n m h = runs-kept n m h .marks-reach
 
-  pub to-tableau-made : {p : Said × List ℕ} (n m : ℕ) (out : List ℕ) → made ≡ Tableau n m → p ≡ tLineRun n (take (m - 0) xs) (take (m - 0) ms) out
+  pub to-tableau-made : {p : Said × List ℕ} (n m : ℕ) (out : List ℕ) → made ≡ Values n m → p ≡ tLineRun n (take (m - 0) xs) (take (m - 0) ms) out
       → p ≡ runsToTableauRun text out
   unfolding runsToTableauRun
   to-tableau-made n m out h g =

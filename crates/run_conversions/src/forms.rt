@@ -1,6 +1,6 @@
 // T lines and C lines turned into each other. A text is read into local memory that has room for every tableau, and then the other form is written.
 use readers::tableau::read_tableau_line;
-use refusals::answers::TableauLine;
+use refusals::answers::ReadLine;
 use refusals::answers::Written;
 use run_readers::runs::read_run_line;
 use writers::line::write_run_line;
@@ -11,12 +11,12 @@ ghost use Rattle.run_lines.specs.Operations.{runsToTableauRun, tableauToRunsRun
 ghost use Rattle.run_conversions.specs.Forms.{asWritten};
 
 // What a writer answers where a reader has: how many cells were read, or the refusal.
-fn as_written(line: TableauLine) -> Written
+fn as_written(line: ReadLine) -> Written
     ensures { λ r. ⌜ saidWritten r ≡ asWritten line ⌝ }
 {
     match line {
-        TableauLine::Tableau(_, cells) => Written::Elements(cells),
-        TableauLine::Refused(refusal) => Written::Refused(refusal),
+        ReadLine::Values(_, cells) => Written::Elements(cells),
+        ReadLine::Refused(refusal) => Written::Refused(refusal),
     }
 }
 
@@ -28,7 +28,7 @@ pub fn tableau_to_runs(text: &[u8], out: &mut [u8]) -> Written
     let mut marks = [0u8; 1024];
     let mut counts = [0u16; 64];
     let read = read_tableau_line(text, &mut letters, &mut marks, &mut counts);
-    let TableauLine::Tableau(rank, cells) = read else {
+    let ReadLine::Values(rank, cells) = read else {
         return as_written(read);
     };
     write_run_line(rank, &letters[0..cells], &marks[0..cells], out)
@@ -42,7 +42,7 @@ pub fn runs_to_tableau(text: &[u8], out: &mut [u8]) -> Written
     let mut marks = [0u8; 1024];
     let mut counts = [0u16; 64];
     let read = read_run_line(text, &mut letters, &mut marks, &mut counts);
-    let TableauLine::Tableau(rank, cells) = read else {
+    let ReadLine::Values(rank, cells) = read else {
         return as_written(read);
     };
     write_tableau_line(rank, &letters[0..cells], &marks[0..cells], out)

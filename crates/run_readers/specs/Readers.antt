@@ -9,8 +9,8 @@ use borrow.Author.Needs.{needs}
 use Rattle.grammar.specs.Reading.{readC}
 use Rattle.grammar.proofs.Theory.Sound.{c-sound}
 use Rattle.outcomes.specs.Replies.{refused}
-use Rattle.refusals.specs.Said.{saidTableauLine}
-use Rattle.refusals.specs.declared.answers.TableauLine.{TableauLine}
+use Rattle.refusals.specs.Said.{saidReadLine}
+use Rattle.refusals.specs.declared.answers.ReadLine.{ReadLine}
 use Rattle.line_items.specs.Items.{break-place}
 use Rattle.run_lines.specs.Operations.{readCRun}
 use Rattle.run_lines.proofs.Theory.Judged.{good-marks}
@@ -28,9 +28,9 @@ module _ {text ts ms : List ℕ} {r : RunLine} (s : RunsScanned text (readC text
       let f = run-line-broken s e in
       rw (f .says, break-place text p (f .within))
 
-  pub runs-stored : {n k : ℕ} {y : Tally} {letters′ marks′ counts′ : List ℕ} (reply : TableauLine) → r ≡ runs.Read n k y
+  pub runs-stored : {n k : ℕ} {y : Tally} {letters′ marks′ counts′ : List ℕ} (reply : ReadLine) → r ≡ runs.Read n k y
       → Stored n k y ts ms letters marks counts letters′ marks′ counts′ reply
-      → (saidTableauLine reply, (letters′, (marks′, counts′))) ≡ readCRun text letters marks counts
+      → (saidReadLine reply, (letters′, (marks′, counts′))) ≡ readCRun text letters marks counts
   unfolding readCRun
   runs-stored {n} {k} {y} reply e h =
       let f = run-line-read s e in

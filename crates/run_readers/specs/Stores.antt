@@ -18,12 +18,12 @@ use Rattle.outcomes.specs.Replies.{first, orElse, passed}
 use Rattle.hypoplactic.specs.Words.{Within}
 use Rattle.outcomes.proofs.Theory.Judgements.{letters-judged, rank-judged, room-judged}
 use Rattle.refusals.specs.Running.{checked-then, checksThen, following, run-passed, run-refused, then-passing}
-use Rattle.refusals.specs.Said.{saidTableauLine, saidVerdict}
+use Rattle.refusals.specs.Said.{saidReadLine, saidVerdict}
 use Rattle.refusals.specs.declared.refusal.Refusal.{Refusal}
 use Rattle.refusals.specs.declared.answers.Verdict.{Verdict}
 use Rattle.refusals.specs.declared.answers.Verdict.the-variants.{Passed, Refused}
-use Rattle.refusals.specs.declared.answers.TableauLine.{TableauLine}
-use Rattle.refusals.specs.declared.answers.TableauLine.the-variants as line
+use Rattle.refusals.specs.declared.answers.ReadLine.{ReadLine}
+use Rattle.refusals.specs.declared.answers.ReadLine.the-variants as line
 use Rattle.run_lines.specs.Judgements.{itemLetters, runJudgements}
 use Rattle.run_lines.specs.Operations.{runsRead}
 use Rattle.run_lines.specs.Runs.{runCells}
@@ -52,9 +52,9 @@ pub ruleset checking-runs = (rooms-checked, following)
 -- ---- what is stored
 
 -- Whatever items have this tally and these tables, with the marks that the grammar gives.
-pub record Stored (n L : ℕ) (y : Tally) (ts ms letters marks counts letters′ marks′ counts′ : List ℕ) (r : TableauLine) : Type 0 where
+pub record Stored (n L : ℕ) (y : Tally) (ts ms letters marks counts letters′ marks′ counts′ : List ℕ) (r : ReadLine) : Type 0 where
   pub says : (rs : List Run) → MarkedRuns rs → Held n zeros zeros ts ms y rs
-      → (saidTableauLine r, (letters′, (marks′, counts′))) ≡ runsRead letters marks counts n L rs
+      → (saidReadLine r, (letters′, (marks′, counts′))) ≡ runsRead letters marks counts n L rs
 
 -- Two lists as a pair, beside a third.
 both : {xs ms xs′ ms′ cs cs′ : List ℕ} {p : List ℕ × List ℕ} → (xs, ms) ≡ p → p ≡ (xs′, ms′) → cs ≡ cs′

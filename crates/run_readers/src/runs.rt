@@ -1,7 +1,7 @@
 // The reader of C lines: the tableau of a line into lent letters and marks, and its letter counts. A line's items are not kept themselves: the checks are made by
 // their tally, and a line that passes them has one item at most for each letter, so that two tables by letter tell all of them.
 use fillings::steps::fill_runs;
-use refusals::answers::TableauLine;
+use refusals::answers::ReadLine;
 use refusals::answers::Verdict;
 use refusals::chains::or_else;
 use refusals::numbers::check_room;
@@ -11,7 +11,7 @@ use run_scans::line::scan_runs;
 use run_tallies::checks::check_tally;
 use run_tallies::tally::Tally;
 ghost use mathlib.Core.Path.{_≡_};
-ghost use Rattle.refusals.specs.Said.{saidTableauLine};
+ghost use Rattle.refusals.specs.Said.{saidReadLine};
 ghost use Rattle.run_lines.specs.Operations.{readCRun};
 ghost use Rattle.run_readers.specs.Stores.{RunsChecked, Stored};
 
@@ -33,18 +33,18 @@ fn store_runs(
     letters: &mut [u8],
     marks: &mut [u8],
     counts: &mut [u16; 64],
-) -> TableauLine
+) -> ReadLine
     ensures { λ r. ⌜
         Stored rank size tally (now (times .entry)) (now (steps .entry)) (now (letters .entry)) (now (marks .entry)) (now (counts .entry))
         (now (letters .exit)) (now (marks .exit)) (now (counts .exit)) r
         ⌝ }
 {
     if let Verdict::Refused(refusal) = check_runs(rank, size, tally, letters.len(), marks.len()) {
-        return TableauLine::Refused(refusal);
+        return ReadLine::Refused(refusal);
     }
     fill_runs(rank, times, steps, letters, marks);
     *counts = *times;
-    TableauLine::Tableau(rank, size)
+    ReadLine::Values(rank, size)
 }
 
 // The tableau of a C line into lent letters, marks and letter counts, or the refusal of 14, 1, 2, 4, 19, 20 or 13, which leaves them as they were.
@@ -53,9 +53,9 @@ pub fn read_run_line(
     letters: &mut [u8],
     marks: &mut [u8],
     counts: &mut [u16; 64],
-) -> TableauLine
+) -> ReadLine
     ensures { λ r. ⌜
-        (saidTableauLine r, (now (letters .exit), (now (marks .exit), now (counts .exit))))
+        (saidReadLine r, (now (letters .exit), (now (marks .exit), now (counts .exit))))
         ≡ readCRun (now (text .entry)) (now (letters .entry)) (now (marks .entry)) (now (counts .entry))
         ⌝ }
 {
@@ -63,7 +63,7 @@ pub fn read_run_line(
     let mut steps = [0u8; 64];
     let line = scan_runs(text, &mut times, &mut steps);
     match line {
-        RunLine::Broken(place) => TableauLine::Refused(Refusal::Line(place)),
+        RunLine::Broken(place) => ReadLine::Refused(Refusal::Line(place)),
         RunLine::Read(rank, size, tally) => store_runs(
             rank,
             size,

@@ -3,15 +3,15 @@
 --     done-said, ..       the same said, the same replied
 --     done-refused, ..    a refusal told by its number and place
 --     verdict-case, ..    an answer by its case
---     refusedWord, ..     the refusal that a reader's answer passes on; word-passes, ..: the one that a refused answer has; word-refused-told, ..: that
---                         it is what the answer says
+--     refusedReading      the refusal that a reader's answer passes on; reading-passes: the one that a refused answer has; reading-refused-told: that it
+--                         is what the answer says
 --     replying            the ruleset of all of them
 -- Assumes nothing.
 use Prim.Native.Nat.{ℕ}
 use mathlib.Core.Path.{_≡_, _∙_}
 use borrow.Author.Needs.{needs}
 use Rattle.outcomes.specs.Replies.{Said, refused}
-use Rattle.refusals.specs.Said.{number, place, saidRefusal, saidVerdict, saidMove, saidWritten, saidUsed, saidRepeat, saidClass, saidWeights, saidJunctions, saidNumbered, saidWordLine, saidTableauLine, saidPairLine, saidCell}
+use Rattle.refusals.specs.Said.{number, place, saidRefusal, saidVerdict, saidMove, saidWritten, saidUsed, saidRepeat, saidClass, saidWeights, saidJunctions, saidNumbered, saidReadLine, saidCell}
 use Rattle.refusals.specs.declared.refusal.Refusal.{Refusal}
 use Rattle.refusals.specs.declared.refusal.Refusal.the-variants.{Line}
 use Rattle.refusals.specs.declared.answers.Verdict.{Verdict}
@@ -23,12 +23,8 @@ use Rattle.refusals.specs.declared.answers.Class.{Class}
 use Rattle.refusals.specs.declared.answers.Weights.{Weights}
 use Rattle.refusals.specs.declared.answers.Junctions.{Junctions}
 use Rattle.refusals.specs.declared.answers.Numbered.{Numbered}
-use Rattle.refusals.specs.declared.answers.WordLine.{WordLine}
-use Rattle.refusals.specs.declared.answers.WordLine.the-variants as wordLine
-use Rattle.refusals.specs.declared.answers.TableauLine.{TableauLine}
-use Rattle.refusals.specs.declared.answers.TableauLine.the-variants as tableauLine
-use Rattle.refusals.specs.declared.answers.PairLine.{PairLine}
-use Rattle.refusals.specs.declared.answers.PairLine.the-variants as pairLine
+use Rattle.refusals.specs.declared.answers.ReadLine.{ReadLine}
+use Rattle.refusals.specs.declared.answers.ReadLine.the-variants as readLine
 use Rattle.refusals.specs.declared.answers.Cell.{Cell}
 use Rattle.structs.specs.declared.replies.DoneReply.{DoneReply}
 use Rattle.structs.specs.declared.replies.MoveReply.{MoveReply}
@@ -125,53 +121,25 @@ junctions-case e h = rw e h
 pub numbered-case : {a b : Numbered} {r : ValueReply} → a ≡ b → r ≡ valueOf (saidNumbered b) → r ≡ valueOf (saidNumbered a)
 numbered-case e h = rw e h
 
-pub word-line-case : {a b : WordLine} {r : LineReply} → a ≡ b → r ≡ lineOf (saidWordLine b) → r ≡ lineOf (saidWordLine a)
-word-line-case e h = rw e h
-
-pub tableau-line-case : {a b : TableauLine} {r : LineReply} → a ≡ b → r ≡ lineOf (saidTableauLine b) → r ≡ lineOf (saidTableauLine a)
-tableau-line-case e h = rw e h
-
-pub pair-line-case : {a b : PairLine} {r : LineReply} → a ≡ b → r ≡ lineOf (saidPairLine b) → r ≡ lineOf (saidPairLine a)
-pair-line-case e h = rw e h
+pub read-line-case : {a b : ReadLine} {r : LineReply} → a ≡ b → r ≡ lineOf (saidReadLine b) → r ≡ lineOf (saidReadLine a)
+read-line-case e h = rw e h
 
 pub cell-case : {a b : Cell} {r : CellReply} → a ≡ b → r ≡ cellOf (saidCell b) → r ≡ cellOf (saidCell a)
 cell-case e h = rw e h
 
--- ---- readers' answers
+-- ---- a reader's answer
 
--- The refusal that a reader's answer passes on. Where it passes none on, the code that asks is never reached, and any would do.
-abbrev pub refusedWord : WordLine → Refusal
-refusedWord (wordLine.Word n l) = Line 0
-refusedWord (wordLine.Refused q) = q
+-- The refusal that it passes on. Where it passes none on, the code that asks is never reached, and any would do.
+abbrev pub refusedReading : ReadLine → Refusal
+refusedReading (readLine.Values n l) = Line 0
+refusedReading (readLine.Refused q) = q
 
-abbrev pub refusedTableau : TableauLine → Refusal
-refusedTableau (tableauLine.Tableau n l) = Line 0
-refusedTableau (tableauLine.Refused q) = q
+pub reading-passes : {a : ReadLine} {q : Refusal} → a ≡ readLine.Refused q → q ≡ refusedReading a
+reading-passes e = rw e
 
-abbrev pub refusedPair : PairLine → Refusal
-refusedPair (pairLine.Pair n l) = Line 0
-refusedPair (pairLine.Refused q) = q
-
-pub word-passes : {a : WordLine} {q : Refusal} → a ≡ wordLine.Refused q → q ≡ refusedWord a
-word-passes e = rw e
-
-pub tableau-passes : {a : TableauLine} {q : Refusal} → a ≡ tableauLine.Refused q → q ≡ refusedTableau a
-tableau-passes e = rw e
-
-pub pair-passes : {a : PairLine} {q : Refusal} → a ≡ pairLine.Refused q → q ≡ refusedPair a
-pair-passes e = rw e
-
-pub word-refused-told : {a : WordLine} {q p : Refusal} {r : LineReply} → a ≡ wordLine.Refused q → p ≡ refusedWord a
-    → r ≡ lineOf (saidRefusal p) → r ≡ lineOf (saidWordLine a)
-word-refused-told e f h = rw e (h ∙ rw (f, e))
-
-pub tableau-refused-told : {a : TableauLine} {q p : Refusal} {r : LineReply} → a ≡ tableauLine.Refused q → p ≡ refusedTableau a
-    → r ≡ lineOf (saidRefusal p) → r ≡ lineOf (saidTableauLine a)
-tableau-refused-told e f h = rw e (h ∙ rw (f, e))
-
-pub pair-refused-told : {a : PairLine} {q p : Refusal} {r : LineReply} → a ≡ pairLine.Refused q → p ≡ refusedPair a
-    → r ≡ lineOf (saidRefusal p) → r ≡ lineOf (saidPairLine a)
-pair-refused-told e f h = rw e (h ∙ rw (f, e))
+pub reading-refused-told : {a : ReadLine} {q p : Refusal} {r : LineReply} → a ≡ readLine.Refused q → p ≡ refusedReading a
+    → r ≡ lineOf (saidRefusal p) → r ≡ lineOf (saidReadLine a)
+reading-refused-told e f h = rw e (h ∙ rw (f, e))
 
 pub ruleset replying = (
   passed-on,
@@ -200,15 +168,9 @@ pub ruleset replying = (
   weights-case,
   junctions-case,
   numbered-case,
-  word-line-case,
-  tableau-line-case,
-  pair-line-case,
+  read-line-case,
   cell-case,
-  word-passes,
-  tableau-passes,
-  pair-passes,
-  word-refused-told,
-  tableau-refused-told,
-  pair-refused-told,
+  reading-passes,
+  reading-refused-told,
   needs,
 )

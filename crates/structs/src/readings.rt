@@ -1,13 +1,11 @@
 // What readers of lines answer, as structs of the C interface.
 use crate::replies::LineReply;
-use refusals::answers::PairLine;
-use refusals::answers::TableauLine;
-use refusals::answers::WordLine;
+use refusals::answers::ReadLine;
 use refusals::refusal::Refusal;
 use refusals::refusal::number_and_place;
 ghost use mathlib.Core.Path.{_≡_};
-ghost use Rattle.refusals.specs.Said.{saidPairLine, saidRefusal, saidTableauLine, saidWordLine};
-ghost use Rattle.structs.specs.Handing.{refusedPair, refusedTableau, refusedWord};
+ghost use Rattle.refusals.specs.Said.{saidReadLine, saidRefusal};
+ghost use Rattle.structs.specs.Handing.{refusedReading};
 ghost use Rattle.structs.specs.Replies.{lineOf};
 
 // Rank and number of letters or cells.
@@ -35,62 +33,22 @@ fn line_refused(refusal: Refusal) -> LineReply
     }
 }
 
-// The refusal that the reader of a W line passes on. Its caller has seen that it passes one on; what is told otherwise is never used.
-fn refused_word(answer: WordLine) -> Refusal
-    ensures { λ r. ⌜ r ≡ refusedWord answer ⌝ }
+// The refusal that a reader passes on. Its caller has seen that it passes one on; what is told otherwise is never used.
+fn refused_reading(answer: ReadLine) -> Refusal
+    ensures { λ r. ⌜ r ≡ refusedReading answer ⌝ }
 {
-    let WordLine::Refused(refusal) = answer else {
+    let ReadLine::Refused(refusal) = answer else {
         return Refusal::Line(0);
     };
     refusal
 }
 
-// A W line that was read.
-pub fn word_line_reply(answer: WordLine) -> LineReply
-    ensures { λ r. ⌜ r ≡ lineOf (saidWordLine answer) ⌝ }
+// A line that was read.
+pub fn line_reply(answer: ReadLine) -> LineReply
+    ensures { λ r. ⌜ r ≡ lineOf (saidReadLine answer) ⌝ }
 {
-    let WordLine::Word(rank, count) = answer else {
-        return line_refused(refused_word(answer));
-    };
-    lined(rank, count)
-}
-
-// The refusal that the reader of a T line or a C line passes on. Its caller has seen that it passes one on; what is told otherwise is never used.
-fn refused_tableau(answer: TableauLine) -> Refusal
-    ensures { λ r. ⌜ r ≡ refusedTableau answer ⌝ }
-{
-    let TableauLine::Refused(refusal) = answer else {
-        return Refusal::Line(0);
-    };
-    refusal
-}
-
-// A T line or a C line that was read.
-pub fn tableau_line_reply(answer: TableauLine) -> LineReply
-    ensures { λ r. ⌜ r ≡ lineOf (saidTableauLine answer) ⌝ }
-{
-    let TableauLine::Tableau(rank, count) = answer else {
-        return line_refused(refused_tableau(answer));
-    };
-    lined(rank, count)
-}
-
-// The refusal that the reader of a P line passes on. Its caller has seen that it passes one on; what is told otherwise is never used.
-fn refused_pair(answer: PairLine) -> Refusal
-    ensures { λ r. ⌜ r ≡ refusedPair answer ⌝ }
-{
-    let PairLine::Refused(refusal) = answer else {
-        return Refusal::Line(0);
-    };
-    refusal
-}
-
-// A P line that was read.
-pub fn pair_line_reply(answer: PairLine) -> LineReply
-    ensures { λ r. ⌜ r ≡ lineOf (saidPairLine answer) ⌝ }
-{
-    let PairLine::Pair(rank, count) = answer else {
-        return line_refused(refused_pair(answer));
+    let ReadLine::Values(rank, count) = answer else {
+        return line_refused(refused_reading(answer));
     };
     lined(rank, count)
 }

@@ -3,7 +3,7 @@
 --     refusal-apart                                                     refusals by number and place
 --     fault-apart                                                       the faults that a scan for one refusal finds
 --     verdict-apart, move-apart, repeat-apart, junctions-apart, numbered-apart, class-apart, weights-apart, written-apart,
---     used-apart, cell-apart, word-line-apart, tableau-line-apart, pair-line-apart     the answers
+--     used-apart, cell-apart, read-line-apart     the answers
 -- Assumes nothing.
 use Prim.Native.Nat.{ℕ, _-_}
 use mathlib.Core.Path.{_≡_, refl, sym, ap, _∙_}
@@ -34,13 +34,9 @@ use Rattle.refusals.specs.declared.answers.Used.{Used}
 use Rattle.refusals.specs.declared.answers.Used.the-variants as used
 use Rattle.refusals.specs.declared.answers.Cell.{Cell}
 use Rattle.refusals.specs.declared.answers.Cell.the-variants as cell
-use Rattle.refusals.specs.declared.answers.WordLine.{WordLine}
-use Rattle.refusals.specs.declared.answers.WordLine.the-variants as wordLine
-use Rattle.refusals.specs.declared.answers.TableauLine.{TableauLine}
-use Rattle.refusals.specs.declared.answers.TableauLine.the-variants as tableauLine
-use Rattle.refusals.specs.declared.answers.PairLine.{PairLine}
-use Rattle.refusals.specs.declared.answers.PairLine.the-variants as pairLine
-use Rattle.refusals.specs.Said.{number, place, saidRefusal, saidFault, saidVerdict, saidMove, saidRepeat, saidJunctions, saidNumbered, saidClass, saidWeights, saidWritten, saidUsed, saidCell, saidWordLine, saidTableauLine, saidPairLine}
+use Rattle.refusals.specs.declared.answers.ReadLine.{ReadLine}
+use Rattle.refusals.specs.declared.answers.ReadLine.the-variants as readLine
+use Rattle.refusals.specs.Said.{number, place, saidRefusal, saidFault, saidVerdict, saidMove, saidRepeat, saidJunctions, saidNumbered, saidClass, saidWeights, saidWritten, saidUsed, saidCell, saidReadLine}
 
 -- What can be found again is told apart.
 apart : {A : Type 0} (said : A → Said) (back : Said → A) → ((a : A) → back (said a) ≡ a) → (a b : A) → said a ≡ said b → a ≡ b
@@ -193,26 +189,10 @@ cell-again (cell.Refused r) = ap cell.Refused (row-of r)
 pub cell-apart : (a b : Cell) → saidCell a ≡ saidCell b → a ≡ b
 cell-apart = apart saidCell (answer cellOf cell.Refused) cell-again
 
-word-line-again : (a : WordLine) → answer (λ vs. wordLine.Word (getD vs 0 0) (getD vs 1 0)) wordLine.Refused (saidWordLine a) ≡ a
+read-line-again : (a : ReadLine) → answer (λ vs. readLine.Values (getD vs 0 0) (getD vs 1 0)) readLine.Refused (saidReadLine a) ≡ a
 unfolding answer
-word-line-again (wordLine.Word n l) = refl
-word-line-again (wordLine.Refused r) = ap wordLine.Refused (row-of r)
+read-line-again (readLine.Values n l) = refl
+read-line-again (readLine.Refused r) = ap readLine.Refused (row-of r)
 
-pub word-line-apart : (a b : WordLine) → saidWordLine a ≡ saidWordLine b → a ≡ b
-word-line-apart = apart saidWordLine (answer (λ vs. wordLine.Word (getD vs 0 0) (getD vs 1 0)) wordLine.Refused) word-line-again
-
-tableau-line-again : (a : TableauLine) → answer (λ vs. tableauLine.Tableau (getD vs 0 0) (getD vs 1 0)) tableauLine.Refused (saidTableauLine a) ≡ a
-unfolding answer
-tableau-line-again (tableauLine.Tableau n l) = refl
-tableau-line-again (tableauLine.Refused r) = ap tableauLine.Refused (row-of r)
-
-pub tableau-line-apart : (a b : TableauLine) → saidTableauLine a ≡ saidTableauLine b → a ≡ b
-tableau-line-apart = apart saidTableauLine (answer (λ vs. tableauLine.Tableau (getD vs 0 0) (getD vs 1 0)) tableauLine.Refused) tableau-line-again
-
-pair-line-again : (a : PairLine) → answer (λ vs. pairLine.Pair (getD vs 0 0) (getD vs 1 0)) pairLine.Refused (saidPairLine a) ≡ a
-unfolding answer
-pair-line-again (pairLine.Pair n l) = refl
-pair-line-again (pairLine.Refused r) = ap pairLine.Refused (row-of r)
-
-pub pair-line-apart : (a b : PairLine) → saidPairLine a ≡ saidPairLine b → a ≡ b
-pair-line-apart = apart saidPairLine (answer (λ vs. pairLine.Pair (getD vs 0 0) (getD vs 1 0)) pairLine.Refused) pair-line-again
+pub read-line-apart : (a b : ReadLine) → saidReadLine a ≡ saidReadLine b → a ≡ b
+read-line-apart = apart saidReadLine (answer (λ vs. readLine.Values (getD vs 0 0) (getD vs 1 0)) readLine.Refused) read-line-again

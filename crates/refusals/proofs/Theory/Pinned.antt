@@ -26,10 +26,8 @@ use Rattle.refusals.specs.declared.answers.Weights.the-variants as weigh
 use Rattle.refusals.specs.declared.answers.Written.the-variants as written
 use Rattle.refusals.specs.declared.answers.Used.the-variants as used
 use Rattle.refusals.specs.declared.answers.Cell.the-variants as cell
-use Rattle.refusals.specs.declared.answers.WordLine.the-variants as wordLine
-use Rattle.refusals.specs.declared.answers.TableauLine.the-variants as tableauLine
-use Rattle.refusals.specs.declared.answers.PairLine.the-variants as pairLine
-use Rattle.refusals.specs.Said.{saidRefusal, saidFault, saidVerdict, saidMove, saidRepeat, saidJunctions, saidNumbered, saidClass, saidWeights, saidWritten, saidUsed, saidCell, saidWordLine, saidTableauLine, saidPairLine}
+use Rattle.refusals.specs.declared.answers.ReadLine.the-variants as readLine
+use Rattle.refusals.specs.Said.{saidRefusal, saidFault, saidVerdict, saidMove, saidRepeat, saidJunctions, saidNumbered, saidClass, saidWeights, saidWritten, saidUsed, saidCell, saidReadLine}
 
 -- The rows of the tables.
 pub refusal-table : (p : ℕ)
@@ -50,9 +48,9 @@ pub answer-values : (a b c : ℕ)
     → saidVerdict verdict.Passed ∷ saidMove (move.Made a) ∷ saidRepeat (repeat.Times a) ∷ saidJunctions (junctions.Found a b)
     ∷ saidNumbered (numbered.Number a)
     ∷ saidWritten (written.Elements a) ∷ saidUsed (used.Cells a) ∷ saidCell (cell.Found a b c) ∷ saidCell cell.NoSuchCell
-    ∷ saidWordLine (wordLine.Word a b) ∷ saidTableauLine (tableauLine.Tableau a b) ∷ saidPairLine (pairLine.Pair a b) ∷ []
+    ∷ saidReadLine (readLine.Values a b) ∷ []
     ≡ gives [] ∷ gives (a ∷ []) ∷ gives (a ∷ []) ∷ gives (a ∷ b ∷ []) ∷ gives (a ∷ []) ∷ gives (a ∷ []) ∷ gives (a ∷ []) ∷ gives (a ∷ b ∷ c ∷ []) ∷ gives []
-    ∷ gives (a ∷ b ∷ []) ∷ gives (a ∷ b ∷ []) ∷ gives (a ∷ b ∷ []) ∷ []
+    ∷ gives (a ∷ b ∷ []) ∷ []
 answer-values a b c = refl
 
 -- Yes is 1, no is 0, as sameClassSays gives them.
@@ -70,7 +68,6 @@ pub passed-on : (r : Refusal)
     → saidVerdict (verdict.Refused r) ∷ saidMove (move.Refused r) ∷ saidRepeat (repeat.Refused r) ∷ saidJunctions (junctions.Refused r)
     ∷ saidNumbered (numbered.Refused r)
     ∷ saidClass (class.Refused r) ∷ saidWeights (weights.Refused r) ∷ saidWritten (written.Refused r) ∷ saidUsed (used.Refused r)
-    ∷ saidCell (cell.Refused r) ∷ saidWordLine (wordLine.Refused r) ∷ saidTableauLine (tableauLine.Refused r)
-    ∷ saidPairLine (pairLine.Refused r) ∷ []
-    ≡ replicate 13 (saidRefusal r)
+    ∷ saidCell (cell.Refused r) ∷ saidReadLine (readLine.Refused r) ∷ []
+    ≡ replicate 11 (saidRefusal r)
 passed-on r = refl

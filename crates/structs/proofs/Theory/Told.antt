@@ -2,13 +2,13 @@
 -- refusals' Theory/Apart what is said fixes the answer.
 --     refusal-numbers                  a refusal's number is 1 to 20, never 0
 --     verdict-told, move-told, written-told, used-told, repeat-told, class-told, weights-told, junctions-told, numbered-told,
---     word-line-told, tableau-line-told, pair-line-told, cell-told     the answers
+--     read-line-told, cell-told     the answers
 -- Assumes nothing.
 use Prim.Native.Nat.{ℕ, _≤_}
 use mathlib.Core.Path.{_≡_, refl}
 use mathlib.Core.List.{List}
 use native.Mathlib.Omega.{arith}
-use Rattle.refusals.specs.Said.{number, place, saidRefusal, saidVerdict, saidMove, saidWritten, saidUsed, saidRepeat, saidClass, saidWeights, saidJunctions, saidNumbered, saidWordLine, saidTableauLine, saidPairLine, saidCell}
+use Rattle.refusals.specs.Said.{number, place, saidRefusal, saidVerdict, saidMove, saidWritten, saidUsed, saidRepeat, saidClass, saidWeights, saidJunctions, saidNumbered, saidReadLine, saidCell}
 use Rattle.refusals.specs.declared.refusal.Refusal.{Refusal}
 use Rattle.refusals.specs.declared.refusal.Refusal.the-variants.{Rank, Length, Parts, Letter, Falling, Mark, Entry, Step, Index, Inversion, NoLetter, Full, Room, Line, Large, PastLast, Count, Empty, Item, Sum}
 use Rattle.refusals.specs.declared.answers.Verdict.{Verdict}
@@ -29,12 +29,8 @@ use Rattle.refusals.specs.declared.answers.Junctions.{Junctions}
 use Rattle.refusals.specs.declared.answers.Junctions.the-variants as junctions
 use Rattle.refusals.specs.declared.answers.Numbered.{Numbered}
 use Rattle.refusals.specs.declared.answers.Numbered.the-variants as numbered
-use Rattle.refusals.specs.declared.answers.WordLine.{WordLine}
-use Rattle.refusals.specs.declared.answers.WordLine.the-variants as wordLine
-use Rattle.refusals.specs.declared.answers.TableauLine.{TableauLine}
-use Rattle.refusals.specs.declared.answers.TableauLine.the-variants as tableauLine
-use Rattle.refusals.specs.declared.answers.PairLine.{PairLine}
-use Rattle.refusals.specs.declared.answers.PairLine.the-variants as pairLine
+use Rattle.refusals.specs.declared.answers.ReadLine.{ReadLine}
+use Rattle.refusals.specs.declared.answers.ReadLine.the-variants as readLine
 use Rattle.refusals.specs.declared.answers.Cell.{Cell}
 use Rattle.refusals.specs.declared.answers.Cell.the-variants as cell
 use Rattle.structs.specs.Replies.{doneOf, moveOf, countOf, classOf, orderOf, junctionOf, valueOf, lineOf, cellOf, tells, doneTells, moveTells, countTells, classTells, orderTells, junctionTells, valueTells, lineTells, cellTells}
@@ -127,17 +123,9 @@ pub numbered-told : (a : Numbered) → valueTells (valueOf (saidNumbered a)) ≡
 numbered-told (numbered.Number k) = refl
 numbered-told (numbered.Refused r) = refused-told r _
 
-pub word-line-told : (a : WordLine) → lineTells (lineOf (saidWordLine a)) ≡ saidWordLine a
-word-line-told (wordLine.Word n l) = refl
-word-line-told (wordLine.Refused r) = refused-told r _
-
-pub tableau-line-told : (a : TableauLine) → lineTells (lineOf (saidTableauLine a)) ≡ saidTableauLine a
-tableau-line-told (tableauLine.Tableau n l) = refl
-tableau-line-told (tableauLine.Refused r) = refused-told r _
-
-pub pair-line-told : (a : PairLine) → lineTells (lineOf (saidPairLine a)) ≡ saidPairLine a
-pair-line-told (pairLine.Pair n l) = refl
-pair-line-told (pairLine.Refused r) = refused-told r _
+pub read-line-told : (a : ReadLine) → lineTells (lineOf (saidReadLine a)) ≡ saidReadLine a
+read-line-told (readLine.Values n l) = refl
+read-line-told (readLine.Refused r) = refused-told r _
 
 pub cell-told : (a : Cell) → cellTells (cellOf (saidCell a)) ≡ saidCell a
 cell-told (cell.Found a r c) = refl
