@@ -10,7 +10,7 @@ use lib.ListN.{length, getD, set, take, length-append, length-set}
 use lib.Seq.{append-snoc}
 use borrow.Author.Needs.{needs}
 use Rattle.outcomes.specs.Replies.{written}
-use Rattle.numbering.specs.Orders.{choices, wordAt, wordFrom}
+use Rattle.numbering.specs.Orders.{choices, wordAt, wordAmong}
 use Rattle.refusals.specs.Running.{written-element}
 use Rattle.taken_cells.specs.Numbered.{Sought, cellOfNumber, sought-told}
 use Rattle.taken_cells.specs.Removal.{free-told, takenOut, pulled-long, pulled-told, pulledFree}
@@ -57,7 +57,7 @@ module _ {c : ℕ} {xs ms : List ℕ} {k : ℕ} {old now ys ns : List ℕ} {left
     place-in = omega (arith, h .cells, h .room, h .size)
 
     -- A letter is left.
-    opens : wordAt n (take n ys) (take n ns) left ≡ wordFrom (wordAt (n - 1)) (choices (take n ys) (take n ns)) left
+    opens : wordAt n (take n ys) (take n ns) left ≡ wordAmong (wordAt (n - 1)) (choices (take n ys) (take n ns)) left
     opens = let e : n ≡ suc (n - 1) = omega arith in ap (λ (j : ℕ). wordAt j (take n ys) (take n ns) left) e
 
     small : n ≤ 20

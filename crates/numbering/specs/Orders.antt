@@ -95,14 +95,14 @@ takenWords zero ys ms = [] ∷ []
 takenWords (suc l) ys ms = takenFrom (takenWords l) (choices ys ms)
 
 -- Past the words of the choices before it, the word at place k begins with the letter of a choice.
-abbrev pub wordFrom : (List ℕ → List ℕ → ℕ → List ℕ) → List Choice → ℕ → List ℕ
-wordFrom f [] k = []
-wordFrom f (c ∷ cs) k =
-    cond (ltb k (orders (c .marks))) (c .letter ∷ f (c .letters) (c .marks) k) (wordFrom f cs (k - orders (c .marks)))
+abbrev pub wordAmong : (List ℕ → List ℕ → ℕ → List ℕ) → List Choice → ℕ → List ℕ
+wordAmong f [] k = []
+wordAmong f (c ∷ cs) k =
+    cond (ltb k (orders (c .marks))) (c .letter ∷ f (c .letters) (c .marks) k) (wordAmong f cs (k - orders (c .marks)))
 
 abbrev pub wordAt : ℕ → List ℕ → List ℕ → ℕ → List ℕ
 wordAt zero ys ms k = []
-wordAt (suc l) ys ms k = wordFrom (wordAt l) (choices ys ms) k
+wordAt (suc l) ys ms k = wordAmong (wordAt l) (choices ys ms) k
 
 -- Before a word that begins with a come the words of the choices before that with the letter a, and then some of its own.
 abbrev pub placeFrom : ℕ → (List ℕ → List ℕ → ℕ) → List Choice → ℕ

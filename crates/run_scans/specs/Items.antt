@@ -23,7 +23,7 @@ use Rattle.run_tallies.specs.Leads.{tallied-more}
 use Rattle.run_tallies.specs.Tables.{tabled-more}
 use Rattle.run_tallies.specs.Tallies.{Added, Fresh, Tallied, keptAt, tabled}
 use Rattle.run_tallies.specs.declared.tally.Tally.{Tally}
-use Rattle.scans.specs.Items.{andMore, turned-same}
+use Rattle.scans.specs.Items.{andMore, turned-more, turned-same}
 use Rattle.run_scans.specs.Runs.{RunTold, readRunItem, run-none, run-takes}
 use Rattle.run_scans.specs.declared.items.Items.{Items}
 use Rattle.run_scans.specs.declared.items.Items.the-variants as items
@@ -96,12 +96,6 @@ pub record Scanning (text t : List ℕ) (n : ℕ) (old-times old-marks ts ms : L
   pub within : at ≤ length text
   pub short : length text * 1 < 2 ^ 63
   pub held : Held n old-times old-marks ts ms y sofar
-
--- One item more, by the order in which they are read.
-turned-more : (rs : List Run) (r : Run) (more : Read (List Run))
-    → turned (λ l. rs ++ l) (turned (λ l. r ∷ l) more) ≡ turned (λ l. (rs ++ (r ∷ [])) ++ l) more
-turned-more rs r (got l t) = rw (append-snoc rs r l)
-turned-more rs r (broken t) = refl
 
 -- Before the first item.
 pub scan-start : {y : Tally} (text : List ℕ) (from n : ℕ) (ts ms : List ℕ) → from ≤ length text → length text * 1 < 2 ^ 63 → Fresh y

@@ -2,7 +2,7 @@
 --     readItems, begun                              all items of a line, and the cells that are read before the grammar breaks
 --     stepMarks, keptMark                           the marks that are kept of cells: none on a line without steps
 --     saidItems, itemsPlace, itemsCount, Gathered   what all items that were read, or a break, say in the grammar's terms, and what memory then holds
---     turned-same                                   a value turned into itself
+--     turned-same, turned-more                      a value turned into itself; one item more
 --     Gathering                                     the loop over items: those read so far, and what is left, give the whole
 --     items-ribbon, items-letters                   the items of a line, by whether it has steps
 --     gathering                                     the ruleset of both loops, over letters and over letters with steps
@@ -92,8 +92,8 @@ pub turned-same : {A : Type 0} (r : Read A) → r ≡ turned (λ a. a) r
 turned-same (got a t) = refl
 turned-same (broken t) = refl
 
--- One cell more, by the order in which they are read.
-turned-more : (cs : List (ℕ × ℕ)) (c : ℕ × ℕ) (r : Read (List (ℕ × ℕ)))
+-- One item more, by the order in which they are read.
+pub turned-more : {A : Type 0} (cs : List A) (c : A) (r : Read (List A))
     → turned (λ more. cs ++ more) (turned (λ more. c ∷ more) r) ≡ turned (λ more. (cs ++ (c ∷ [])) ++ more) r
 turned-more cs c (got l t) = rw (append-snoc cs c l)
 turned-more cs c (broken t) = refl

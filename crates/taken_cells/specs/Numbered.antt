@@ -16,7 +16,7 @@ use lib.ListN.{length, getD, take}
 use lib.Seq.{getD-take, length-take-le}
 use borrow.Author.Needs.{needs}
 use borrow.Author.Tests.{le-ltb, lt-ltb}
-use Rattle.numbering.specs.Orders.{Choice, choices, orders, withIf, wordFrom}
+use Rattle.numbering.specs.Orders.{Choice, choices, orders, withIf, wordAmong}
 use Rattle.windows.specs.Gaps.{without}
 use Rattle.taken_cells.specs.Choices.{choiceAt, choices-places, choicesFrom, mayGo, ordersLeft}
 use Rattle.taken_cells.specs.Removal.{marksWithout}
@@ -71,15 +71,15 @@ pub ruleset seeking = (sought-past, seeking-start, seeking-turn, seeking-found, 
 -- Of a ribbon that has c of 20 cells, whatever its letters are and however words go on.
 pub record Sought (c : ℕ) (ms : List ℕ) (k cell left : ℕ) : Type 0 where
   pub found : cell < c → (ys : List ℕ) → length ys ≡ 20 → (f : List ℕ → List ℕ → ℕ → List ℕ)
-      → wordFrom f (choices (take c ys) (take c ms)) k ≡ getD ys cell 0 ∷ f (without cell (take c ys)) (marksWithout cell (take c ms)) left
-  pub none : c ≤ cell → (ys : List ℕ) → length ys ≡ 20 → (f : List ℕ → List ℕ → ℕ → List ℕ) → wordFrom f (choices (take c ys) (take c ms)) k ≡ []
+      → wordAmong f (choices (take c ys) (take c ms)) k ≡ getD ys cell 0 ∷ f (without cell (take c ys)) (marksWithout cell (take c ms)) left
+  pub none : c ≤ cell → (ys : List ℕ) → length ys ≡ 20 → (f : List ℕ → List ℕ → ℕ → List ℕ) → wordAmong f (choices (take c ys) (take c ms)) k ≡ []
 
 -- What the cells from place i on tell: the word goes on with the cell that is found, or there is none.
 Told : List ℕ → List ℕ → (List ℕ → List ℕ → ℕ → List ℕ) → ℕ → List ℕ → ℕ × ℕ → Type 0
 Told ys ms f end word p =
     (p .0 < end → word ≡ getD ys (p .0) 0 ∷ f (without (p .0) ys) (marksWithout (p .0) ms) (p .1)) × (end ≤ p .0 → word ≡ [])
 
-told-from : (ys ms : List ℕ) (f : List ℕ → List ℕ → ℕ → List ℕ) (n i k : ℕ) → Told ys ms f (i + n) (wordFrom f (choicesFrom ys ms i n) k) (soughtFrom ms n i k)
+told-from : (ys ms : List ℕ) (f : List ℕ → List ℕ → ℕ → List ℕ) (n i k : ℕ) → Told ys ms f (i + n) (wordAmong f (choicesFrom ys ms i n) k) (soughtFrom ms n i k)
 unfolding Told ordersLeft
 told-from ys ms f zero i k = (λ l. let z : ⊥ = omega arith in absurd z, λ l. refl)
 told-from ys ms f (suc n) i k = go (mayGo ms i) (λ j. told-from ys ms f n (suc i) j)
@@ -90,19 +90,19 @@ told-from ys ms f (suc n) i k = go (mayGo ms i) (λ j. told-from ys ms f n (suc 
     further : (w : List ℕ) (p : ℕ × ℕ) → Told ys ms f (suc i + n) w p → Told ys ms f (i + suc n) w p
     further w p t = (λ l. t .0 (omega arith), λ l. t .1 (omega arith))
 
-    reach : (t : Bool) → Told ys ms f (suc i + n) (wordFrom f rest (k - orders (marksWithout i ms))) (soughtFrom ms n (suc i) (k - orders (marksWithout i ms)))
-        → Told ys ms f (i + suc n) (cond t (getD ys i 0 ∷ f (without i ys) (marksWithout i ms) k) (wordFrom f rest (k - orders (marksWithout i ms))))
+    reach : (t : Bool) → Told ys ms f (suc i + n) (wordAmong f rest (k - orders (marksWithout i ms))) (soughtFrom ms n (suc i) (k - orders (marksWithout i ms)))
+        → Told ys ms f (i + suc n) (cond t (getD ys i 0 ∷ f (without i ys) (marksWithout i ms) k) (wordAmong f rest (k - orders (marksWithout i ms))))
         (cond t (i, k) (soughtFrom ms n (suc i) (k - orders (marksWithout i ms))))
     reach true t = (λ l. refl, λ l. let z : ⊥ = omega arith in absurd z)
-    reach false t = further (wordFrom f rest (k - orders (marksWithout i ms))) (soughtFrom ms n (suc i) (k - orders (marksWithout i ms))) t
+    reach false t = further (wordAmong f rest (k - orders (marksWithout i ms))) (soughtFrom ms n (suc i) (k - orders (marksWithout i ms))) t
 
-    go : (b : Bool) → ((j : ℕ) → Told ys ms f (suc i + n) (wordFrom f (choicesFrom ys ms (suc i) n) j) (soughtFrom ms n (suc i) j))
-        → Told ys ms f (i + suc n) (wordFrom f (withIf b (choiceAt ys ms i) (choicesFrom ys ms (suc i) n)) k)
+    go : (b : Bool) → ((j : ℕ) → Told ys ms f (suc i + n) (wordAmong f (choicesFrom ys ms (suc i) n) j) (soughtFrom ms n (suc i) j))
+        → Told ys ms f (i + suc n) (wordAmong f (withIf b (choiceAt ys ms i) (choicesFrom ys ms (suc i) n)) k)
         (cond (ltb k (cond b (orders (marksWithout i ms)) 0)) (i, k) (soughtFrom ms n (suc i) (k - cond b (orders (marksWithout i ms)) 0)))
     go true ih = reach (ltb k (orders (marksWithout i ms))) (ih (k - orders (marksWithout i ms)))
     go false ih =
         let none : k - 0 ≡ k = omega arith in
-        rw (le-ltb k 0 (omega arith), none) (further (wordFrom f (choicesFrom ys ms (suc i) n) k) (soughtFrom ms n (suc i) k) (ih k))
+        rw (le-ltb k 0 (omega arith), none) (further (wordAmong f (choicesFrom ys ms (suc i) n) k) (soughtFrom ms n (suc i) k) (ih k))
 
 -- The cell that was found is that of the word.
 pub sought-told : {cell left : ℕ} (c : ℕ) (ms : List ℕ) (k : ℕ) → length ms ≡ 20 → c ≤ 20 → (cell, left) ≡ cellOfNumber c ms k → Sought c ms k cell left
@@ -113,16 +113,16 @@ sought-told {cell} {left} c ms k s l e = record { found = λ m ys d f. meant ys 
     own = e ∙ rw (le-ltb 20 c l)
 
     meant : (ys : List ℕ) → length ys ≡ 20 → (f : List ℕ → List ℕ → ℕ → List ℕ)
-        → (cell < c → wordFrom f (choices (take c ys) (take c ms)) k ≡ getD ys cell 0 ∷ f (without cell (take c ys)) (marksWithout cell (take c ms)) left)
-        × (c ≤ cell → wordFrom f (choices (take c ys) (take c ms)) k ≡ [])
+        → (cell < c → wordAmong f (choices (take c ys) (take c ms)) k ≡ getD ys cell 0 ∷ f (without cell (take c ys)) (marksWithout cell (take c ms)) left)
+        × (c ≤ cell → wordAmong f (choices (take c ys) (take c ms)) k ≡ [])
     meant ys d f =
         let marks : length (take c ms) ≡ c = length-take-le c ms (omega arith) in
         let letters : length (take c ys) ≡ c = length-take-le c ys (omega arith) in
         let all : choices (take c ys) (take c ms) ≡ choicesFrom (take c ys) (take c ms) 0 c
         = choices-places (take c ys) (take c ms) (letters ∙ sym marks) ∙ ap (choicesFrom (take c ys) (take c ms) 0) letters in
-        let told : Told (take c ys) (take c ms) f (0 + c) (wordFrom f (choicesFrom (take c ys) (take c ms) 0 c) k) (cell, left)
-        = subst (Told (take c ys) (take c ms) f (0 + c) (wordFrom f (choicesFrom (take c ys) (take c ms) 0 c) k)) (sym own) (told-from (take c ys) (take c ms) f c 0 k) in (
-          λ m. ap (λ (cs : List Choice). wordFrom f cs k) all ∙ told .0 (omega arith)
+        let told : Told (take c ys) (take c ms) f (0 + c) (wordAmong f (choicesFrom (take c ys) (take c ms) 0 c) k) (cell, left)
+        = subst (Told (take c ys) (take c ms) f (0 + c) (wordAmong f (choicesFrom (take c ys) (take c ms) 0 c) k)) (sym own) (told-from (take c ys) (take c ms) f c 0 k) in (
+          λ m. ap (λ (cs : List Choice). wordAmong f cs k) all ∙ told .0 (omega arith)
               ∙ ap (λ (y : ℕ). y ∷ f (without cell (take c ys)) (marksWithout cell (take c ms)) left) (getD-take c ys cell 0 m),
-          λ m. ap (λ (cs : List Choice). wordFrom f cs k) all ∙ told .1 (omega arith),
+          λ m. ap (λ (cs : List Choice). wordAmong f cs k) all ∙ told .1 (omega arith),
         )

@@ -2,6 +2,7 @@
 -- Each rule exchanges one or two pairs x y of letters side by side, x < y, and beside each pair stands a letter b of the rule with x < b ≤ y to
 -- its left or x ≤ b < y to its right. One lemma about such an exchange (kept-swap) serves all four rules.
 --     Kept u v           u and v have equal counts, and equal before for every p < q between which no letter lies
+--     tick-swap          two tests count in either order
 --     kept-swap          an exchange of two letters with such a b beside them keeps both
 --     joined-kept        a chain of steps keeps both
 --     joined-count, joined-inversion, joined-tableau     so joined words have equal counts, equal inversions and one tableau
@@ -57,7 +58,8 @@ data Beside (s t : List ℕ) (x y : ℕ) : Type 0 where
   on-left : (b : ℕ) → occurs b s ≡ true → x < b → b ≤ y → Beside s t x y
   on-right : (b : ℕ) → occurs b t ≡ true → x ≤ b → b < y → Beside s t x y
 
-tick-swap : (s t : Bool) (n : ℕ) → tick s (tick t n) ≡ tick t (tick s n)
+-- Two tests count in either order.
+pub tick-swap : (s t : Bool) (n : ℕ) → tick s (tick t n) ≡ tick t (tick s n)
 tick-swap true true n = refl
 tick-swap true false n = refl
 tick-swap false t n = refl

@@ -18,6 +18,7 @@ use lib.Dec.{eqb}
 use lib.ListN.{length}
 use Rattle.hypoplactic.specs.Words.{Within, count, tick}
 use Rattle.hypoplactic.specs.Ribbons.{Along}
+use Rattle.hypoplactic.proofs.Theory.Invariants.{tick-swap}
 use Rattle.hypoplactic.proofs.Theory.Pairs.{Rising}
 use Rattle.numbering.specs.Orders.{Choice, behind, choices, freed, mayEnter, mayLeave, orders, othersOf, withIf}
 use Rattle.numbering.proofs.Theory.Each.{Every, every-both}
@@ -108,15 +109,7 @@ choice-letters (y ∷ ys) [] = tt
 choice-letters (y ∷ ys) (m ∷ ms) =
     every-choice (λ c. (b : ℕ) → count b (y ∷ ys) ≡ tick (eqb (c .letter) b) (count b (c .letters)))
     (λ c. (b : ℕ) → count b ys ≡ tick (eqb (c .letter) b) (count b (c .letters))) y m ys ms (λ e f b. refl)
-    (λ c k b. ap (tick (eqb y b)) (k b) ∙ swap (eqb y b) (eqb (c .letter) b) (count b (c .letters))) (choice-letters ys ms)
-  where
-    swap : (s t : Bool) (k : ℕ) → tick s (tick t k) ≡ tick t (tick s k)
-    swap true t k = flip t k
-      where
-        flip : (t : Bool) (k : ℕ) → suc (tick t k) ≡ tick t (suc k)
-        flip true k = refl
-        flip false k = refl
-    swap false t k = refl
+    (λ c k b. ap (tick (eqb y b)) (k b) ∙ tick-swap (eqb y b) (eqb (c .letter) b) (count b (c .letters))) (choice-letters ys ms)
 
 choices-within : (n : ℕ) (ys ms : List ℕ) → Within n ys → Every (λ c. Within n (c .letters)) (choices ys ms)
 choices-within n [] ms h = tt

@@ -20,7 +20,7 @@ use Rattle.hypoplactic.proofs.Theory.Boundary.{tableau-of-word}
 use Rattle.hypoplactic.proofs.Theory.Letters.{count-head}
 use Rattle.hypoplactic.proofs.Theory.Limits.{letters-within}
 use Rattle.numbering.specs.Dictionary.{classNumber, classSize, classWord, classWords, placeIn, sameList}
-use Rattle.numbering.specs.Orders.{Choice, choices, freed, orders, placeFrom, placeOf, takenFrom, takenWords, wordAt, wordFrom}
+use Rattle.numbering.specs.Orders.{Choice, choices, freed, orders, placeFrom, placeOf, takenFrom, takenWords, wordAt, wordAmong}
 use Rattle.numbering.proofs.Theory.Each.{Every, every-both, every-map}
 use Rattle.numbering.proofs.Theory.Choices.{OpenRibbon, Some, choices-open}
 use Rattle.numbering.proofs.Theory.Kept.{Kept, kept-first, kept-letter}
@@ -42,7 +42,7 @@ block-word a (u ∷ us) vs (suc k) =
 
 words-walk : (f : List ℕ → List ℕ → List (List ℕ)) (g : List ℕ → List ℕ → ℕ → List ℕ) (cs : List Choice)
     → Every (λ c. (length (f (c .letters) (c .marks)) ≡ orders (c .marks)) × ((k : ℕ) → getD (f (c .letters) (c .marks)) k [] ≡ g (c .letters) (c .marks) k)) cs
-    → (k : ℕ) → getD (takenFrom f cs) k [] ≡ wordFrom g cs k
+    → (k : ℕ) → getD (takenFrom f cs) k [] ≡ wordAmong g cs k
 words-walk f g [] h k = refl
 words-walk f g (c ∷ cs) h k =
     block-word (c .letter) (f (c .letters) (c .marks)) (takenFrom f cs) k
