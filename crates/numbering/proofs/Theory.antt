@@ -1,5 +1,4 @@
 -- The laws of the words of a class, by topic. docs/PROMISES.md leads from each promise to its theorem.
-pub mod Cases
 pub mod Multinomials
 pub mod Alternating
 pub mod CompositionCases

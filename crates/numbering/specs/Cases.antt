@@ -1,7 +1,7 @@
 -- Cases for sizes and numbers of classes (document 02, N4), in the form of the starred ones.
 --     listed ws          words one after the other, a 0 behind each
 --     numberCases        the cases
--- That the two sides of every case are equal is proved in proofs/Theory/Cases.antt. Assumes nothing.
+-- That the two sides of every case are equal is proved in examples' proofs/Theory/NumberCases.antt. Assumes nothing.
 use Prim.Native.Nat.{ℕ}
 use mathlib.Core.List.{List, [], _∷_, _++_}
 use lib.ListN.{replicate, set}

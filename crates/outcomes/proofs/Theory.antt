@@ -17,4 +17,3 @@ pub mod Outputs
 pub mod JoinedReplies
 pub mod RepeatReplies
 pub mod Together
-pub mod Starred

@@ -1,7 +1,7 @@
 -- The starred cases of document 01 ("Checked words"), as one list: what the written meaning gives beside what the document says. A second list has
 -- worked examples of the paper, a third the other checked words and the refusals.
 -- Whole outputs stand as texts. A reply stands as its numbers: 0 and the values, or the refusal's number and place; what lent memory then holds follows.
--- That the two sides of every case are equal is proved in proofs/Theory/Starred.antt. Assumes nothing.
+-- That the two sides of every case are equal is proved in examples' proofs/Theory/Starred.antt. Assumes nothing.
 use Prim.Native.Nat.{ℕ, _-_}
 use Prim.Native.Char.{code}
 use Prim.Native.String.{String, [] as ending, _∷_ as _∷ᶜ_}

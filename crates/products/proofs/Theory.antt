@@ -7,5 +7,3 @@ pub mod ProductLaws
 -- ---- replies
 pub mod PairTableaux
 pub mod ProductReplies
--- ---- cases
-pub mod ProductCases

@@ -4,7 +4,7 @@
 --     productCases          products, with one element of lent memory beyond those needed
 --     productRefusals       every refusal number in both factors, at its place and in its order
 --     productLimits         1,024 cells together are not refused by their number
--- That the checker computes the one from the other stands in proofs/Theory/ProductCases. Assumes nothing.
+-- That the checker computes the one from the other stands in examples' proofs/Theory/ProductCases. Assumes nothing.
 use Prim.Native.Nat.{ℕ}
 use mathlib.Core.List.{List, [], _∷_}
 use lib.ListN.{replicate, set}

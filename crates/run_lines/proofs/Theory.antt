@@ -1,6 +1,4 @@
 -- The laws of C lines. docs/PROMISES.md leads from each promise to its theorem.
--- ---- cases
-pub mod Cases
 -- ---- runs and tableaux
 pub mod Runs
 -- ---- what the checks let through, and where they refuse

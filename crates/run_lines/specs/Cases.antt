@@ -3,7 +3,7 @@
 --     reads, readsWith         what the reader replies to a text, and lent letters, marks and counts after it: five elements of each list, or so many
 --     toRuns, toTableau        what the converters reply to a text, and lent memory of so many bytes after it
 --     writingCases, readingCases, refusalCases, conversionCases
--- That the two sides of every case are equal is proved in proofs/Theory/Cases.antt. Assumes nothing.
+-- That the two sides of every case are equal is proved in examples' proofs/Theory/RunCases.antt. Assumes nothing.
 use Prim.Native.Nat.{ℕ, zero, suc}
 use Prim.Native.String.{String}
 use mathlib.Core.List.{List, [], _∷_, _++_}

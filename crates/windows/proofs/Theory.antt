@@ -6,6 +6,5 @@ pub mod Departures
 pub mod Holds
 pub mod Calls
 pub mod Windows
--- ---- cases
-pub mod Cases
+-- ---- applied
 pub mod Instances

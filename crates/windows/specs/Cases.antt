@@ -4,7 +4,7 @@
 --     departureRefusals    every refusal number at its place and in its order
 --     empty, of21, of1      three of the windows in it, and stream: calls of which none is refused
 --     streamCases          arrivals and departures one after the other: the word in the window, and the window, after each
--- That the checker computes the one from the other stands in proofs/Theory/Cases. Assumes nothing.
+-- That the checker computes the one from the other stands in examples' proofs/Theory/WindowCases. Assumes nothing.
 use Prim.Native.Nat.{ℕ, suc}
 use mathlib.Core.List.{List, [], _∷_, _++_}
 use lib.ListN.{length, set}

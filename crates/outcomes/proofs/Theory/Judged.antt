@@ -2,19 +2,21 @@
 --     word-passing, tableau-passing, pair-passing    no judgement of the list refuses, exactly when ..
 --     counted-passing, counted-pair-passing          and with 17, exactly when the letter counts are true besides
 --     word-judged, tableau-judged, pair-judged, counted-judged, counted-pair-judged     the same of the chain's reply
+--     second-word-place      of two words, a letter of the second is refused at its place counted on from the first's length
 -- Assumes nothing.
-use Prim.Native.Nat.{ℕ}
-use mathlib.Core.Path.{_≡_, sym, _∙_}
+use Prim.Native.Nat.{ℕ, _+_}
+use mathlib.Core.Path.{_≡_, sym, ap, _∙_}
 use mathlib.Core.List.{List, [], _∷_}
 use mathlib.Core.Logic.{_↔_, Iff·trans}
 use lib.ListN.{length}
 use Rattle.hypoplactic.specs.Words.{Accepted, Within}
 use Rattle.hypoplactic.specs.Ribbons.{EntryStep, LetterStep, PairAt, Simple, Tableau, TableauAt}
-use Rattle.outcomes.specs.Replies.{first, passed}
+use Rattle.outcomes.specs.Replies.{Passes, Said, countOn, first, orElse, passed, refused}
 use Rattle.outcomes.specs.Counts.{TrueCounts, countsJudged}
-use Rattle.outcomes.specs.Judgements.{countedJudgements, countedPairJudgements, pairJudgements, tableauJudgements, wordJudgements}
+use Rattle.outcomes.specs.Judgements.{countedJudgements, countedPairJudgements, lengthJudged, lettersJudged, pairJudgements, rankJudged, tableauJudgements, wordJudgements}
+use Rattle.outcomes.specs.WordOperations.{sameClassSays, weightsSays, wordsJudgements}
 use Rattle.outcomes.proofs.Theory.Counts.{counts-judged}
-use Rattle.outcomes.proofs.Theory.Passing.{Passing, first-passed, passing-append}
+use Rattle.outcomes.proofs.Theory.Passing.{Passing, first-passed, first-past, passing-append}
 use Rattle.hypoplactic.proofs.Theory.Once.{once-entries}
 use Rattle.outcomes.proofs.Theory.Judgements.{alike-judged, entries-judged, length-judged, letters-judged, rank-judged}
 use Rattle.outcomes.proofs.Theory.StepJudgements.{recording-steps, ribbon-length, tableau-steps}
@@ -120,3 +122,20 @@ counted-judged n xs ms cs = Iff·trans (first-passed (countedJudgements n xs ms 
 pub counted-pair-judged : (n : ℕ) (xs ms rs cs : List ℕ)
     → (first (countedPairJudgements n xs ms rs cs) passed ≡ passed) ↔ (PairAt n xs ms rs × TrueCounts xs cs)
 counted-pair-judged n xs ms rs cs = Iff·trans (first-passed (countedPairJudgements n xs ms rs cs)) (counted-pair-passing n xs ms rs cs)
+
+-- ---- two words
+
+-- Where the first of two words is accepted, and the second by its rank and length, a letter that 4 refuses in the second alone is refused at its place
+-- counted on from the first's length.
+second-place : (n m : ℕ) (u v : List ℕ) (p : ℕ) (answer : Said) → Accepted n u → Passes (rankJudged m) → Passes (lengthJudged (length v))
+    → lettersJudged m v ≡ refused 4 p → first (wordsJudgements n u m v) answer ≡ refused 4 (length u + p)
+second-place n m u v p answer a rank short e =
+    let (first-rank, (first-short, (first-letters, t))) = word-passing n u .1 a in
+    first-past (rankJudged n ∷ rankJudged m ∷ lengthJudged (length u) ∷ lengthJudged (length v) ∷ lettersJudged n u ∷ [])
+    (countOn (length u) (lettersJudged m v) ∷ []) answer (first-rank, (rank, (first-short, (short, (first-letters, tt)))))
+    ∙ ap (λ (s : Said). orElse (countOn (length u) s) answer) e
+
+pub second-word-place : (n m : ℕ) (u v : List ℕ) (p : ℕ) → Accepted n u → Passes (rankJudged m) → Passes (lengthJudged (length v))
+    → lettersJudged m v ≡ refused 4 p → (sameClassSays n u m v ≡ refused 4 (length u + p)) × (weightsSays n u m v ≡ refused 4 (length u + p))
+unfolding sameClassSays weightsSays
+second-word-place n m u v p a rank short e = (second-place n m u v p _ a rank short e, second-place n m u v p _ a rank short e)

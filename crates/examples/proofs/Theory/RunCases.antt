@@ -1,4 +1,4 @@
--- C lines, pinned: the lists of specs/Cases.antt, computed by the checker from the definitions alone, without a law.
+-- C lines, pinned: the lists of run_lines' specs/Cases.antt, computed by the checker from the definitions alone, without a law.
 --     writing-pinned, reading-pinned, refusals-pinned, conversions-pinned     the lists
 -- Assumes nothing.
 use mathlib.Core.Path.{_≡_, refl}

@@ -1,4 +1,4 @@
--- Windows, pinned: the lists of specs/Cases.antt, computed by the checker from the definitions alone, without a law.
+-- Windows, pinned: the lists of windows' specs/Cases.antt, computed by the checker from the definitions alone, without a law.
 --     departures-pinned, refusals-pinned, stream-pinned     the lists
 -- Assumes nothing.
 use mathlib.Core.Path.{_≡_, refl}

@@ -1,4 +1,4 @@
--- The starred cases of document 01, all of them, of the written meaning: one theorem over the list of specs/Starred.antt, computed by the checker.
+-- The starred cases of document 01, all of them, of the written meaning: one theorem over the list of outcomes' specs/Starred.antt, computed by the checker.
 -- Beside it the paper's worked examples, and the other checked words and refusals, the same way.
 -- Assumes nothing.
 use mathlib.Core.Path.{_≡_, refl}

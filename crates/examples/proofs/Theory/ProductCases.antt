@@ -1,4 +1,4 @@
--- The cases of the product (specs/Cases), computed by the checker.
+-- The cases of the product (products' specs/Cases), computed by the checker.
 --     worked-products      products
 --     refused-products     refusals
 --     largest-products     1,024 cells
