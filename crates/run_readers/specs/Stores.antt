@@ -66,7 +66,7 @@ module _ {v : Verdict} (n L : ℕ) (y : Tally) (ts ms letters marks counts : Lis
   runs-refused f q = record { says = λ rs m h. run-refused _ _ (e .says rs (h .tallied)) _ _ (letters, (marks, counts)) f q }
 
   pub runs-passed : (letters′ marks′ : List ℕ) → v ≡ Passed → (letters′, marks′) ≡ filledRuns n ts ms letters marks
-      → Stored n L y ts ms letters marks counts letters′ marks′ ts (line.Tableau n L)
+      → Stored n L y ts ms letters marks counts letters′ marks′ ts (line.Values n L)
   runs-passed letters′ marks′ q d = record {
     says = λ rs m h.
         let told = e .says rs (h .tallied) in
