@@ -1,5 +1,5 @@
 // A cell by its place, over any two slices: they may be of unequal lengths, and need be no tableau.
-use occurrences::counts::count_letters;
+use multiplicities::counts::count_letters;
 use refusals::answers::Cell;
 use refusals::answers::Verdict;
 ghost use mathlib.Core.Path.{_≡_};

@@ -35,7 +35,7 @@ use Rattle.run_tallies.specs.Tallies as tallies
 use Rattle.run_scans.specs.Lines.{wholeRuns}
 use Rattle.operators.specs.Changes.{moveLettersRun, repeatLettersSays}
 use Rattle.classes.specs.Tables.{sameTables}
-use Rattle.weights.specs.Tables.{compareTables}
+use Rattle.weight_sums.specs.Tables.{compareTables}
 use Rattle.ribbon_orders.specs.Rows.{ordersGiven}
 use Rattle.taken_cells.specs.Removal.{pulledFree, takenOut}
 use Rattle.taken_cells.specs.Numbered.{cellOfNumber}

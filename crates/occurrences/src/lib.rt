@@ -1,3 +1,2 @@
-// Where a letter stands in a word, and how often. Every public function takes whatever it is given.
-pub mod counts;
+// Where a letter stands in a word. Every public function takes whatever it is given.
 pub mod places;

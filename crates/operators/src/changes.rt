@@ -1,6 +1,6 @@
 // What a move changes in letters, and how often it can, once it is known whether there is an inversion. Words and tableaux share it: they differ in what
 // an inversion is, and in the checks that come before. Every public function takes whatever it is given.
-use occurrences::counts::count_letters;
+use multiplicities::counts::count_letters;
 use occurrences::places::Found;
 use occurrences::places::leftmost;
 use occurrences::places::rightmost;

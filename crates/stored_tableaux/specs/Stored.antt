@@ -26,7 +26,7 @@ use Rattle.refusals.specs.declared.refusal.Refusal.{Refusal}
 use Rattle.refusals.specs.declared.answers.Verdict.{Verdict}
 use Rattle.refusals.specs.declared.answers.Verdict.the-variants.{Passed, Refused}
 use Rattle.classes.specs.Tables.{same-true, sameTables}
-use Rattle.weights.specs.Tables.{compareTables}
+use Rattle.weight_sums.specs.Tables.{compareTables}
 use Rattle.weights.specs.Weights.{compare-true}
 
 -- Whether the counts of all letters and the marks that two tableaux bring are equal.

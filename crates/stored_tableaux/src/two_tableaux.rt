@@ -6,7 +6,7 @@ use refusals::answers::Class;
 use refusals::answers::Verdict;
 use refusals::answers::Weights;
 use second_tableaux::two_tableaux::check_tableaux;
-use weights::tables::compare_counts;
+use weight_sums::tables::compare_counts;
 ghost use mathlib.Core.List.{[], _∷_};
 ghost use mathlib.Core.Path.{_≡_};
 ghost use Rattle.outcomes.specs.Replies.{gives};

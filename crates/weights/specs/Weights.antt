@@ -19,7 +19,7 @@ use Rattle.outcomes.proofs.Theory.Passing.{first-else}
 use Rattle.words.specs.Given.{accepted-true, countGiven}
 use Rattle.words.specs.Tables.{Table, table-sum}
 use Rattle.second_inputs.specs.Passed.{judging}
-use Rattle.weights.specs.Tables.{sumsAtMost, compareTables}
+use Rattle.weight_sums.specs.Tables.{sumsAtMost, compareTables}
 
 -- True letter counts compare as the words do,
 at-most-true : (u v : List ℕ) {cs ds : List ℕ} → TrueCounts u cs → TrueCounts v ds → (k : ℕ) → k ≤ 64 → sumsAtMost k cs ds ≡ atMost k u v

@@ -1,5 +1,2 @@
-// The weights of two words compared, and those of two arrays of letter counts. Each public function takes whatever it is given and answers a result or the
-// exact refusal.
-mod sums;
-pub mod tables;
+// The weights of two words compared: whatever is given, a result or the exact refusal.
 pub mod two_words;

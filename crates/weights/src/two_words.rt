@@ -1,5 +1,5 @@
 // Comparison of weights: the sums of the first k letter counts of two words, for every k.
-use crate::tables::compare_counts;
+use weight_sums::tables::compare_counts;
 use refusals::answers::Verdict;
 use refusals::answers::Weights;
 use second_inputs::two_words::check_words;

@@ -55,7 +55,7 @@ use Rattle.operators.specs.Changes.{moveLettersRun, repeatLettersSays}
 use Rattle.operators.specs.Targets.{moveBy}
 use Rattle.operators.specs.declared.changes.Side.the-variants.{Lowering, Raising}
 use Rattle.classes.specs.Tables.{sameTables}
-use Rattle.weights.specs.Tables.{compareTables}
+use Rattle.weight_sums.specs.Tables.{compareTables}
 use Rattle.numbering.specs.Orders.{orders}
 use Rattle.ribbon_orders.specs.Rows.{ordersGiven}
 use Rattle.taken_cells.specs.Choices.{ordersLeft}

@@ -1,0 +1,2 @@
+pub mod Counting
+pub mod Parts

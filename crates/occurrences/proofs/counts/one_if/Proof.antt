@@ -1,8 +1,0 @@
--- `occurrences::counts::one_if` meets its contract. Assumes nothing.
-use Rattle.occurrences.specs.Counting.{counting}
-use Rattle.occurrences.proofs.counts.one_if.Statement.{statement}
-use Rattle.occurrences.proofs.counts.one_if.Tie as tie
-
-pub one-if-spec : {M : Type 1} → statement M
-one-if-spec = tie.close
-    (tie.spec (λ c. search counting) (λ c. search counting))

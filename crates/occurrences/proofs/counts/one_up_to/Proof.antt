@@ -1,8 +1,0 @@
--- `occurrences::counts::one_up_to` meets its contract. Assumes nothing.
-use Rattle.occurrences.specs.Counting.{counting}
-use Rattle.occurrences.proofs.counts.one_up_to.Statement.{statement}
-use Rattle.occurrences.proofs.counts.one_up_to.Tie as tie
-
-pub one-up-to-spec : {M : Type 1} → statement M
-one-up-to-spec = tie.close
-    (tie.spec (λ c. search counting) (λ c. search counting))
