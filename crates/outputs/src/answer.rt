@@ -1,8 +1,8 @@
 // The program's whole output for its whole input, as a function on slices.
 use crate::printing::print_word;
 use buffers::copies::copy_bytes;
-use refusals::answers::Verdict;
 use refusals::answers::ReadLine;
+use refusals::answers::Verdict;
 use refusals::answers::Written;
 use refusals::numbers::check_room;
 use refusals::refusal::Refusal;

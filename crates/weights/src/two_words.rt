@@ -1,8 +1,8 @@
 // Comparison of weights: the sums of the first k letter counts of two words, for every k.
-use weight_sums::tables::compare_counts;
 use refusals::answers::Verdict;
 use refusals::answers::Weights;
 use second_inputs::two_words::check_words;
+use weight_sums::tables::compare_counts;
 use words::tables::letter_counts;
 ghost use mathlib.Core.Path.{_≡_};
 ghost use mathlib.Core.List.{[], _∷_};
