@@ -20,7 +20,7 @@ use validity::tableau::check_tableau;
 use viewer::viewers::look_once;
 ghost use mathlib.Core.Path.{_≡_};
 ghost use Rattle.outcomes.specs.Judgements.{countedJudgements, tableauJudgements};
-ghost use Rattle.hypoplactic.specs.Moves.{lowering, raising};
+ghost use Rattle.quasi_crystal.specs.Moves.{lowering, raising};
 ghost use Rattle.outcomes.specs.Replies.{first, gives, passed};
 ghost use Rattle.outcomes.specs.TableauOperations.{cellAt, lookSays, moveTableauRun, readingRun, repeatTableauSays};
 ghost use Rattle.structs.specs.Replies.{cellOf, countOf, doneOf, moveOf, replied};

@@ -25,7 +25,7 @@ use words::junctions::junctions;
 ghost use mathlib.Core.Path.{_≡_};
 ghost use Rattle.hypoplactic.specs.Insertion.{pairWith};
 ghost use Rattle.outcomes.specs.Judgements.{wordJudgements};
-ghost use Rattle.hypoplactic.specs.Moves.{lowering, raising};
+ghost use Rattle.quasi_crystal.specs.Moves.{lowering, raising};
 ghost use Rattle.outcomes.specs.Replies.{first, passed};
 ghost use Rattle.outcomes.specs.TableauOperations.{pairRun};
 ghost use Rattle.outcomes.specs.WordOperations.{junctionSays, moveWordRun, repeatWordSays, sameClassSays, weightsSays};

@@ -5,7 +5,7 @@
 use Prim.Native.Nat.{ℕ}
 use mathlib.Core.List.{List, [], _∷_, _++_}
 use Rattle.hypoplactic.specs.Insertion.{lettersOf, marksOf, recordingOf}
-use Rattle.hypoplactic.specs.Moves.{Move}
+use Rattle.quasi_crystal.specs.Moves.{Move}
 use Rattle.outcomes.specs.Counts.{countsOf}
 use Rattle.outcomes.specs.WordOperations.{moveWordRun}
 use Rattle.outcomes.specs.TableauOperations.{moveTableauRun}

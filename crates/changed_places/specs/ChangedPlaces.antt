@@ -11,7 +11,7 @@ use mathlib.Core.Path.{_≡_}
 use mathlib.Core.Logic.{_≢_}
 use mathlib.Core.List.{List, [], _∷_}
 use lib.ListN.{length, getD, set}
-use Rattle.hypoplactic.specs.Moves.{Side, raising, lowering, Move, taken, given}
+use Rattle.quasi_crystal.specs.Moves.{Side, raising, lowering, Move, taken, given}
 use Rattle.outcomes.specs.Replies.{Said, gives, refused}
 
 abbrev pub Past : Side → ℕ → ℕ → Type 0

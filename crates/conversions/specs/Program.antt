@@ -14,7 +14,7 @@ use Rattle.hypoplactic.specs.Insertion.{lettersOf, marksOf, recordingOf}
 use Rattle.hypoplactic.specs.Reading.{columnReading}
 use Rattle.hypoplactic.specs.Junctions.{junctionSet, rowsOf}
 use Rattle.outcomes.specs.LineOperations.{pairLine}
-use Rattle.hypoplactic.specs.Classes.{tableauLine}
+use Rattle.quasi_crystal.specs.Classes.{tableauLine}
 use Rattle.outcomes.specs.LineReadings.{output}
 use Rattle.outcomes.specs.WrittenClasses.{elements}
 use Rattle.writers.specs.Lengths.{w-length}

@@ -11,7 +11,7 @@ use lib.ListN.{length, replicate}
 use Rattle.grammar.specs.Lines.{eLine}
 use Rattle.hypoplactic.specs.Insertion.{pairWith}
 use Rattle.hypoplactic.specs.Words.{tick}
-use Rattle.hypoplactic.specs.Moves.{below}
+use Rattle.quasi_crystal.specs.Moves.{below}
 use Rattle.hypoplactic.specs.Junctions.{junctionSet}
 use Rattle.outcomes.specs.Replies.{Said, first, gives, passed, refused}
 use Rattle.outcomes.specs.WrittenClasses.{elements}

@@ -4,7 +4,5 @@ pub mod Ribbons
 pub mod Insertion
 pub mod Reading
 pub mod Places
-pub mod Moves
 pub mod Junctions
 pub mod Weights
-pub mod Classes

@@ -1,1 +1,1 @@
-// The mathematics of the kernel: no code. Definitions stand in specs/, theorems in proofs/.
+// Words, rewriting and quasi-ribbon tableaux, the mathematics of the hypoplactic monoid: no code. Definitions stand in specs/, theorems in proofs/.

@@ -18,7 +18,7 @@ use lib.ListN.{length, getD, drop, drop-of-length-le}
 use lib.Seq.{drop-cons}
 use borrow.Author.Needs.{needs}
 use borrow.Author.Tests.{ne-eqb}
-use Rattle.hypoplactic.specs.Moves.{below, fromTo}
+use Rattle.quasi_crystal.specs.Moves.{below, fromTo}
 use Rattle.hypoplactic.specs.Ribbons.{downAfter}
 use Rattle.hypoplactic.proofs.Theory.Pairs.{le-or-lt}
 

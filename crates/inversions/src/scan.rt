@@ -6,7 +6,7 @@ ghost use mathlib.Core.Path.{_≡_};
 ghost use Prim.Native.Nat.{_+_, _<_};
 ghost use mathlib.Core.Bool.{_&&_};
 ghost use lib.Dec.{eqb};
-ghost use Rattle.hypoplactic.specs.Moves.{below, fromTo};
+ghost use Rattle.quasi_crystal.specs.Moves.{below, fromTo};
 
 // Whether a step goes down from the letter `here` to `next`, the one after it. A mark 1 is a step down. Every test is made, so that no branch is left.
 fn steps_below(here: u8, next: u8, upper: u8, lower: u8, mark: u8) -> bool

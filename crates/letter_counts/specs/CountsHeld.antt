@@ -13,7 +13,7 @@ use lib.ListN.{length, take}
 use Rattle.outcomes.specs.Counts.{countsOf}
 use Rattle.hypoplactic.specs.Insertion.{Pair}
 use Rattle.outcomes.specs.LineReadings.{readPRun, readTRun}
-use Rattle.hypoplactic.specs.Moves.{Move}
+use Rattle.quasi_crystal.specs.Moves.{Move}
 use Rattle.outcomes.specs.Replies.{Passes, Said, gives, refused}
 use Rattle.outcomes.specs.TableauOperations.{insertRun, moveTableauRun, pairRun}
 use Rattle.products.specs.Products.{productRun}

@@ -19,8 +19,8 @@ use Rattle.outcomes.specs.Replies.{Said, gives, written}
 use Rattle.outcomes.specs.Judgements.{pairRooms, roomJudged, tableauJudgements, wordJudgements}
 use Rattle.outcomes.specs.TableauOperations.{pairRun, pairSays}
 use Rattle.outcomes.specs.LineOperations.{lineRun, tableauLineRun, tLineRun}
-use Rattle.hypoplactic.specs.Classes.{tableauLine}
-use Rattle.hypoplactic.proofs.Theory.Closure.{word-tableau-at}
+use Rattle.quasi_crystal.specs.Classes.{tableauLine}
+use Rattle.quasi_crystal.proofs.Theory.Closure.{word-tableau-at}
 use Rattle.outcomes.proofs.Theory.Judged.{tableau-passing, word-passing}
 use Rattle.outcomes.proofs.Theory.Judgements.{room-judged}
 use Rattle.outcomes.proofs.Theory.LineResults.{past-checks}

@@ -22,7 +22,7 @@ use lib.Seq.{take-suc, take-length, drop-cons, length-take-le}
 use borrow.Author.Needs.{needs}
 use borrow.Author.Tests.{lt-ltb, le-ltb, eq-eqb, ne-eqb}
 use Rattle.hypoplactic.specs.Words.{occurs, before}
-use Rattle.hypoplactic.specs.Moves.{inverted, onward, leftmost, orHere, rightmost}
+use Rattle.quasi_crystal.specs.Moves.{inverted, onward, leftmost, orHere, rightmost}
 use Rattle.hypoplactic.proofs.Theory.Pairs.{le-or-lt}
 use Rattle.occurrences.specs.declared.places.Found.{Found}
 use Rattle.occurrences.specs.declared.places.Found.the-variants.{At, Nothing}

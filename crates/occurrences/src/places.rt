@@ -1,6 +1,6 @@
 // Where a letter stands in a word. Each scan leaves at its first hit; each function takes whatever slice it is given.
 ghost use mathlib.Core.Path.{_≡_};
-ghost use Rattle.hypoplactic.specs.Moves.{leftmost as leftmostOf, rightmost as rightmostOf};
+ghost use Rattle.quasi_crystal.specs.Moves.{leftmost as leftmostOf, rightmost as rightmostOf};
 ghost use Rattle.occurrences.specs.Places.{Stopped, foundPlace, standsLeft};
 
 // The place of a letter, if it stands in the word.

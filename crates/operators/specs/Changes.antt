@@ -18,7 +18,7 @@ use mir.Val.{Fits}
 use lib.ListN.{length, set}
 use borrow.Author.Needs.{needs}
 use Rattle.hypoplactic.specs.Words.{count}
-use Rattle.hypoplactic.specs.Moves.{Move, taken, given, changedPlace, moved, remaining, replaced, target}
+use Rattle.quasi_crystal.specs.Moves.{Move, taken, given, changedPlace, moved, remaining, replaced, target}
 use Rattle.outcomes.specs.Replies.{Said, gives, refused, passed, Passes, orElse, first, refuseIf, ranTo}
 use Rattle.outcomes.specs.Judgements.{rankJudged, lengthJudged, indexJudged, inversionJudged, letterJudged}
 use Rattle.outcomes.specs.WordOperations.{moveJudgements, orSame, placeTold}

@@ -9,7 +9,7 @@ use mathlib.Core.Bool.{Bool}
 use mathlib.Core.Option.{Option}
 use native.Mathlib.Numerals.{add-one}
 use borrow.Author.Needs.{needs}
-use Rattle.hypoplactic.specs.Moves.{inverted, leftmost, rightmost, movedWord, repeatWord}
+use Rattle.quasi_crystal.specs.Moves.{inverted, leftmost, rightmost, movedWord, repeatWord}
 use Rattle.outcomes.specs.Replies.{Said, gives}
 use Rattle.outcomes.specs.Judgements.{lettersJudged, indexJudged, wordJudgements}
 use Rattle.outcomes.specs.WordOperations.{moveWordRun, moveWordSays, orSame, repeatWordSays}

@@ -19,8 +19,8 @@ use lib.ListN.{length}
 use borrow.Author.Needs.{needs}
 use borrow.Author.Tests.{ne-eqb}
 use Rattle.hypoplactic.specs.Words.{tick, count}
-use Rattle.hypoplactic.specs.Moves.{Side, raising, lowering, Move, taken, given, onward, leftmost, orHere, rightmost, target}
-use Rattle.hypoplactic.proofs.Theory.Targets.{Below, target-below}
+use Rattle.quasi_crystal.specs.Moves.{Side, raising, lowering, Move, taken, given, onward, leftmost, orHere, rightmost, target}
+use Rattle.quasi_crystal.proofs.Theory.Targets.{Below, target-below}
 use Rattle.occurrences.specs.Places.{foundPlace}
 use Rattle.occurrences.specs.declared.places.Found.{Found}
 use Rattle.occurrences.specs.declared.places.Found.the-variants as found

@@ -16,7 +16,7 @@ ghost use mathlib.Core.Path.{_≡_};
 ghost use mathlib.Core.List.{[], _∷_};
 ghost use Prim.Native.Nat.{_<_};
 ghost use Rattle.outcomes.specs.Judgements.{indexJudged, wordJudgements};
-ghost use Rattle.hypoplactic.specs.Moves.{inverted, lowering, raising};
+ghost use Rattle.quasi_crystal.specs.Moves.{inverted, lowering, raising};
 ghost use Rattle.outcomes.specs.WordOperations.{moveWordRun, repeatWordSays};
 ghost use Rattle.refusals.specs.Running.{checksThen};
 ghost use Rattle.refusals.specs.Said.{saidMove, saidRepeat, saidVerdict};

@@ -15,7 +15,7 @@ use mathlib.Core.Bool.{Bool, _&&_, _||_, not}
 use lib.Dec.{eqb, ltb, leb}
 use lib.ListN.{length}
 use Rattle.hypoplactic.specs.Words.{count, occurs}
-use Rattle.hypoplactic.specs.Moves.{indexOf}
+use Rattle.quasi_crystal.specs.Moves.{indexOf}
 use Rattle.outcomes.specs.Replies.{Said, passed, refuseIf}
 use Rattle.outcomes.specs.Counts.{countsJudged}
 

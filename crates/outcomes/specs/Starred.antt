@@ -9,7 +9,7 @@ use mathlib.Core.List.{List, [], _∷_, _++_}
 use lib.ListN.{length, replicate}
 use Rattle.hypoplactic.specs.Insertion.{Pair, insert, lettersOf, marksOf, pairOf, pairWith, recordingOf}
 use Rattle.hypoplactic.specs.Reading.{columnReading}
-use Rattle.hypoplactic.specs.Moves.{Move, raising, lowering}
+use Rattle.quasi_crystal.specs.Moves.{Move, raising, lowering}
 use Rattle.outcomes.specs.Replies.{Said, gives, refused, passed, first}
 use Rattle.outcomes.specs.Judgements.{fullJudged, wordJudgements}
 use Rattle.outcomes.specs.WordOperations.{junctionSays, moveWordRun, repeatWordSays, sameClassSays, weightsSays}

@@ -16,7 +16,7 @@ use lib.ListN.{length, take, getD}
 use Rattle.hypoplactic.specs.Ribbons.{rowAt, columnAt}
 use Rattle.hypoplactic.specs.Insertion.{Pair, insert, pairOf, wordOf}
 use Rattle.hypoplactic.specs.Reading.{columnReading}
-use Rattle.hypoplactic.specs.Moves.{Move, below, changedPlace, given, movedTableau, repeatTableau, taken}
+use Rattle.quasi_crystal.specs.Moves.{Move, below, changedPlace, given, movedTableau, repeatTableau, taken}
 use Rattle.outcomes.specs.Replies.{Said, gives, passed, orElse, first, ranTo, written}
 use Rattle.outcomes.specs.Counts.{countsJudged, countsOf, oneMore, oneOver}
 use Rattle.outcomes.specs.Judgements.{rankJudged, lengthJudged, usedJudged, lettersJudged, risingJudged, marksJudged, entriesJudged, recordingJudged, indexJudged, fullJudged, roomJudged, pairRooms, wordJudgements, tableauJudgements, countedJudgements, countedPairJudgements}

@@ -12,7 +12,7 @@ use mathlib.Core.Bool.{Bool, cond}
 use mathlib.Core.Option.{Option, none, some}
 use lib.ListN.{length}
 use Rattle.hypoplactic.specs.Words.{tick}
-use Rattle.hypoplactic.specs.Moves.{Move, changedPlace, indexOf, inverted, taken, movedWord, repeatWord}
+use Rattle.quasi_crystal.specs.Moves.{Move, changedPlace, indexOf, inverted, taken, movedWord, repeatWord}
 use Rattle.hypoplactic.specs.Junctions.{junctionSet, rowsOf, sameClass}
 use Rattle.hypoplactic.specs.Weights.{Comparison, equal, lower, higher, neither, compareWeights}
 use Rattle.outcomes.specs.Replies.{Said, gives, refused, first, ranTo, countOn}

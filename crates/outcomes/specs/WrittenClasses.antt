@@ -14,9 +14,9 @@ use Prim.Native.Nat.{ℕ, _≤_, _<_}
 use lib.ListN.{length, take, set}
 use Rattle.hypoplactic.specs.Insertion.{Pair}
 use Rattle.hypoplactic.specs.Words.{Accepted}
-use Rattle.hypoplactic.specs.Moves.{Move, given}
+use Rattle.quasi_crystal.specs.Moves.{Move, given}
 use Rattle.hypoplactic.specs.Rewriting.{Joined}
-use Rattle.hypoplactic.specs.Classes.{tableauLine}
+use Rattle.quasi_crystal.specs.Classes.{tableauLine}
 use Rattle.outcomes.specs.Replies.{Said, gives, refused}
 use Rattle.outcomes.specs.WordOperations.{moveWordRun}
 use Rattle.outcomes.specs.TableauOperations.{pairRun}

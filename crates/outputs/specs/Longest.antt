@@ -18,7 +18,7 @@ use Rattle.outcomes.specs.LineOperations.{pairLine, threeLines}
 use Rattle.outcomes.specs.LineReadings.{Outputs, lines, output, refusal}
 use Rattle.hypoplactic.specs.Reading.{columnReading}
 use Rattle.hypoplactic.proofs.Theory.Bits.{number-below}
-use Rattle.hypoplactic.proofs.Theory.Closure.{reading-accepted, word-pair-at, word-tableau-at}
+use Rattle.quasi_crystal.proofs.Theory.Closure.{reading-accepted, word-pair-at, word-tableau-at}
 use Rattle.outcomes.proofs.Theory.Outputs.{output-accepted, outputs}
 use Rattle.writers.specs.Lengths.{e-length, j-length, p-length, w-length}
 use Rattle.outputs.specs.Printing.{Ready}

@@ -22,7 +22,7 @@ use Rattle.outcomes.specs.Replies.{Said, gives, written}
 use Rattle.hypoplactic.specs.Ribbons.{PairAt, TableauAt}
 use Rattle.outcomes.specs.TableauOperations.{pairRun, readingRun, writtenPair}
 use Rattle.outcomes.specs.LineOperations.{jLineRun, pLineRun, pairLine, threeLines, wLineRun}
-use Rattle.hypoplactic.proofs.Theory.Closure.{reading-accepted, word-pair-at, word-tableau-at}
+use Rattle.quasi_crystal.proofs.Theory.Closure.{reading-accepted, word-pair-at, word-tableau-at}
 use Rattle.outcomes.proofs.Theory.Counts.{letters-true}
 use Rattle.outcomes.proofs.Theory.LineResults.{j-line-result, p-line-result, w-line-result}
 use Rattle.outcomes.proofs.Theory.Memory.{written-length, written-needed}

@@ -3,7 +3,7 @@
 -- That the two sides of every case are equal is proved in proofs/Theory/Cases.antt. Assumes nothing.
 use mathlib.Core.List.{List, [], _∷_, _++_}
 use Rattle.outcomes.specs.WordOperations.{moveWordRun, sameClassSays}
-use Rattle.hypoplactic.specs.Classes.{tableauLine}
+use Rattle.quasi_crystal.specs.Classes.{tableauLine}
 use Rattle.outcomes.specs.Starred.{Case, case, lower, numbers, outcome, raise, text, w4323}
 use Rattle.ranks.specs.Unranked.{withoutRank}
 use Rattle.ranks.specs.Ranks.{unrankedLine}

@@ -17,12 +17,12 @@ use Prim.Native.Nat.{ℕ, _≤_}
 use lib.ListN.{length}
 use Rattle.hypoplactic.specs.Insertion.{Pair, recordingOf}
 use Rattle.hypoplactic.specs.Words.{Accepted}
-use Rattle.hypoplactic.specs.Moves.{Move, Defined, given, indexOf, moveWord}
+use Rattle.quasi_crystal.specs.Moves.{Move, Defined, given, indexOf, moveWord}
 use Rattle.hypoplactic.specs.Rewriting.{Joined}
 use Rattle.outcomes.specs.Replies.{Said}
 use Rattle.outcomes.specs.WordOperations.{moveWordRun}
 use Rattle.outcomes.specs.TableauOperations.{pairRun}
-use Rattle.hypoplactic.specs.Classes.{tableauLine}
+use Rattle.quasi_crystal.specs.Classes.{tableauLine}
 use Rattle.outcomes.specs.LineOperations.{tableauLineRun}
 use Rattle.outcomes.specs.WrittenClasses.{MovedTogether, OneRecording, lineBytes, moveLeft}
 use Rattle.ranks.specs.Unranked.{withoutRank}

@@ -12,7 +12,7 @@ use native.Mathlib.Omega.{arith}
 use lib.Dec.{ltb, eqb, leb}
 use borrow.Author.Needs.{needs}
 use borrow.Author.Tests.{lt-ltb, le-ltb, le-leb, lt-leb}
-use Rattle.hypoplactic.specs.Moves.{indexOf}
+use Rattle.quasi_crystal.specs.Moves.{indexOf}
 use Rattle.outcomes.specs.Replies.{Said, refused, passed, refuseIf}
 use Rattle.outcomes.specs.Judgements.{outside, rankJudged, lengthJudged, alikeJudged, usedJudged, indexJudged, fullJudged, roomJudged}
 use Rattle.hypoplactic.proofs.Theory.Pairs.{le-or-lt}

@@ -1,4 +1,4 @@
--- Demand 3 over C lines (document 02, N9): the records of hypoplactic's specs/Classes.antt, of outcomes' specs/WrittenClasses.antt and of ranks' specs/Ranks.antt, at the C line of a word.
+-- Demand 3 over C lines (document 02, N9): the records of quasi_crystal's specs/Classes.antt, of outcomes' specs/WrittenClasses.antt and of ranks' specs/Ranks.antt, at the C line of a word.
 --     RunFaithfulLines, RunFaithfulWriting       of two words of one rank: over definitions, and over what is written
 --     unrankedRunLine                            the C line of a word, its rank field left out
 --     RunFaithfulRanks, RunWrittenRanks          of two words, each of its own rank, the rank field left out
@@ -6,8 +6,8 @@
 use Prim.Native.Nat.{ℕ}
 use mathlib.Core.List.{List}
 use Rattle.hypoplactic.specs.Words.{Accepted}
-use Rattle.hypoplactic.specs.Moves.{moveWord}
-use Rattle.hypoplactic.specs.Classes.{Faithful}
+use Rattle.quasi_crystal.specs.Moves.{moveWord}
+use Rattle.quasi_crystal.specs.Classes.{Faithful}
 use Rattle.outcomes.specs.WrittenClasses.{FaithfullyWritten}
 use Rattle.ranks.specs.Ranks.{FaithfulAcross, WrittenAcross}
 use Rattle.ranks.specs.Unranked.{withoutRank}

@@ -16,7 +16,7 @@ use mir.Val.{Fits}
 use lib.ListN.{getD, set}
 use borrow.Author.Needs.{needs}
 use Rattle.outcomes.specs.Counts.{oneOver}
-use Rattle.hypoplactic.specs.Moves.{Side, given, taken}
+use Rattle.quasi_crystal.specs.Moves.{Side, given, taken}
 use Rattle.operators.specs.Targets.{sideOf}
 use Rattle.operators.specs.declared.changes.Side.{Side as Chosen}
 use Rattle.operators.specs.declared.changes.Side.the-variants.{Raising, Lowering}

@@ -15,7 +15,7 @@ use lib.ListN.{length, getD}
 use borrow.Author.Needs.{needs}
 use Rattle.hypoplactic.specs.Words.{count}
 use Rattle.hypoplactic.specs.Ribbons.{TableauAt}
-use Rattle.hypoplactic.specs.Moves.{Move, Side, raising, lowering, below, changedPlace, given, movedTableau, repeatTableau, taken}
+use Rattle.quasi_crystal.specs.Moves.{Move, Side, raising, lowering, below, changedPlace, given, movedTableau, repeatTableau, taken}
 use Rattle.outcomes.specs.Replies.{Said, gives, refused, passed, Passes, orElse, first, ranTo}
 use Rattle.outcomes.specs.Counts.{TrueCounts, countsJudged, oneOver}
 use Rattle.outcomes.specs.Judgements.{alikeJudged, countedJudgements, indexJudged, lettersJudged, marksJudged, risingJudged}

@@ -4,7 +4,7 @@ ghost use Prim.Native.Nat.{_-_, _<_};
 ghost use mathlib.Core.Path.{_≡_};
 ghost use lib.ListN.{getD};
 ghost use Rattle.outcomes.specs.Counts.{oneOver};
-ghost use Rattle.hypoplactic.specs.Moves.{given, taken};
+ghost use Rattle.quasi_crystal.specs.Moves.{given, taken};
 ghost use Rattle.operators.specs.Targets.{sideOf};
 ghost use Rattle.tableaux.specs.Counts.{Movable, Slot};
 

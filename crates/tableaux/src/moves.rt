@@ -15,7 +15,7 @@ use validity::counted::check_counted_tableau;
 ghost use mathlib.Core.Path.{_≡_};
 ghost use mathlib.Core.List.{[], _∷_};
 ghost use Rattle.outcomes.specs.Judgements.{countedJudgements, indexJudged};
-ghost use Rattle.hypoplactic.specs.Moves.{lowering, raising};
+ghost use Rattle.quasi_crystal.specs.Moves.{lowering, raising};
 ghost use Rattle.outcomes.specs.TableauOperations.{moveTableauRun, repeatTableauSays};
 ghost use Rattle.refusals.specs.Running.{checksThen};
 ghost use Rattle.refusals.specs.Said.{saidMove, saidRepeat, saidVerdict};

@@ -17,17 +17,17 @@ use lib.Seq.{getD-set-same, getD-set-other}
 use borrow.Author.Tests.{eqb-true, eqb-false, eq-eqb}
 use Rattle.hypoplactic.specs.Words.{count, tick}
 use Rattle.hypoplactic.specs.Insertion.{letterWith, lettersOf, marksOf, recordingOf}
-use Rattle.hypoplactic.specs.Moves.{Side, raising, lowering, Move, below, given, movedWord, placeInTableau, placeInWord, replaced, taken}
+use Rattle.quasi_crystal.specs.Moves.{Side, raising, lowering, Move, below, given, movedWord, placeInTableau, placeInWord, replaced, taken}
 use Rattle.changed_places.proofs.Theory.ChangedPlaces.{changed-held}
 use Rattle.hypoplactic.proofs.Theory.Contents.{within-at}
 use Rattle.hypoplactic.proofs.Theory.Correspondence.{pair-valid, word-of-pair}
 use Rattle.hypoplactic.proofs.Theory.Letters.{count-at}
-use Rattle.hypoplactic.proofs.Theory.MoveRecording.{move-recording}
-use Rattle.hypoplactic.proofs.Theory.MoveTableau.{tableau-moved}
+use Rattle.quasi_crystal.proofs.Theory.MoveRecording.{move-recording}
+use Rattle.quasi_crystal.proofs.Theory.MoveTableau.{tableau-moved}
 use Rattle.hypoplactic.proofs.Theory.Once.{once-entries}
 use Rattle.hypoplactic.proofs.Theory.Pairs.{length-letters, length-recording}
 use Rattle.hypoplactic.proofs.Theory.Placing.{word-at}
-use Rattle.hypoplactic.proofs.Theory.Targets.{place-below, unguarded}
+use Rattle.quasi_crystal.proofs.Theory.Targets.{place-below, unguarded}
 
 -- ---- the letter of a cell
 

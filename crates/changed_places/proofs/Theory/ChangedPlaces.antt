@@ -20,7 +20,7 @@ use lib.ListN.{length, getD, set}
 use borrow.Author.Tests.{eqb-true, eqb-false}
 use Rattle.hypoplactic.specs.Words.{Accepted}
 use Rattle.hypoplactic.specs.Ribbons.{TableauAt}
-use Rattle.hypoplactic.specs.Moves.{Side, raising, lowering, Move, taken, onward, leftmost, orHere, rightmost, target, changedPlace, inverted, below, given, guarded, moveTableau, moveWord, moved, movedTableau, replaced}
+use Rattle.quasi_crystal.specs.Moves.{Side, raising, lowering, Move, taken, onward, leftmost, orHere, rightmost, target, changedPlace, inverted, below, given, guarded, moveTableau, moveWord, moved, movedTableau, replaced}
 use Rattle.outcomes.specs.Replies.{Said, gives, refused, Passes, first, ranTo}
 use Rattle.outcomes.specs.Counts.{TrueCounts, countsOf, oneOver, withCounts}
 use Rattle.outcomes.specs.Judgements.{countedJudgements, wordJudgements}
@@ -31,7 +31,7 @@ use Rattle.outcomes.proofs.Theory.Counts.{counts-true}
 use Rattle.outcomes.proofs.Theory.Judged.{counted-passing, word-passing}
 use Rattle.outcomes.proofs.Theory.MoveResults.{move-replaced, move-tableau-made, move-tableau-refused, move-word-made, move-word-refused}
 use Rattle.outcomes.proofs.Theory.Passing.{first-past, passing-before}
-use Rattle.hypoplactic.proofs.Theory.Targets.{place-below, unguarded}
+use Rattle.quasi_crystal.proofs.Theory.Targets.{place-below, unguarded}
 
 -- ---- the leftmost and the rightmost
 

@@ -11,18 +11,18 @@ use lib.ListN.{set}
 use Rattle.hypoplactic.specs.Words.{Accepted}
 use Rattle.hypoplactic.specs.Ribbons.{TableauAt}
 use Rattle.hypoplactic.specs.Insertion.{lettersOf, marksOf, recordingOf}
-use Rattle.hypoplactic.specs.Moves.{Move, below, given, indexOf, inverted, movedTableau, movedWord, placeInTableau, placeInWord, replaced}
+use Rattle.quasi_crystal.specs.Moves.{Move, below, given, indexOf, inverted, movedTableau, movedWord, placeInTableau, placeInWord, replaced}
 use Rattle.outcomes.specs.Counts.{countsOf, withCounts}
 use Rattle.outcomes.specs.WordOperations.{moveWordRun}
 use Rattle.outcomes.specs.TableauOperations.{moveTableauRun}
 use Rattle.changed_places.specs.ChangedPlaces.{Beside, alike, beside}
 use Rattle.changed_places.proofs.Theory.ChangedCells.{changed-cell}
-use Rattle.hypoplactic.proofs.Theory.Closure.{word-tableau-at}
+use Rattle.quasi_crystal.proofs.Theory.Closure.{word-tableau-at}
 use Rattle.outcomes.proofs.Theory.Counts.{letters-counts}
-use Rattle.hypoplactic.proofs.Theory.MoveRecording.{move-recording}
+use Rattle.quasi_crystal.proofs.Theory.MoveRecording.{move-recording}
 use Rattle.outcomes.proofs.Theory.MoveResults.{move-replaced, move-tableau-made, move-tableau-refused, move-word-made, move-word-refused}
-use Rattle.hypoplactic.proofs.Theory.MoveTableau.{inversion-below, tableau-answer}
-use Rattle.hypoplactic.proofs.Theory.Targets.{unguarded}
+use Rattle.quasi_crystal.proofs.Theory.MoveTableau.{inversion-below, tableau-answer}
+use Rattle.quasi_crystal.proofs.Theory.Targets.{unguarded}
 
 -- A move on an accepted word and the same move on its tableau: refused alike, or made at a place and in a cell that the recording ribbon leads to; the
 -- tableau of the word afterwards has the letters and the counts afterwards; its marks, and the recording ribbon, stay.

@@ -12,7 +12,7 @@ use Rattle.outcomes.specs.Judgements.{alikeJudged, indexJudged, inversionJudged
 use Rattle.outcomes.specs.WordOperations.{moveWordRun, moveWordSays}
 use Rattle.outcomes.specs.TableauOperations.{moveTableauRun, moveTableauSays}
 use Rattle.outcomes.specs.Starred.{Case, raise}
-use Rattle.hypoplactic.proofs.Theory.Classes.{same-tableau-joined}
+use Rattle.hypoplactic.proofs.Theory.NormalForm.{same-tableau-joined}
 use Rattle.changed_places.specs.Cases.{placeCases}
 
 pub places-pinned : map (λ (c : Case). c .meaning) placeCases ≡ map (λ (c : Case). c .document) placeCases

@@ -6,7 +6,7 @@ use mathlib.Core.List.{map}
 use Rattle.grammar.specs.Reading.{readP, readT}
 use Rattle.outcomes.specs.Counts.{countsJudged, countsOf}
 use Rattle.hypoplactic.specs.Insertion.{insert, pairOf}
-use Rattle.hypoplactic.specs.Moves.{repeatTableau}
+use Rattle.quasi_crystal.specs.Moves.{repeatTableau}
 use Rattle.outcomes.specs.Judgements.{alikeJudged, entriesJudged, fullJudged, indexJudged, inversionJudged, lengthJudged, letterJudged, lettersJudged, marksJudged, rankJudged, recordingJudged, risingJudged, roomJudged, usedJudged}
 use Rattle.outcomes.specs.TableauOperations.{insertRun, insertSays, moveTableauRun, moveTableauSays, pairRun, pairSays, readingSays, repeatTableauSays, wordSays}
 use Rattle.outcomes.specs.LineReadings.{readPRun, readTRun}

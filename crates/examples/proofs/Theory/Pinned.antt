@@ -14,7 +14,7 @@ use Rattle.hypoplactic.specs.Words.{Inside}
 use Rattle.hypoplactic.specs.Ribbons.{TableauAt}
 use Rattle.hypoplactic.specs.Insertion.{Pair, insert, pairOf, wordOf}
 use Rattle.hypoplactic.specs.Reading.{columnReading}
-use Rattle.hypoplactic.specs.Moves.{repeatTableau}
+use Rattle.quasi_crystal.specs.Moves.{repeatTableau}
 use Rattle.hypoplactic.specs.Junctions.{number, junctionSet, rowsOf, sameClass}
 use Rattle.hypoplactic.specs.Weights.{compareWeights}
 use Rattle.outcomes.specs.Replies.{Passes, orElse, refused}
@@ -23,7 +23,7 @@ use Rattle.outcomes.specs.Judgements.{rankJudged, lengthJudged, lettersJudged, 
 use Rattle.outcomes.specs.WordOperations.{junctionSays, moveWordRun, moveWordSays, repeatWordSays, sameClassSays, weightsSays}
 use Rattle.outcomes.specs.TableauOperations.{insertRun, insertSays, lookSays, moveTableauSays, pairRun, pairSays, readingRun, readingSays, repeatTableauSays, throughSays, viewerSays, wordRun, wordSays}
 use Rattle.outcomes.specs.LineOperations.{pairLine, program, eLineRun, jLineRun, pLineRun, roomRun, tLineRun, tableauLineRun, wLineRun}
-use Rattle.hypoplactic.specs.Classes.{tableauLine}
+use Rattle.quasi_crystal.specs.Classes.{tableauLine}
 use Rattle.outcomes.specs.LineReadings.{answerRun, output, readPRun, readTRun, readWRun}
 use Rattle.outcomes.specs.Starred.{Case}
 use Rattle.examples.specs.Pinned.{lineCases, orderCases, valueCases}

@@ -9,7 +9,7 @@ use Rattle.grammar.specs.Lines.{wLine, tLine, pLine, jLine, eLine}
 use Rattle.grammar.specs.Reading.{readW, readT, readP}
 use Rattle.hypoplactic.specs.Insertion.{insert, pairOf, wordOf}
 use Rattle.hypoplactic.specs.Reading.{columnReading}
-use Rattle.hypoplactic.specs.Moves.{repeatWord, repeatTableau}
+use Rattle.quasi_crystal.specs.Moves.{repeatWord, repeatTableau}
 use Rattle.hypoplactic.specs.Junctions.{number, junctionSet, rowsOf, sameClass}
 use Rattle.hypoplactic.specs.Weights.{compareWeights}
 use Rattle.outcomes.specs.Counts.{countsOf, countsJudged}
@@ -17,7 +17,7 @@ use Rattle.outcomes.specs.Judgements.{rankJudged, lengthJudged, lettersJudged, 
 use Rattle.outcomes.specs.WordOperations.{junctionSays, moveWordSays, moveWordRun, repeatWordSays, sameClassSays, weightsSays}
 use Rattle.outcomes.specs.TableauOperations.{pairSays, pairRun, insertSays, wordSays, wordRun, readingSays, readingRun, moveTableauSays, moveTableauRun, repeatTableauSays, viewerSays, lookSays}
 use Rattle.outcomes.specs.LineOperations.{pairLine, tableauLineRun, program}
-use Rattle.hypoplactic.specs.Classes.{tableauLine}
+use Rattle.quasi_crystal.specs.Classes.{tableauLine}
 use Rattle.outcomes.specs.LineReadings.{output, readPRun, readTRun}
 use Rattle.outcomes.specs.Starred.{Case, starredCases, workedCases, refusalCases}
 

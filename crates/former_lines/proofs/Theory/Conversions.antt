@@ -31,10 +31,10 @@ use Rattle.outcomes.specs.Replies.{Passes, Said, gives, orElse, ranTo, refused,
 use Rattle.outcomes.specs.Judgements.{alikeJudged, lengthJudged, rankJudged, roomJudged}
 use Rattle.outcomes.specs.TableauOperations.{writtenPair}
 use Rattle.outcomes.specs.LineOperations.{pLineRun, pairLine}
-use Rattle.hypoplactic.specs.Classes.{tableauLine}
+use Rattle.quasi_crystal.specs.Classes.{tableauLine}
 use Rattle.outcomes.specs.LineReadings.{output, readPRun, readRun}
 use Rattle.outcomes.specs.WrittenClasses.{elements}
-use Rattle.hypoplactic.proofs.Theory.Closure.{word-pair-at}
+use Rattle.quasi_crystal.proofs.Theory.Closure.{word-pair-at}
 use Rattle.outcomes.proofs.Theory.Judged.{pair-passing}
 use Rattle.outcomes.proofs.Theory.Judgements.{length-judged, room-judged}
 use Rattle.outcomes.proofs.Theory.LineReadings.{pair-good, read-p-result}

@@ -10,7 +10,7 @@ use Rattle.hypoplactic.specs.Rewriting.{Joined}
 use Rattle.hypoplactic.specs.Insertion.{lettersOf, marksOf}
 use Rattle.hypoplactic.specs.Junctions.{sameClass}
 use Rattle.hypoplactic.proofs.Theory.Invariants.{joined-tableau}
-use Rattle.hypoplactic.proofs.Theory.Classes.{same-tableau-joined}
+use Rattle.hypoplactic.proofs.Theory.NormalForm.{same-tableau-joined}
 use Rattle.hypoplactic.proofs.Theory.Limits.{accepted-within}
 use Rattle.hypoplactic.proofs.Theory.SameClass.{same-class}
 

@@ -19,7 +19,7 @@ use lib.Seq.{length-take-le}
 use borrow.Author.Tests.{eq-eqb}
 use Rattle.hypoplactic.specs.Words.{Inside, count, tick}
 use Rattle.hypoplactic.specs.Insertion.{Pair, insert, pairOf, putAt, seat}
-use Rattle.hypoplactic.specs.Moves.{Move}
+use Rattle.quasi_crystal.specs.Moves.{Move}
 use Rattle.outcomes.specs.Replies.{Passes, Said, gives, refused, written}
 use Rattle.outcomes.specs.FirstPlaces.{First}
 use Rattle.outcomes.specs.Counts.{countFault, countsJudged, countsOf, oneMore}

@@ -12,7 +12,7 @@ use lib.ListN.{length, getD, length-set}
 use lib.Seq.{getD-set-other, getD-set-same}
 use Rattle.hypoplactic.specs.Words.{Inside, count}
 use Rattle.hypoplactic.specs.Ribbons.{TableauAt}
-use Rattle.hypoplactic.specs.Moves.{Move, Side, below, given, lowering, movedTableau, raising, taken}
+use Rattle.quasi_crystal.specs.Moves.{Move, Side, below, given, lowering, movedTableau, raising, taken}
 use Rattle.outcomes.specs.Replies.{Passes, Said, after, gives, refused}
 use Rattle.outcomes.specs.Counts.{TrueCounts, oneLess, oneOver}
 use Rattle.outcomes.specs.Judgements.{countedJudgements}

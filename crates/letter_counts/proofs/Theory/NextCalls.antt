@@ -14,14 +14,14 @@ use Rattle.hypoplactic.specs.Words.{Accepted, tick}
 use Rattle.hypoplactic.specs.Insertion.{Pair, lettersOf, marksOf}
 use Rattle.hypoplactic.specs.Junctions.{sameClass}
 use Rattle.outcomes.specs.LineReadings.{readPRun, readTRun}
-use Rattle.hypoplactic.specs.Moves.{Move}
+use Rattle.quasi_crystal.specs.Moves.{Move}
 use Rattle.hypoplactic.specs.Reading.{columnReading}
 use Rattle.outcomes.specs.Replies.{Passes, gives}
 use Rattle.outcomes.specs.TableauOperations.{insertRun, moveTableauRun, pairRun}
 use Rattle.hypoplactic.specs.Weights.{Comparison}
 use Rattle.outcomes.specs.WordOperations.{comparisonNumber, sameClassSays, weightsSays}
 use Rattle.outcomes.specs.Counts.{countsJudged, countsOf}
-use Rattle.hypoplactic.proofs.Theory.Closure.{reading-accepted, word-tableau-at}
+use Rattle.quasi_crystal.proofs.Theory.Closure.{reading-accepted, word-tableau-at}
 use Rattle.outcomes.proofs.Theory.Counts.{counts-judged, counts-true, letters-true}
 use Rattle.hypoplactic.proofs.Theory.Joining.{joined-sym, joined-trans}
 use Rattle.hypoplactic.proofs.Theory.Letters.{count-letters}

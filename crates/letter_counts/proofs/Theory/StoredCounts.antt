@@ -22,7 +22,7 @@ use Rattle.hypoplactic.specs.Reading.{columnReading}
 use Rattle.hypoplactic.specs.Junctions.{sameClass, sameCounts}
 use Rattle.hypoplactic.specs.Weights.{atMost, comparison, compareWeights}
 use Rattle.hypoplactic.proofs.Theory.Boundary.{along-of-tableau}
-use Rattle.hypoplactic.proofs.Theory.Closure.{reading-accepted}
+use Rattle.quasi_crystal.proofs.Theory.Closure.{reading-accepted}
 use Rattle.hypoplactic.proofs.Theory.Contents.{sum-same}
 use Rattle.outcomes.proofs.Theory.Counts.{counts-same}
 use Rattle.hypoplactic.proofs.Theory.Letters.{rising-unique}

@@ -19,7 +19,7 @@ use Rattle.hypoplactic.specs.Weights.{Comparison, compareWeights}
 use Rattle.outcomes.specs.Replies.{gives}
 use Rattle.outcomes.specs.Judgements.{lettersJudged, marksJudged, risingJudged}
 use Rattle.outcomes.specs.WordOperations.{comparisonNumber, sameClassSays, weightsSays}
-use Rattle.hypoplactic.proofs.Theory.Closure.{reading-accepted}
+use Rattle.quasi_crystal.proofs.Theory.Closure.{reading-accepted}
 use Rattle.outcomes.proofs.Theory.Counts.{counts-judged}
 use Rattle.outcomes.proofs.Theory.Judged.{tableau-passing}
 use Rattle.outcomes.proofs.Theory.Passing.{Passing, first-answer, passes-further, passes-nearer}

@@ -22,7 +22,7 @@ use Rattle.hypoplactic.specs.Insertion.{lettersOf, marksOf}
 use Rattle.outcomes.specs.Replies.{Passes, Said, gives, refused, written}
 use Rattle.outcomes.specs.Counts.{TrueCounts, countsOf}
 use Rattle.outcomes.specs.Judgements.{countedJudgements, roomJudged, wordJudgements}
-use Rattle.hypoplactic.proofs.Theory.Closure.{word-tableau-at}
+use Rattle.quasi_crystal.proofs.Theory.Closure.{word-tableau-at}
 use Rattle.outcomes.proofs.Theory.Counts.{letters-true}
 use Rattle.outcomes.proofs.Theory.Judged.{counted-passing, word-passing}
 use Rattle.outcomes.proofs.Theory.Judgements.{room-judged}

@@ -21,15 +21,15 @@ use lib.Seq.{ext-getD, getD-set-same, getD-set-other}
 use borrow.Author.Tests.{eqb-true, eqb-false, eq-eqb, ne-eqb}
 use Rattle.hypoplactic.specs.Words.{Inside, count}
 use Rattle.hypoplactic.specs.Insertion.{lettersOf}
-use Rattle.hypoplactic.specs.Moves.{Side, raising, lowering, given, taken}
+use Rattle.quasi_crystal.specs.Moves.{Side, raising, lowering, given, taken}
 use Rattle.outcomes.specs.Replies.{Passes, refused}
 use Rattle.outcomes.specs.FirstPlaces.{First}
 use Rattle.outcomes.specs.Counts.{TrueCounts, countFault, countsFrom, countsJudged, countsOf, oneLess, oneMore, oneOver}
 use Rattle.outcomes.proofs.Theory.FirstPlaces.{scan-first, scan-passes}
 use Rattle.hypoplactic.proofs.Theory.Letters.{count-letters}
-use Rattle.hypoplactic.proofs.Theory.MoveCounts.{Exchanged, turned-exchanged}
+use Rattle.quasi_crystal.proofs.Theory.MoveCounts.{Exchanged, turned-exchanged}
 use Rattle.hypoplactic.proofs.Theory.Occurrences.{count-append}
-use Rattle.hypoplactic.proofs.Theory.Undo.{Turned}
+use Rattle.quasi_crystal.proofs.Theory.Undo.{Turned}
 
 -- ---- the counts of a word
 

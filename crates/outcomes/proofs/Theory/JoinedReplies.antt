@@ -10,7 +10,7 @@ use mathlib.Core.List.{List, [], _∷_, _++_}
 use lib.ListN.{length}
 use Rattle.hypoplactic.specs.Rewriting.{Joined}
 use Rattle.hypoplactic.specs.Insertion.{lettersOf, marksOf}
-use Rattle.hypoplactic.specs.Moves.{Move, inverted, taken}
+use Rattle.quasi_crystal.specs.Moves.{Move, inverted, taken}
 use Rattle.outcomes.specs.Replies.{Said, gives, refused, Passes, first, refuseIf, OneNumber}
 use Rattle.outcomes.specs.Counts.{countsOf}
 use Rattle.outcomes.specs.Judgements.{outside, rankJudged, lengthJudged, lettersFrom, lettersJudged, letterJudged, inversionJudged, indexJudged, wordJudgements}

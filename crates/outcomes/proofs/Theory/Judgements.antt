@@ -17,7 +17,7 @@ use lib.Dec.{eqb, ltb, leb}
 use borrow.Author.Tests.{ltb-true, ltb-false, le-ltb, leb-false, lt-leb, lt-ltb, eqb-true, eqb-false, eq-eqb, ne-eqb, not-false}
 use Rattle.hypoplactic.specs.Words.{All, Inside, Within, count, occurs, tick}
 use Rattle.hypoplactic.specs.Ribbons.{Simple}
-use Rattle.hypoplactic.specs.Moves.{indexOf}
+use Rattle.quasi_crystal.specs.Moves.{indexOf}
 use Rattle.outcomes.specs.Replies.{Passes}
 use Rattle.outcomes.specs.Judgements.{outside, rankJudged, lengthJudged, alikeJudged, usedJudged, lettersFrom, lettersJudged, entriesFrom, entriesJudged, indexJudged, inversionJudged, letterJudged, fullJudged, roomJudged}
 use Rattle.outcomes.proofs.Theory.Passing.{passes-then, passes-test}

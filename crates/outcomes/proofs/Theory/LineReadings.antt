@@ -26,7 +26,7 @@ use Rattle.outcomes.specs.Counts.{countsOf}
 use Rattle.outcomes.specs.Judgements.{alikeJudged, entriesJudged, lettersJudged, marksJudged, pairJudgements, pairRooms, recordingJudged, risingJudged, roomJudged, tableauJudgements, tableauRooms, wordJudgements}
 use Rattle.outcomes.specs.TableauOperations.{writtenPair}
 use Rattle.outcomes.specs.LineReadings.{breakPlace, pairRead, readRun, readWRun, readTRun, readPRun, tableauRead, wordRead}
-use Rattle.hypoplactic.proofs.Theory.Classes.{marked}
+use Rattle.quasi_crystal.proofs.Theory.Classes.{marked}
 use Rattle.outcomes.proofs.Theory.Passing.{ran-answer}
 use Rattle.outcomes.proofs.Theory.Judgements.{alike-judged, room-judged}
 use Rattle.outcomes.proofs.Theory.Judged.{word-passing, tableau-passing, pair-passing}

@@ -9,7 +9,7 @@ use Rattle.hypoplactic.specs.Ribbons.{PairAt, TableauAt}
 use Rattle.hypoplactic.specs.Junctions.{junctionSet, rowsOf}
 use Rattle.outcomes.specs.Replies.{Said, gives, passed, written}
 use Rattle.outcomes.specs.Judgements.{roomJudged, wordJudgements, tableauJudgements, pairJudgements}
-use Rattle.hypoplactic.specs.Classes.{tableauLine}
+use Rattle.quasi_crystal.specs.Classes.{tableauLine}
 use Rattle.outcomes.specs.LineOperations.{lineRun, roomRun, wLineRun, tLineRun, pLineRun, tableauLineRun, jLineRun, eLineRun, threeLines, program}
 use Rattle.outcomes.proofs.Theory.Passing.{Passing, ran-answer, first-answer, first-past}
 use Rattle.outcomes.proofs.Theory.Judgements.{room-judged}

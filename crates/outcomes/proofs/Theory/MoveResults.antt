@@ -16,15 +16,15 @@ use lib.ListN.{set}
 use borrow.Author.Tests.{eq-eqb, ltb-true, ne-eqb}
 use Rattle.hypoplactic.specs.Words.{Accepted, count}
 use Rattle.hypoplactic.specs.Ribbons.{TableauAt}
-use Rattle.hypoplactic.specs.Moves.{Move, below, changedPlace, given, guarded, indexOf, inverted, moved, movedWord, moveTableau, moveWord, placeInTableau, placeInWord, replaced, taken}
+use Rattle.quasi_crystal.specs.Moves.{Move, below, changedPlace, given, guarded, indexOf, inverted, moved, movedWord, moveTableau, moveWord, placeInTableau, placeInWord, replaced, taken}
 use Rattle.outcomes.specs.Replies.{Said, first, gives, orElse, passed, ranTo, refused, refuseIf}
 use Rattle.outcomes.specs.Counts.{countsOf, oneOver, withCounts}
 use Rattle.outcomes.specs.Judgements.{countedJudgements, indexJudged, inversionJudged, letterJudged, wordJudgements}
 use Rattle.outcomes.specs.WordOperations.{moveJudgements, moveReply, moveWordRun, moveWordSays, orSame, placeTold, undefinedBy}
 use Rattle.outcomes.specs.TableauOperations.{moveTableauRun, moveTableauSays}
-use Rattle.hypoplactic.proofs.Theory.Undo.{moved-turned}
-use Rattle.hypoplactic.proofs.Theory.MoveCounts.{Counted, moved-counted}
-use Rattle.hypoplactic.proofs.Theory.MoveValid.{tableau-upright}
+use Rattle.quasi_crystal.proofs.Theory.Undo.{moved-turned}
+use Rattle.quasi_crystal.proofs.Theory.MoveCounts.{Counted, moved-counted}
+use Rattle.quasi_crystal.proofs.Theory.MoveValid.{tableau-upright}
 use Rattle.outcomes.proofs.Theory.Counts.{counts-true, turned-counts}
 use Rattle.outcomes.proofs.Theory.Passing.{Passing, first-past}
 use Rattle.outcomes.proofs.Theory.Judged.{counted-passing, word-passing}

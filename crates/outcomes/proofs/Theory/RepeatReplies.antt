@@ -14,21 +14,21 @@ use native.Mathlib.Omega.{arith}
 use lib.ListN.{length, set}
 use Rattle.hypoplactic.specs.Words.{Accepted}
 use Rattle.hypoplactic.specs.Ribbons.{TableauAt}
-use Rattle.hypoplactic.specs.Moves.{Move, below, changedPlace, given, guarded, indexOf, inverted, moveTableau, moveWord, moved, remaining, repeatTableau, repeatWord, replaced}
+use Rattle.quasi_crystal.specs.Moves.{Move, below, changedPlace, given, guarded, indexOf, inverted, moveTableau, moveWord, moved, remaining, repeatTableau, repeatWord, replaced}
 use Rattle.outcomes.specs.Replies.{Said, Passes, first, gives, orElse, passed, refused, refuseIf}
 use Rattle.outcomes.specs.Counts.{withCounts}
 use Rattle.outcomes.specs.Judgements.{countedJudgements, indexJudged, wordJudgements}
 use Rattle.outcomes.specs.WordOperations.{moveWordRun, repeatWordSays}
 use Rattle.outcomes.specs.TableauOperations.{moveTableauRun, repeatTableauSays}
 use Rattle.outcomes.specs.Repeats.{Made, Repeated}
-use Rattle.hypoplactic.proofs.Theory.Undo.{moved-turned, turned-upright, word-turned}
-use Rattle.hypoplactic.proofs.Theory.MoveCounts.{Counted, moved-counted}
-use Rattle.hypoplactic.proofs.Theory.MoveValid.{moved-valid, tableau-upright}
+use Rattle.quasi_crystal.proofs.Theory.Undo.{moved-turned, turned-upright, word-turned}
+use Rattle.quasi_crystal.proofs.Theory.MoveCounts.{Counted, moved-counted}
+use Rattle.quasi_crystal.proofs.Theory.MoveValid.{moved-valid, tableau-upright}
 use Rattle.outcomes.proofs.Theory.Passing.{Passing}
 use Rattle.outcomes.proofs.Theory.Counts.{counts-whole}
 use Rattle.outcomes.proofs.Theory.Judged.{counted-passing, word-passing}
 use Rattle.outcomes.proofs.Theory.MoveResults.{move-tableau-made, move-tableau-refused, move-word-made, move-word-refused}
-use Rattle.hypoplactic.proofs.Theory.Closure.{move-accepted, move-tableau-at}
+use Rattle.quasi_crystal.proofs.Theory.Closure.{move-accepted, move-tableau-at}
 
 -- What can be made k times and is then refused cannot be made more often.
 pub repeated-most : {A : Type 0} {run : A → Said × A} {k j : ℕ} {u : A} → Repeated run k j u → (i : ℕ) (v : A) → Made run i u v → i ≤ k

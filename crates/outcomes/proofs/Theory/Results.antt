@@ -16,7 +16,7 @@ use Rattle.hypoplactic.specs.Words.{Accepted, Inside, tick}
 use Rattle.hypoplactic.specs.Ribbons.{PairAt, TableauAt}
 use Rattle.hypoplactic.specs.Insertion.{Pair, insert, pairOf, wordOf}
 use Rattle.hypoplactic.specs.Reading.{columnReading}
-use Rattle.hypoplactic.specs.Moves.{Move, repeatTableau, repeatWord}
+use Rattle.quasi_crystal.specs.Moves.{Move, repeatTableau, repeatWord}
 use Rattle.hypoplactic.specs.Junctions.{junctionSet, rowsOf, sameClass}
 use Rattle.hypoplactic.specs.Weights.{compareWeights}
 use Rattle.outcomes.specs.Replies.{gives, passed, written}

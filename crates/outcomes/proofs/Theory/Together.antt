@@ -19,7 +19,7 @@ use Rattle.hypoplactic.specs.Reading.{columnReading}
 use Rattle.outcomes.specs.Replies.{gives, written}
 use Rattle.outcomes.specs.Counts.{countsOf}
 use Rattle.outcomes.specs.TableauOperations.{insertRun, pairRun, usedCells, wordRun, writtenPair}
-use Rattle.hypoplactic.proofs.Theory.Closure.{pair-word-accepted, reading-accepted, word-pair-at}
+use Rattle.quasi_crystal.proofs.Theory.Closure.{pair-word-accepted, reading-accepted, word-pair-at}
 use Rattle.hypoplactic.proofs.Theory.Correspondence.{pair-of-word, word-of-pair}
 use Rattle.outcomes.proofs.Theory.Counts.{letters-counts, letters-true, snoc-counts}
 use Rattle.hypoplactic.proofs.Theory.Layers.{within-snoc}

@@ -14,16 +14,16 @@ use lib.ListN.{length}
 use Rattle.hypoplactic.specs.Words.{Accepted}
 use Rattle.hypoplactic.specs.Rewriting.{Joined}
 use Rattle.hypoplactic.specs.Insertion.{Pair, marksOf, recordingOf}
-use Rattle.hypoplactic.specs.Moves.{Defined, Move, given, inverted, moveWord, placeInWord, replaced}
+use Rattle.quasi_crystal.specs.Moves.{Defined, Move, given, inverted, moveWord, placeInWord, replaced}
 use Rattle.outcomes.specs.Replies.{Said, after, first, gives, refused, written}
 use Rattle.outcomes.specs.Judgements.{pairRooms, wordJudgements}
 use Rattle.outcomes.specs.WordOperations.{moveWordRun, orSame, undefinedBy}
 use Rattle.outcomes.specs.TableauOperations.{pairRun, pairSays}
-use Rattle.hypoplactic.specs.Classes.{tableauLine, Faithful}
+use Rattle.quasi_crystal.specs.Classes.{tableauLine, Faithful}
 use Rattle.outcomes.specs.LineOperations.{tableauLineRun}
 use Rattle.outcomes.specs.WrittenClasses.{FaithfullyWritten, FaithfulWriting, MovedTogether, OneRecording, in-both, in-neither, lineBytes, moveLeft}
-use Rattle.hypoplactic.proofs.Theory.Classes.{classes}
-use Rattle.hypoplactic.proofs.Theory.Closure.{move-accepted}
+use Rattle.quasi_crystal.proofs.Theory.Classes.{classes}
+use Rattle.quasi_crystal.proofs.Theory.Closure.{move-accepted}
 use Rattle.hypoplactic.proofs.Theory.Invariants.{joined-inversion}
 use Rattle.outcomes.proofs.Theory.Judged.{word-passing}
 use Rattle.outcomes.proofs.Theory.LineResults.{tableau-line-result}
@@ -32,7 +32,7 @@ use Rattle.outcomes.proofs.Theory.MoveResults.{move-replaced, move-word
 use Rattle.hypoplactic.proofs.Theory.Pairs.{length-recording}
 use Rattle.outcomes.proofs.Theory.Passing.{first-past}
 use Rattle.hypoplactic.proofs.Theory.Recordings.{descents, marks-of-recording}
-use Rattle.hypoplactic.proofs.Theory.Targets.{place-below}
+use Rattle.quasi_crystal.proofs.Theory.Targets.{place-below}
 
 -- The bytes written are the tableau line.
 pub line-bytes : (n : ℕ) (w out : List ℕ) → Accepted n w → length (tableauLine n w) ≤ length out → lineBytes tableauLineRun n w out ≡ tableauLine n w

@@ -18,7 +18,7 @@ use Rattle.outcomes.specs.Counts.{TrueCounts, countsOf}
 use Rattle.hypoplactic.specs.Ribbons.{Tableau, TableauAt}
 use Rattle.hypoplactic.specs.Reading.{columnReading}
 use Rattle.hypoplactic.specs.Junctions.{nextLarger}
-use Rattle.hypoplactic.proofs.Theory.Closure.{word-tableau-at}
+use Rattle.quasi_crystal.proofs.Theory.Closure.{word-tableau-at}
 use Rattle.hypoplactic.proofs.Theory.Contents.{within-counts}
 use Rattle.outcomes.proofs.Theory.Counts.{counts-true, letters-counts}
 use Rattle.hypoplactic.proofs.Theory.Letters.{count-letters}

@@ -29,7 +29,7 @@ use Rattle.hypoplactic.specs.Reading.{columnReading}
 use Rattle.outcomes.specs.Replies.{gives, refused, first, written}
 use Rattle.outcomes.specs.Judgements.{lengthJudged, lettersJudged, marksJudged, rankJudged, risingJudged, pairRooms, tableauRooms, wordJudgements}
 use Rattle.outcomes.specs.TableauOperations.{pairRun, pairSays}
-use Rattle.hypoplactic.proofs.Theory.Closure.{chain-accepted, word-tableau-at}
+use Rattle.quasi_crystal.proofs.Theory.Closure.{chain-accepted, word-tableau-at}
 use Rattle.outcomes.proofs.Theory.Counts.{counts-judged, counts-same, counts-true, letters-true}
 use Rattle.hypoplactic.proofs.Theory.Invariants.{joined-count, joined-tableau}
 use Rattle.hypoplactic.proofs.Theory.Joining.{joined-eq, joined-sym}

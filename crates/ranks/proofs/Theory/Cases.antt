@@ -9,7 +9,7 @@ use Rattle.hypoplactic.specs.Insertion.{insert, pairOf}
 use Rattle.hypoplactic.specs.Junctions.{junctionSet, number, sameClass}
 use Rattle.outcomes.specs.Judgements.{indexJudged, inversionJudged, lengthJudged, letterJudged, lettersJudged, rankJudged}
 use Rattle.outcomes.specs.WordOperations.{moveWordRun, moveWordSays, sameClassSays}
-use Rattle.hypoplactic.specs.Classes.{tableauLine}
+use Rattle.quasi_crystal.specs.Classes.{tableauLine}
 use Rattle.outcomes.specs.Starred.{Case}
 use Rattle.ranks.specs.Unranked.{withoutRank}
 use Rattle.ranks.specs.Ranks.{unrankedLine}

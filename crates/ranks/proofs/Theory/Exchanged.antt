@@ -6,7 +6,7 @@ use Prim.Native.Nat.{ℕ}
 use mathlib.Core.Path.{sym}
 use mathlib.Core.List.{List}
 use mathlib.Core.Option.{Option}
-use Rattle.hypoplactic.specs.Moves.{Move}
+use Rattle.quasi_crystal.specs.Moves.{Move}
 use Rattle.outcomes.specs.Replies.{Said}
 use Rattle.hypoplactic.proofs.Theory.Joining.{joined-sym}
 use Rattle.changed_places.proofs.Theory.TakenApart.{together-turned}

@@ -18,9 +18,9 @@ use borrow.Author.Tests.{lt-ltb, ltb-true}
 use Rattle.hypoplactic.specs.Words.{Accepted}
 use Rattle.hypoplactic.specs.Rewriting.{Joined}
 use Rattle.outcomes.specs.Replies.{Said, refused}
-use Rattle.hypoplactic.specs.Moves.{Defined, Move, given, indexOf, moveWord}
+use Rattle.quasi_crystal.specs.Moves.{Defined, Move, given, indexOf, moveWord}
 use Rattle.outcomes.specs.WordOperations.{moveWordRun}
-use Rattle.hypoplactic.specs.Classes.{tableauLine, Faithful}
+use Rattle.quasi_crystal.specs.Classes.{tableauLine, Faithful}
 use Rattle.outcomes.specs.LineOperations.{tableauLineRun}
 use Rattle.outcomes.specs.WrittenClasses.{FaithfullyWritten, MovedTogether, in-neither, lineBytes, moveLeft}
 use Rattle.hypoplactic.proofs.Theory.Limits.{and-both, within-more}

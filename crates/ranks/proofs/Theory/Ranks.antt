@@ -8,10 +8,10 @@ use mathlib.Core.Bool.{true}
 use mathlib.Core.List.{List}
 use Rattle.grammar.specs.Lines.{tLine}
 use Rattle.hypoplactic.specs.Insertion.{lettersOf, marksOf}
-use Rattle.hypoplactic.specs.Classes.{tableauLine, Faithful}
-use Rattle.hypoplactic.specs.Moves.{indexOf, movedWord, moveWord}
+use Rattle.quasi_crystal.specs.Classes.{tableauLine, Faithful}
+use Rattle.quasi_crystal.specs.Moves.{indexOf, movedWord, moveWord}
 use Rattle.hypoplactic.specs.Ribbons.{Tableau}
-use Rattle.hypoplactic.proofs.Theory.Classes.{allowed-defined, faithful}
+use Rattle.quasi_crystal.proofs.Theory.Classes.{allowed-defined, faithful}
 use Rattle.ranks.specs.Unranked.{withoutRank}
 use Rattle.ranks.specs.Ranks.{FaithfulAcross, FaithfulRanks, unrankedLine}
 use Rattle.ranks.proofs.Theory.Unranked.{tableau-unranked, unranked-tells}

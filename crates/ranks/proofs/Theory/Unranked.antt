@@ -17,7 +17,7 @@ use Rattle.grammar.specs.Numbers.{decimal, digits}
 use Rattle.grammar.specs.Lines.{cell, cells, field, firstCell, items, line, tLine}
 use Rattle.grammar.proofs.Theory.Determined.{t-determined}
 use Rattle.hypoplactic.specs.Ribbons.{Tableau}
-use Rattle.hypoplactic.proofs.Theory.Classes.{line-tells, marked}
+use Rattle.quasi_crystal.proofs.Theory.Classes.{line-tells, marked}
 use Rattle.ranks.specs.Unranked.{pastField, withoutRank}
 
 -- A digit is neither a comma nor a line feed,

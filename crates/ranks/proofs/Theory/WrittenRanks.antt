@@ -15,13 +15,13 @@ use lib.ListN.{length}
 use Rattle.hypoplactic.specs.Junctions.{sameClass}
 use Rattle.hypoplactic.specs.Words.{Accepted, tick}
 use Rattle.hypoplactic.specs.Rewriting.{Joined}
-use Rattle.hypoplactic.specs.Moves.{Move, moveWord}
+use Rattle.quasi_crystal.specs.Moves.{Move, moveWord}
 use Rattle.outcomes.specs.Replies.{Said, gives, refused}
 use Rattle.outcomes.specs.WordOperations.{moveWordRun, sameClassSays}
-use Rattle.hypoplactic.specs.Classes.{tableauLine}
+use Rattle.quasi_crystal.specs.Classes.{tableauLine}
 use Rattle.outcomes.specs.LineOperations.{tableauLineRun}
 use Rattle.outcomes.specs.WrittenClasses.{FaithfullyWritten, lineBytes, moveLeft}
-use Rattle.hypoplactic.proofs.Theory.Closure.{chain-accepted}
+use Rattle.quasi_crystal.proofs.Theory.Closure.{chain-accepted}
 use Rattle.hypoplactic.proofs.Theory.Joining.{joined-sym}
 use Rattle.outcomes.proofs.Theory.MoveResults.{move-word-result}
 use Rattle.hypoplactic.proofs.Theory.OneClass.{class-joined}

@@ -14,12 +14,12 @@ use Rattle.grammar.specs.Lines.{cLine, field, firstRun, items, laterRun, line, 
 use Rattle.grammar.proofs.Theory.Determined.{c-determined}
 use Rattle.outcomes.specs.WrittenClasses.{lineBytes}
 use Rattle.hypoplactic.specs.Insertion.{lettersOf, marksOf}
-use Rattle.hypoplactic.specs.Classes.{tableauLine}
-use Rattle.hypoplactic.specs.Moves.{indexOf, moveWord}
+use Rattle.quasi_crystal.specs.Classes.{tableauLine}
+use Rattle.quasi_crystal.specs.Moves.{indexOf, moveWord}
 use Rattle.hypoplactic.specs.Ribbons.{Tableau}
 use Rattle.hypoplactic.specs.Words.{Accepted}
 use Rattle.hypoplactic.proofs.Theory.Boundary.{tableau-of-word}
-use Rattle.hypoplactic.proofs.Theory.Classes.{faithful, line-tells}
+use Rattle.quasi_crystal.proofs.Theory.Classes.{faithful, line-tells}
 use Rattle.outcomes.proofs.Theory.Memory.{written-needed}
 use Rattle.outcomes.proofs.Theory.WrittenClasses.{faithfully-written}
 use Rattle.ranks.specs.Unranked.{withoutRank}

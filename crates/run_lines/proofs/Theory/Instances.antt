@@ -21,7 +21,7 @@ use Rattle.outcomes.specs.Counts.{countsOf}
 use Rattle.outcomes.specs.FirstPlaces.{scan}
 use Rattle.hypoplactic.specs.Insertion.{insert, pairOf}
 use Rattle.outcomes.specs.Judgements.{alikeJudged, lengthJudged, lettersJudged, marksJudged, outside, rankJudged, risingJudged, roomJudged}
-use Rattle.hypoplactic.specs.Classes.{tableauLine}
+use Rattle.quasi_crystal.specs.Classes.{tableauLine}
 use Rattle.outcomes.specs.Replies.{gives, refused}
 use Rattle.hypoplactic.specs.Rewriting.{Joined}
 use Rattle.hypoplactic.specs.Ribbons.{TableauAt}

@@ -23,7 +23,7 @@ use Rattle.outcomes.specs.Judgements.{roomJudged, tableauJudgements, tableauRoo
 use Rattle.outcomes.specs.Replies.{Said, first, gives, refused, written}
 use Rattle.hypoplactic.specs.Ribbons.{TableauAt}
 use Rattle.hypoplactic.specs.Words.{Accepted, Within}
-use Rattle.hypoplactic.proofs.Theory.Classes.{marked}
+use Rattle.quasi_crystal.proofs.Theory.Classes.{marked}
 use Rattle.outcomes.proofs.Theory.Judged.{tableau-passing, word-passing}
 use Rattle.outcomes.proofs.Theory.Judgements.{letters-judged, room-judged}
 use Rattle.outcomes.proofs.Theory.LineReadings.{accepted-small, broken-exactly}

@@ -24,7 +24,7 @@ use Rattle.outcomes.specs.Replies.{Passes, Said, gives, written}
 use Rattle.outcomes.specs.Counts.{TrueCounts, countsOf}
 use Rattle.outcomes.specs.Judgements.{pairRooms, wordJudgements}
 use Rattle.outcomes.specs.TableauOperations.{pairRun, pairSays, usedCells, writtenPair}
-use Rattle.hypoplactic.proofs.Theory.Closure.{word-pair-at}
+use Rattle.quasi_crystal.proofs.Theory.Closure.{word-pair-at}
 use Rattle.hypoplactic.proofs.Theory.Correspondence.{word-of-pair}
 use Rattle.outcomes.proofs.Theory.Counts.{counts-whole, letters-true}
 use Rattle.outcomes.proofs.Theory.Judged.{word-passing}

@@ -13,18 +13,18 @@ use mathlib.Core.Option.{Option, none, some, Option·map}
 use native.Mathlib.Omega.{arith}
 use lib.Dec.{eqb, ltb}
 use borrow.Author.Tests.{eqb-true, eqb-false, eq-eqb, lt-ltb}
 use Rattle.hypoplactic.specs.Words.{tick, occurs, before}
 use Rattle.hypoplactic.specs.Ribbons.{downAfter}
 use Rattle.hypoplactic.specs.Insertion.{lettersOf, marksOf}
-use Rattle.hypoplactic.specs.Moves.{Move, taken, inverted, fromTo, below, moved, movedWord, movedTableau, remaining}
+use Rattle.quasi_crystal.specs.Moves.{Move, taken, inverted, fromTo, below, moved, movedWord, movedTableau, remaining}
 use Rattle.hypoplactic.specs.Places.{marksAfter, marksBy}
 use Rattle.hypoplactic.proofs.Theory.Pairs.{Rising, le-or-lt, letters-rising}
 use Rattle.hypoplactic.proofs.Theory.Occurrences.{occurs-count, before-absent}
 use Rattle.hypoplactic.proofs.Theory.Letters.{count-letters, occurs-low}
 use Rattle.hypoplactic.proofs.Theory.Marks.{marks-before}
-use Rattle.hypoplactic.proofs.Theory.Undo.{occurs-lacks, lacks-before, moved-turned}
-use Rattle.hypoplactic.proofs.Theory.MoveRecording.{turned-pair}
-use Rattle.hypoplactic.proofs.Theory.MoveCounts.{Counted, moved-counted}
+use Rattle.quasi_crystal.proofs.Theory.Undo.{occurs-lacks, lacks-before, moved-turned}
+use Rattle.quasi_crystal.proofs.Theory.MoveRecording.{turned-pair}
+use Rattle.quasi_crystal.proofs.Theory.MoveCounts.{Counted, moved-counted}
 
 -- ---- letters that never fall
 

@@ -12,10 +12,10 @@ use mathlib.Core.Option.{some}
 use native.Mathlib.Omega.{arith}
 use lib.Dec.{leb}
 use borrow.Author.Tests.{leb-false, le-leb, lt-leb}
 use Rattle.hypoplactic.specs.Insertion.{reached, seat, putAt, putMark, Pair, insert, insertAll, emptyPair, pairOf, lettersOf, marksOf, recordingOf}
-use Rattle.hypoplactic.specs.Moves.{Side, raising, lowering, Move, movedWord}
+use Rattle.quasi_crystal.specs.Moves.{Side, raising, lowering, Move, movedWord}
 use Rattle.hypoplactic.proofs.Theory.Pairs.{le-or-lt}
-use Rattle.hypoplactic.proofs.Theory.Undo.{Lacks, Changed, here, after, Turned, word-turned}
+use Rattle.quasi_crystal.proofs.Theory.Undo.{Lacks, Changed, here, after, Turned, word-turned}
 
 -- ---- seats
 

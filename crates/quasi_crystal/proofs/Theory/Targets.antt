@@ -13,7 +13,7 @@ use mathlib.Core.Option.{Option, none, some, Option·none-ne-some}
 use mathlib.Core.List.{List, [], _∷_}
 use lib.Dec.{eqb}
 use lib.ListN.{length}
-use Rattle.hypoplactic.specs.Moves.{Side, raising, lowering, Move, changedPlace, guarded, indexOf, leftmost, onward, orHere, rightmost, target}
+use Rattle.quasi_crystal.specs.Moves.{Side, raising, lowering, Move, changedPlace, guarded, indexOf, leftmost, onward, orHere, rightmost, target}
 
 abbrev pub Below : ℕ → Option ℕ → Type 0
 Below n none = Unit {0}

@@ -13,9 +13,9 @@ use mathlib.Core.Option.{Option, none, some}
 use native.Mathlib.Omega.{arith}
 use lib.Dec.{eqb}
 use borrow.Author.Tests.{eq-eqb, ne-eqb}
 use Rattle.hypoplactic.specs.Words.{tick, count}
-use Rattle.hypoplactic.specs.Moves.{Side, raising, lowering, Move, given, taken, inverted, moved, remaining}
-use Rattle.hypoplactic.proofs.Theory.Undo.{Lacks, Changed, here, after, Turned, Outcome, moved-outcome}
+use Rattle.quasi_crystal.specs.Moves.{Side, raising, lowering, Move, given, taken, inverted, moved, remaining}
+use Rattle.quasi_crystal.proofs.Theory.Undo.{Lacks, Changed, here, after, Turned, Outcome, moved-outcome}
 
 -- What an answer says of the letters that the move could change.
 abbrev pub Counted : Move → Bool → List ℕ → Option (List ℕ) → Type 0

@@ -16,8 +16,8 @@ use mathlib.Core.Bool.{Bool, true, false, _&&_, _||_, and-false, true≢false, c
 use mathlib.Core.Option.{Option, none, some, Option·none-ne-some}
 use lib.Dec.{eqb}
 use borrow.Author.Tests.{eqb-true, eqb-false, eq-eqb, ne-eqb}
 use Rattle.hypoplactic.specs.Words.{before, occurs}
-use Rattle.hypoplactic.specs.Moves.{Side, raising, lowering, Move, taken, given, inverted, onward, leftmost, orHere, rightmost, target, replaced, moved, movedWord}
+use Rattle.quasi_crystal.specs.Moves.{Side, raising, lowering, Move, taken, given, inverted, onward, leftmost, orHere, rightmost, target, replaced, moved, movedWord}
 
 -- The letter a stands nowhere in the word.
 abbrev pub Lacks : ℕ → List ℕ → Type 0

@@ -10,11 +10,11 @@ use mathlib.Core.List.{List}
 use mathlib.Core.Bool.{Bool, false}
 use mathlib.Core.Option.{Option, none, some}
 use native.Mathlib.Omega.{arith}
 use Rattle.hypoplactic.specs.Ribbons.{Tableau}
-use Rattle.hypoplactic.specs.Moves.{Move, inverted, below, moved, remaining, repeatWord, repeatTableau, Defined, andThen, timesWord, timesTableau}
-use Rattle.hypoplactic.proofs.Theory.Undo.{turned-upright, word-turned}
-use Rattle.hypoplactic.proofs.Theory.MoveCounts.{Counted, moved-counted}
-use Rattle.hypoplactic.proofs.Theory.MoveValid.{tableau-upright, moved-valid}
+use Rattle.quasi_crystal.specs.Moves.{Move, inverted, below, moved, remaining, repeatWord, repeatTableau, Defined, andThen, timesWord, timesTableau}
+use Rattle.quasi_crystal.proofs.Theory.Undo.{turned-upright, word-turned}
+use Rattle.quasi_crystal.proofs.Theory.MoveCounts.{Counted, moved-counted}
+use Rattle.quasi_crystal.proofs.Theory.MoveValid.{tableau-upright, moved-valid}
 
 -- A move on letters that are good, under a test for an inversion: where the test fails the letters have none, and a moved word is good and passes no test.
 module _ (m : Move) (Good : List ℕ → Type 0) (test : List ℕ → Bool) (times : ℕ → List ℕ → Option (List ℕ))

@@ -11,10 +11,10 @@ use mathlib.Core.Logic.{_↔_}
 use mathlib.Core.Option.{Option, some}
 use Prim.Native.Nat.{ℕ}
 use Rattle.grammar.specs.Lines.{tLine}
 use Rattle.hypoplactic.specs.Insertion.{lettersOf, marksOf, recordingOf}
 use Rattle.hypoplactic.specs.Words.{Accepted}
-use Rattle.hypoplactic.specs.Moves.{Move, Defined, moveWord}
+use Rattle.quasi_crystal.specs.Moves.{Move, Defined, moveWord}
 use Rattle.hypoplactic.specs.Rewriting.{Joined}
 
 -- The tableau line of a word.
 unfoldable pub tableauLine : ℕ → List ℕ → List ℕ

@@ -16,21 +16,21 @@ use mathlib.Core.List.{List, [], _∷_, _++_}
 use lib.Dec.{ltb}
 use lib.ListN.{length, length-set, set}
 use borrow.Author.Tests.{ltb-true}
 use Rattle.hypoplactic.specs.Words.{Accepted, Inside, Within, count}
 use Rattle.hypoplactic.specs.Rewriting.{Joined}
 use Rattle.hypoplactic.specs.Ribbons.{PairAt, TableauAt}
 use Rattle.hypoplactic.specs.Insertion.{Pair, insert, lettersOf, marksOf, pairOf, recordingOf, wordOf}
 use Rattle.hypoplactic.specs.Reading.{columnReading}
-use Rattle.hypoplactic.specs.Moves.{Side, raising, lowering, Move, below, changedPlace, given, guarded, indexOf, inverted, moved, movedTableau, moveTableau, moveWord, replaced}
+use Rattle.quasi_crystal.specs.Moves.{Side, raising, lowering, Move, below, changedPlace, given, guarded, indexOf, inverted, moved, movedTableau, moveTableau, moveWord, replaced}
 use Rattle.hypoplactic.proofs.Theory.Pairs.{length-letters, pair-snoc}
 use Rattle.hypoplactic.proofs.Theory.Letters.{count-letters}
 use Rattle.hypoplactic.proofs.Theory.Invariants.{joined-count}
 use Rattle.hypoplactic.proofs.Theory.Boundary.{tableau-of-word}
 use Rattle.hypoplactic.proofs.Theory.ReadBack.{read-back}
 use Rattle.hypoplactic.proofs.Theory.Correspondence.{pair-of-word, pair-valid}
-use Rattle.hypoplactic.proofs.Theory.MoveValid.{moved-valid}
+use Rattle.quasi_crystal.proofs.Theory.MoveValid.{moved-valid}
 use Rattle.hypoplactic.proofs.Theory.Contents.{accepted-content, accepted-snoc}
-use Rattle.hypoplactic.proofs.Theory.Targets.{unguarded}
+use Rattle.quasi_crystal.proofs.Theory.Targets.{unguarded}
 
 -- ---- words and their pairs
 

@@ -1,6 +1,5 @@
 -- Demand 3 of the scope, as one theorem (theorem a). The statement is `FaithfulLines` of specs/Classes.antt: lines shared exactly by joined words,
 -- moves that respect joining, recording ribbons that moves keep.
---     same-tableau-joined   words of one tableau are joined
 --     faithful              the core: any line that tells tableaux apart, any set of allowed moves, no bound on rank or length
 --     classes               demand 3: at every rank, for any two words accepted at it, with the tableau line and the moves of that rank
 -- Around it: that the claim is not vacuous stands in Examples, that joined words get one refusal number from every move in JoinedReplies, that
@@ -15,22 +14,16 @@ use mathlib.Core.Option.{Option, none, some, Option·map, Option·none-ne-some, 
 use Rattle.grammar.specs.Lines.{tLine}
 use Rattle.grammar.specs.Values.{Marked, Stepped}
 use Rattle.grammar.proofs.Theory.Determined.{t-determined}
 use Rattle.hypoplactic.specs.Rewriting.{Joined}
 use Rattle.hypoplactic.specs.Ribbons.{Tableau, Along, LetterStep}
 use Rattle.hypoplactic.specs.Insertion.{lettersOf, marksOf}
-use Rattle.hypoplactic.specs.Reading.{columnReading}
-use Rattle.hypoplactic.specs.Moves.{Move, Defined, movedWord, movedTableau, moveWord, indexOf}
-use Rattle.hypoplactic.specs.Classes.{tableauLine, Faithful, FaithfulLines}
-use Rattle.hypoplactic.proofs.Theory.Joining.{_⨾_, joined-eq, joined-sym}
-use Rattle.hypoplactic.proofs.Theory.NormalForm.{word-reading}
+use Rattle.quasi_crystal.specs.Moves.{Move, Defined, movedWord, movedTableau, moveWord, indexOf}
+use Rattle.quasi_crystal.specs.Classes.{tableauLine, Faithful, FaithfulLines}
+use Rattle.hypoplactic.proofs.Theory.NormalForm.{same-tableau-joined}
 use Rattle.hypoplactic.proofs.Theory.Boundary.{tableau-of-word}
 use Rattle.hypoplactic.proofs.Theory.Invariants.{joined-tableau}
-use Rattle.hypoplactic.proofs.Theory.MoveRecording.{move-recording}
-use Rattle.hypoplactic.proofs.Theory.MoveTableau.{tableau-answer}
-
--- Words of one tableau are joined: each is joined to the tableau's column reading.
-pub same-tableau-joined : (u v : List ℕ) → lettersOf u ≡ lettersOf v → marksOf u ≡ marksOf v → Joined u v
-same-tableau-joined u v p q = word-reading u ⨾ joined-eq (ap₂ columnReading p q) ⨾ joined-sym (word-reading v)
+use Rattle.quasi_crystal.proofs.Theory.MoveRecording.{move-recording}
+use Rattle.quasi_crystal.proofs.Theory.MoveTableau.{tableau-answer}
 
 -- ---- moves on words of one tableau
 

@@ -15,12 +15,12 @@ use mathlib.Core.Option.{some}
 use native.Mathlib.Omega.{arith}
 use lib.Dec.{eqb}
 use borrow.Author.Tests.{eqb-true, eq-eqb, ne-eqb}
 use Rattle.hypoplactic.specs.Ribbons.{Along, Ribbon, LetterStep, Tableau, downAfter}
-use Rattle.hypoplactic.specs.Moves.{Side, raising, lowering, Move, inverted, fromTo, below, movedTableau}
+use Rattle.quasi_crystal.specs.Moves.{Side, raising, lowering, Move, inverted, fromTo, below, movedTableau}
 use Rattle.hypoplactic.proofs.Theory.Seating.{rising-of-along}
 use Rattle.hypoplactic.proofs.Theory.Boundary.{along-of-tableau}
-use Rattle.hypoplactic.proofs.Theory.Undo.{Lacks, Changed, here, after, Turned, or-false-both, moved-turned}
-use Rattle.hypoplactic.proofs.Theory.MoveTableau.{rising-upright}
+use Rattle.quasi_crystal.proofs.Theory.Undo.{Lacks, Changed, here, after, Turned, or-false-both, moved-turned}
+use Rattle.quasi_crystal.proofs.Theory.MoveTableau.{rising-upright}
 
 -- ---- tableaux with no i+1 directly below i
 
