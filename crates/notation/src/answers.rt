@@ -15,9 +15,14 @@ use refusals::answers::Written;
 use refusals::refusal::Refusal;
 use refusals::refusal::number_and_place;
 
+// A call that succeeds.
+fn print_success() {
+    print(b"gives");
+}
+
 // A call that gives one value.
 fn print_gives(value: usize) {
-    print(b"gives");
+    print_success();
     print_number(b' ', value);
 }
 
@@ -25,6 +30,12 @@ fn print_gives(value: usize) {
 fn print_gives_two(value: usize, other: usize) {
     print_gives(value);
     print_number(b' ', other);
+}
+
+// A call that gives three values.
+fn print_gives_three(value: usize, other: usize, third: usize) {
+    print_gives_two(value, other);
+    print_number(b' ', third);
 }
 
 // A refusal: number and place.
@@ -94,11 +105,8 @@ pub fn print_read(answer: ReadLine) {
 // Letter, row and column; no value where there is no such cell.
 pub fn print_cell(answer: Cell) {
     match answer {
-        Cell::Found(letter, row, column) => {
-            print_gives_two(letter as usize, row);
-            print_number(b' ', column);
-        }
-        Cell::NoSuchCell => print(b"gives"),
+        Cell::Found(letter, row, column) => print_gives_three(letter as usize, row, column),
+        Cell::NoSuchCell => print_success(),
         Cell::Refused(refusal) => print_refusal(refusal),
     }
 }
@@ -126,7 +134,7 @@ pub fn print_weights(answer: Weights) {
 // A check that passes gives no value.
 pub fn print_verdict(answer: Verdict) {
     match answer {
-        Verdict::Passed => print(b"gives"),
+        Verdict::Passed => print_success(),
         Verdict::Refused(refusal) => print_refusal(refusal),
     }
 }

@@ -1,37 +1,38 @@
 // Lines, fields and numbers. Nothing here refuses: what is no digit counts as none. The expected output shows where a table line is not what it should be.
-ghost use Prim.Native.Nat.{_<_, _≤_};
+use check::same;
+ghost use Prim.Native.Nat.{_≤_};
 ghost use mathlib.Core.Path.{_≡_};
-ghost use lib.ListN.{length};
+ghost use lib.ListN.{length, drop};
 ghost use Rattle.notation.specs.Bounds.{Between};
-ghost use Rattle.notation.specs.Digits.{digitsFrom};
+ghost use Rattle.notation.specs.Digits.{digitsFrom, NumberIn};
 
-// Whether two texts are the same.
-fn same(a: &[u8], b: &[u8]) -> bool {
-    if a.len() != b.len() {
-        return false;
-    }
-    let mut i = 0;
-    while i < a.len() {
-        if a[i] != b[i] {
-            return false;
-        }
-        i += 1;
-    }
-    true
-}
-
-// Where a byte stands first from a place on; the text's length where it does not, or the place itself past the text's end.
-pub fn place_of(text: &[u8], from: usize, byte: u8) -> usize
+// Where the first byte from a place on stands that is a given one, or one of so many after it, 0 after 255; the text's length where there is none, or the
+// place itself past the text's end.
+fn place_among(text: &[u8], from: usize, byte: u8, more: u8) -> usize
     ensures { λ r. ⌜ Between from r (length (now (text .entry))) ⌝ }
 {
     let mut at = from;
     while at < text.len() {
-        if text[at] == byte {
+        if std::num::wrapping_sub_u8(text[at], byte) <= more {
             return at;
         }
         at += 1;
     }
     at
+}
+
+// The same for one byte.
+pub fn place_of(text: &[u8], from: usize, byte: u8) -> usize
+    ensures { λ r. ⌜ Between from r (length (now (text .entry))) ⌝ }
+{
+    place_among(text, from, byte, 0)
+}
+
+// Where the digits that begin at a place of a text end.
+pub(crate) fn number_end(text: &[u8], from: usize) -> usize
+    ensures { λ r. ⌜ from ≤ r ⌝ }
+{
+    place_among(text, from, b':', 245)
 }
 
 // Where a field of a line begins: after so many spaces.
@@ -62,13 +63,16 @@ pub fn field(line: &[u8], place: usize) -> &[u8]
     &line[start..end]
 }
 
-// The place of a field that is a name; as many as there can be where none is.
-pub fn field_of(line: &[u8], name: &[u8], most: usize) -> usize
+// Of a line of names, each with a field after it, which name is a given one, counted from 0; as many as there can be where none is.
+pub fn name_of(line: &[u8], name: &[u8], most: usize) -> usize
     ensures { λ r. ⌜ r ≤ most ⌝ }
 {
     let mut place = 0;
     while place < most {
-        if same(field(line, place), name) {
+        if same(
+            field(line, std::num::wrapping_add_usize(place, place)),
+            name,
+        ) {
             return place;
         }
         place += 1;
@@ -76,50 +80,12 @@ pub fn field_of(line: &[u8], name: &[u8], most: usize) -> usize
     place
 }
 
-// The number whose digits begin at a place of a text. Of more than six digits the last count.
+// The number whose digits begin at a place of a text, up to the largest of 64 bits.
 pub(crate) fn number_at(text: &[u8], from: usize) -> usize
-    ensures { λ r. ⌜ r < 1000000 ⌝ }
+    ensures { λ r. ⌜ r ≡ digitsFrom 0 (drop from (now (text .entry))) ⌝ }
 {
     let mut value = 0;
     let mut at = from;
-    while at < text.len() {
-        let byte = text[at];
-        if byte < b'0' {
-            return value;
-        }
-        if b'9' < byte {
-            return value;
-        }
-        value = value % 100000 * 10 + wide(byte - b'0');
-        at += 1;
-    }
-    value
-}
-
-// Where the digits that begin at a place of a text end.
-pub(crate) fn number_end(text: &[u8], from: usize) -> usize
-    ensures { λ r. ⌜ from ≤ r ⌝ }
-{
-    let mut at = from;
-    while at < text.len() {
-        let byte = text[at];
-        if byte < b'0' {
-            return at;
-        }
-        if b'9' < byte {
-            return at;
-        }
-        at += 1;
-    }
-    at
-}
-
-// The number that a text begins with, up to the largest of 64 bits.
-pub fn large_number(text: &[u8]) -> usize
-    ensures { λ r. ⌜ r ≡ digitsFrom 0 (now (text .entry)) ⌝ }
-{
-    let mut value = 0;
-    let mut at = 0;
     while at < text.len() {
         let byte = text[at];
         if byte < b'0' {
@@ -144,20 +110,20 @@ pub(crate) fn wide(byte: u8) -> usize
 
 // A field that is a number.
 pub fn number(line: &[u8], place: usize) -> usize
-    ensures { λ r. ⌜ r < 1000000 ⌝ }
+    ensures { λ r. ⌜ NumberIn (now (line .entry)) r ⌝ }
 {
-    number_at(field(line, place), 0)
+    number_at(line, field_start(line, place))
 }
 
 // Whether there is an argument of a kind, by the kinds of all.
-pub(crate) fn has(kinds: &[u8], kind: u8) -> bool {
+pub fn has(kinds: &[u8], kind: u8) -> bool {
     place_of(kinds, 0, kind) < kinds.len()
 }
 
-// The field of a line that holds its argument of one of two kinds; a field past the last where there is none.
-pub(crate) fn argument(kinds: &[u8], kind: u8, other: u8) -> usize {
-    if has(kinds, kind) {
-        return std::num::wrapping_add_usize(place_of(kinds, 0, kind), 1);
-    }
-    std::num::wrapping_add_usize(place_of(kinds, 0, other), 1)
+// The field of a line that holds its argument of a kind; an empty one where there is none.
+pub(crate) fn argument<'a>(kinds: &[u8], line: &'a [u8], kind: u8) -> &'a [u8] {
+    field(
+        line,
+        std::num::wrapping_add_usize(place_of(kinds, 0, kind), 1),
+    )
 }

@@ -1,7 +1,6 @@
 // Lists and texts of the table, into lent elements. An item of a list is a number, `v*k` for k times v, or `a-b` for the numbers from a to b. A text has `$`
 // for the line feed, and may hold groups, `(t)*k` for k times t. `-` is the empty list and the empty text. Elements beyond the room are dropped.
 use crate::fields::argument;
-use crate::fields::field;
 use crate::fields::has;
 use crate::fields::number_at;
 use crate::fields::number_end;
@@ -13,25 +12,24 @@ ghost use lib.ListN.{length};
 
 // How many elements an item has. A dash alone has none.
 fn times_of(item: &[u8]) -> usize {
-    let star = place_of(item, 0, b'*');
-    if star < item.len() {
-        return number_at(item, star + 1);
+    let mark = number_end(item, 0);
+    if item.len() <= mark {
+        return 1;
     }
-    let dash = place_of(item, 0, b'-');
-    if dash < 1 {
+    if mark < 1 {
         return 0;
     }
-    if dash < item.len() {
-        let after = std::num::wrapping_add_usize(number_at(item, dash + 1), 1);
-        return std::num::wrapping_sub_usize(after, number_at(item, 0));
+    let other = number_at(item, mark + 1);
+    if item[mark] == b'*' {
+        return other;
     }
-    1
+    std::num::wrapping_sub_usize(std::num::wrapping_add_usize(other, 1), number_at(item, 0))
 }
 
 // The element of an item at a place.
 fn in_item(item: &[u8], place: usize) -> usize {
     let first = number_at(item, 0);
-    if place_of(item, 0, b'*') < item.len() {
+    if has(item, b'*') {
         return first;
     }
     std::num::wrapping_add_usize(first, place)
@@ -47,9 +45,6 @@ fn in_list(list: &[u8], place: usize) -> usize {
         let times = times_of(item);
         if left < times {
             return in_item(item, left);
-        }
-        if list.len() <= end {
-            return 65536;
         }
         left -= times;
         from = end + 1;
@@ -70,6 +65,17 @@ fn meant(text: &[u8], at: usize) -> usize {
         return 65536;
     }
     wide(byte)
+}
+
+// The byte at a place of so many times a part of a text; 65,536 past their end.
+fn in_group(text: &[u8], start: usize, size: usize, times: usize, place: usize) -> usize {
+    if size < 1 {
+        return 65536;
+    }
+    if place / size < times {
+        return meant(text, std::num::wrapping_add_usize(start, place % size));
+    }
+    65536
 }
 
 // A place counted from the end of so many times a group.
@@ -95,21 +101,15 @@ fn in_text(text: &[u8], place: usize) -> usize {
         if left < open - from {
             return meant(text, from + left);
         }
-        if text.len() <= open {
-            return 65536;
-        }
         left -= open - from;
         let inner = open + 1;
         let close = place_of(text, inner, b')');
-        let group = &text[inner..close];
         let times = number_at(text, close + 2);
-        if group.len() < 1 {
-            return 65536;
+        let found = in_group(text, inner, close - inner, times, left);
+        if found < 65536 {
+            return found;
         }
-        if left / group.len() < times {
-            return meant(group, left % group.len());
-        }
-        left = after_group(group.len(), times, left);
+        left = after_group(close - inner, times, left);
         from = number_end(text, close + 2);
     }
     65536
@@ -144,13 +144,16 @@ fn bytes(is_text: bool, list: &[u8], out: &mut [u8]) -> usize
     i
 }
 
-// The bytes of a line's argument of one of two kinds, the first perhaps that of a text, by the kinds of all its arguments; answers how many there are, none
-// where it has no such argument. The kinds of texts, t and u for a second one, are the last in the alphabet.
-pub fn bytes_of(kinds: &[u8], line: &[u8], kind: u8, other: u8, out: &mut [u8]) -> usize
-    ensures { λ r. ⌜ r ≤ length (now (out .exit)) ⌝ }
-{
-    let list = field(line, argument(kinds, kind, other));
-    bytes(b't' <= kind && has(kinds, kind), list, out)
+// The bytes of a line's argument of a kind, a text or a list, by the kinds of all its arguments; none where it has no such argument.
+pub fn bytes_of<'a>(
+    is_text: bool,
+    kinds: &[u8],
+    line: &[u8],
+    kind: u8,
+    out: &'a mut [u8],
+) -> &'a mut [u8] {
+    let count = bytes(is_text, argument(kinds, line, kind), out);
+    &mut out[0..count]
 }
 
 // A number as a 16-bit element.
@@ -174,19 +177,17 @@ fn entries(list: &[u8], out: &mut [u16]) -> usize
     i
 }
 
-// The letter counts that are a line's argument of one of two kinds: numbers that are missing are 0.
-pub fn counts_of(kinds: &[u8], line: &[u8], kind: u8, other: u8) -> [u16; 64]
+// The same for a list of 16-bit elements.
+pub fn entries_of<'a>(kinds: &[u8], line: &[u8], kind: u8, out: &'a mut [u16]) -> &'a mut [u16] {
+    let count = entries(argument(kinds, line, kind), out);
+    &mut out[0..count]
+}
+
+// The letter counts that are a line's argument of a kind: numbers that are missing are 0.
+pub fn counts_of(kinds: &[u8], line: &[u8], kind: u8) -> [u16; 64]
     ensures { λ r. ⌜ length r ≡ 64 ⌝ }
 {
     let mut counts: [u16; 64] = [0; 64];
-    let out: &mut [u16] = &mut counts;
-    entries(field(line, argument(kinds, kind, other)), out);
+    entries(argument(kinds, line, kind), &mut counts);
     counts
-}
-
-// The same for 16-bit elements: an argument of the kind e or E.
-pub fn entries_of(kinds: &[u8], line: &[u8], out: &mut [u16]) -> usize
-    ensures { λ r. ⌜ r ≤ length (now (out .exit)) ⌝ }
-{
-    entries(field(line, argument(kinds, b'e', b'E')), out)
 }

@@ -1,10 +1,7 @@
 // Numbers and lists, printed in the table's notation. A list of more than 16 elements that are not all equal is printed by its first eight, its length and a
 // checksum, the sum of place times element mod 65,536, places from 1; a text of more than 64 bytes by its first 32, its length and its checksum. Letter counts
 // are printed up to the last that is not 0, and where all are equal as one and how often.
-use crate::fields::has;
 use libc::STDOUT_FILENO;
-ghost use Prim.Native.Nat.{_≤_};
-ghost use lib.ListN.{length};
 
 // A text as it is.
 pub fn print(text: &[u8]) {
@@ -12,8 +9,13 @@ pub fn print(text: &[u8]) {
 }
 
 // A byte as it is.
-fn print_byte(byte: u8) {
+pub fn print_byte(byte: u8) {
     print(&[byte]);
+}
+
+// A mark between spaces.
+pub fn print_mark(mark: u8) {
+    print(&[b' ', mark, b' ']);
 }
 
 // A number after a mark.
@@ -42,160 +44,113 @@ fn print_element(text: bool, place: usize, element: u16) {
     io::print_decimal(STDOUT_FILENO, element as u64);
 }
 
+// A byte as a 16-bit element.
+fn wider(byte: u8) -> u16 {
+    byte as u16
+}
+
+// The element at a place of a list of bytes, or of a list of 16-bit elements: one of the two is empty.
+fn at(bytes: &[u8], entries: &[u16], place: usize) -> u16 {
+    if place < bytes.len() {
+        return wider(bytes[place]);
+    }
+    if place < entries.len() {
+        return entries[place];
+    }
+    0
+}
+
 // The first elements of a list.
-fn print_first(text: bool, list: &[u16], count: usize)
-    requires { ⌜ count ≤ length (now list) ⌝ }
-{
+fn print_first(text: bool, bytes: &[u8], entries: &[u16], count: usize) {
     let mut i = 0;
     while i < count {
-        print_element(text, i, list[i]);
+        print_element(text, i, at(bytes, entries, i));
         i += 1;
     }
 }
 
-// Whether all elements are the same.
-fn all_equal(list: &[u16]) -> bool {
-    let mut i = 1;
-    while i < list.len() {
-        if list[i] != list[0] {
-            return false;
+// How many elements there are up to the last that is not a given one.
+fn up_to_other(bytes: &[u8], entries: &[u16], count: usize, element: u16) -> usize {
+    let mut left = count;
+    while 0 < left {
+        if at(bytes, entries, left - 1) != element {
+            return left;
         }
-        i += 1;
+        left -= 1;
     }
-    true
+    left
 }
 
 // The sum of place times element, as the sum of all sums from a place to the end.
-fn checksum(list: &[u16]) -> u16 {
+fn checksum(bytes: &[u8], entries: &[u16], count: usize) -> u16 {
     let mut from_here: u16 = 0;
     let mut sum: u16 = 0;
-    let mut i = list.len();
+    let mut i = count;
     while 0 < i {
         i -= 1;
-        from_here = std::num::wrapping_add_u16(from_here, list[i]);
+        from_here = std::num::wrapping_add_u16(from_here, at(bytes, entries, i));
         sum = std::num::wrapping_add_u16(sum, from_here);
     }
     sum
 }
 
 // How many elements of a list or a text are printed: one where all of many are equal.
-fn shown(text: bool, list: &[u16]) -> usize
-    ensures { λ r. ⌜ r ≤ length (now (list .entry)) ⌝ }
-{
-    if list.len() <= 16 {
-        return list.len();
+fn shown(text: bool, bytes: &[u8], entries: &[u16], count: usize) -> usize {
+    if count <= 16 {
+        return count;
     }
     if text {
-        if list.len() <= 64 {
-            return list.len();
+        if count <= 64 {
+            return count;
         }
         return 32;
     }
-    if all_equal(list) {
+    if up_to_other(bytes, entries, count, at(bytes, entries, 0)) < 1 {
         return 1;
     }
     8
 }
 
 // What follows the elements of a list that is not printed whole.
-fn print_rest(first: usize, list: &[u16]) {
+fn print_rest(first: usize, bytes: &[u8], entries: &[u16], count: usize) {
     if first == 1 {
-        return print_number(b'*', list.len());
+        return print_number(b'*', count);
     }
     print_byte(b'.');
-    print_number(b'.', list.len());
-    print_number(b':', checksum(list) as usize);
+    print_number(b'.', count);
+    print_number(b':', checksum(bytes, entries, count) as usize);
 }
 
 // A lent list after the call, or a text.
-fn print_list(text: bool, list: &[u16]) {
-    print(b" | ");
-    if list.len() < 1 {
+fn print_either(text: bool, bytes: &[u8], entries: &[u16], count: usize) {
+    print_mark(b'|');
+    if count < 1 {
         return print_byte(b'-');
     }
-    let first = shown(text, list);
-    print_first(text, list, first);
-    if first < list.len() {
-        print_rest(first, list);
+    let first = shown(text, bytes, entries, count);
+    print_first(text, bytes, entries, first);
+    if first < count {
+        print_rest(first, bytes, entries, count);
     }
-}
-
-// A byte as a 16-bit element.
-fn wider(byte: u8) -> u16 {
-    byte as u16
-}
-
-// Copies bytes as 16-bit elements as far as there is room, and answers how many.
-fn widen(list: &[u8], out: &mut [u16]) -> usize
-    ensures { λ r. ⌜ r ≤ length (now (out .exit)) ⌝ }
-{
-    let mut i = 0;
-    while i < list.len() {
-        if out.len() <= i {
-            return i;
-        }
-        out[i] = wider(list[i]);
-        i += 1;
-    }
-    i
 }
 
 // Lent bytes after the call, or a text.
-fn print_bytes(text: bool, list: &[u8]) {
-    let mut space: [u16; 1100] = [0; 1100];
-    let out: &mut [u16] = &mut space;
-    let count = widen(list, out);
-    let whole = &out[..];
-    print_list(text, &whole[0..count]);
+pub fn print_bytes(text: bool, list: &[u8]) {
+    print_either(text, list, &[], list.len());
 }
 
-// Lent bytes after the call, where the operation has an argument of the kind, by the kinds of all; of the kind T as a text.
-fn print_lent_bytes(kinds: &[u8], kind: u8, list: &[u8]) {
-    if has(kinds, kind) {
-        print_bytes(kind == b'T', list);
-    }
+// A lent list of 16-bit elements after the call.
+pub fn print_entries(list: &[u16]) {
+    print_either(false, b"", list, list.len());
 }
 
-// The same for 16-bit elements: an argument of the kind E.
-fn print_lent_entries(kinds: &[u8], list: &[u16]) {
-    if has(kinds, b'E') {
-        print_list(false, list);
-    }
-}
-
-// How many elements there are up to the last that is not 0.
-fn without_zeros(list: &[u16]) -> usize
-    ensures { λ r. ⌜ r ≤ length (now (list .entry)) ⌝ }
-{
-    let mut count = list.len();
-    while 0 < count {
-        if list[count - 1] != 0 {
-            return count;
-        }
-        count -= 1;
-    }
-    count
-}
-
-// The same for letter counts: an argument of the kind K.
-fn print_lent_counts(kinds: &[u8], counts: [u16; 64]) {
-    if !has(kinds, b'K') {
-        return;
-    }
-    print(b" | ");
+// Lent letter counts after the call.
+pub fn print_counts(counts: [u16; 64]) {
+    let none = b"";
     let list = &counts[0..64];
-    if all_equal(list) {
-        print_first(false, list, 1);
-        return print_number(b'*', list.len());
+    if shown(false, none, list, 64) == 1 {
+        return print_either(false, none, list, 64);
     }
-    print_first(false, list, without_zeros(list));
-}
-
-// All that is lent, after the call: letters, or a text in their place, marks, entries and counts.
-pub fn print_lent(kinds: &[u8], letters: &[u8], marks: &[u8], entries: &[u16], counts: [u16; 64]) {
-    print_lent_bytes(kinds, b'L', letters);
-    print_lent_bytes(kinds, b'T', letters);
-    print_lent_bytes(kinds, b'M', marks);
-    print_lent_entries(kinds, entries);
-    print_lent_counts(kinds, counts);
+    print_mark(b'|');
+    print_first(false, none, list, up_to_other(none, list, 64, 0));
 }

@@ -16,11 +16,12 @@ fn read_path(path: &[u8], out: &mut [u8]) -> usize
     n
 }
 
-// The same for the name that is the program's first argument.
-pub fn read_argument(out: &mut [u8]) -> usize
-    ensures { λ r. ⌜ r ≤ length (now (out .exit)) ⌝ }
+// The bytes of the file whose name is the program's first argument.
+pub fn read_argument<'a>(out: &'a mut [u8]) -> &'a mut [u8]
+    ensures { λ r. ⌜ length (now r) ≤ length (now (out .entry)) ⌝ }
 {
     let mut path = io::buffer();
     let n = os::arg(1, &mut path);
-    read_path(&path[..n], out)
+    let count = read_path(&path[..n], out);
+    &mut out[0..count]
 }

@@ -1,36 +1,24 @@
 // Makes every call that a table names, and prints each line of the table with what came of its call (notation).
 mod calls;
-mod lending;
+mod giving;
+mod pairs_lent;
 mod questions;
-mod two_tableaux;
+mod tableaux_lent;
+mod writing;
 
-use lending::make_call;
-use notation::fields::field;
-use notation::fields::field_of;
+use giving::make_call;
 use notation::fields::place_of;
 use notation::printing::print;
+use notation::printing::print_byte;
+use notation::printing::print_mark;
 use notation::source::read_argument;
-
-// How many operations there are.
-const OPERATIONS: usize = 39;
-
-// The place of a line's operation in the order of the calls; past the last where there is no such operation.
-fn operation_of(line: &[u8]) -> usize {
-    let names =
-        b"raise_count_word lower_count_word same_class compare_weights junctions class_number class_size raise_count_tableau lower_count_tableau look_once check_counted_tableau check_counted_pair raise_word lower_word read_word_line write_word_line write_junction_line tableau_line_of_word run_line_of_word tableau_to_runs runs_to_tableau convert_lines write_run_line write_tableau_line write_pair_line column_reading word_of_pair class_word raise_tableau lower_tableau read_tableau_line read_run_line read_pair_line pair_of_word insert_letter remove_oldest same_class_of_tableaux compare_weights_of_tableaux product";
-    field_of(names, field(line, 0), OPERATIONS)
-}
 
 // A line, and what came of its call.
 fn answer_line(line: &[u8]) {
-    let operation = operation_of(line);
     print(line);
-    print(b" = ");
-    if operation < OPERATIONS {
-        make_call(operation, line);
-        return print(b"\n");
-    }
-    print(b"unknown\n");
+    print_mark(b'=');
+    make_call(line);
+    print_byte(b'\n');
 }
 
 // All lines of a table, and what came of each.
@@ -46,8 +34,6 @@ fn answer_table(table: &[u8]) {
 // The table that the first argument names.
 fn main() {
     let mut space: [u8; 131072] = [0; 131072];
-    let table: &mut [u8] = &mut space;
-    let count = read_argument(table);
-    let whole = &table[..];
-    answer_table(&whole[0..count]);
+    let table = read_argument(&mut space);
+    answer_table(table);
 }

@@ -1,4 +1,4 @@
-// The calls that change no memory: questions about words, and about one tableau.
+// The calls that change no memory: questions about words, about one tableau, and about two.
 use class_numbers::classes::class_number;
 use class_numbers::classes::class_size;
 use classes::two_words::same_class;
@@ -11,6 +11,8 @@ use notation::answers::print_verdict;
 use notation::answers::print_weights;
 use operators::moves::lower_count_word;
 use operators::moves::raise_count_word;
+use stored_tableaux::two_tableaux::compare_weights_of_tableaux;
+use stored_tableaux::two_tableaux::same_class_of_tableaux;
 use tableaux::moves::lower_count_tableau;
 use tableaux::moves::raise_count_tableau;
 use validity::counted::check_counted_pair;
@@ -65,4 +67,22 @@ pub(crate) fn ask_tableau(
         return print_verdict(check_counted_tableau(rank, a, b, counts));
     }
     print_verdict(check_counted_pair(rank, a, b, entries, counts))
+}
+
+// Class and weights of two tableaux, 36 and 37. Letters and marks of the second are c and d, its counts q.
+pub(crate) fn ask_two(
+    operation: usize,
+    rank: usize,
+    other: usize,
+    a: &[u8],
+    b: &[u8],
+    k: &[u16; 64],
+    c: &[u8],
+    d: &[u8],
+    q: &[u16; 64],
+) {
+    if operation == 36 {
+        return print_class(same_class_of_tableaux(rank, a, b, k, other, c, d, q));
+    }
+    print_weights(compare_weights_of_tableaux(rank, a, b, k, other, c, d, q))
 }

@@ -1,4 +1,4 @@
--- `notation::lists::in_list` meets its contract, by the laws of specs/Bounds. Assumes nothing.
+-- `notation::lists::in_list` is safe and ends, by the laws of specs/Bounds. Assumes nothing.
 use Prim.Native.Nat.{_-_}
 use lib.ListN.{length}
 use Rattle.notation.specs.Bounds.{filling}
@@ -16,5 +16,4 @@ in-list-spec =
     tie.close
     (tie.spec Inv-loop μ-loop (λ c. search filling) (λ c κs. search filling) (λ c. search filling)
     (λ c. search filling) (λ c. search filling) (λ c κs. search filling) (λ c κs. search filling)
-    (λ c. search filling) (λ c. search filling) (λ c. search filling) (λ c. search filling) (λ c. search filling)
-    (λ c. search filling))
+    (λ c. search filling) (λ c. search filling) (λ c. search filling) (λ c. search filling) (λ c. search filling))

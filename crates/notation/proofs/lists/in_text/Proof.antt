@@ -16,7 +16,7 @@ in-text-spec =
     tie.close
     (tie.spec Inv-loop μ-loop (λ c. search filling) (λ c κs. search filling) (λ c. search filling)
     (λ c. search filling) (λ c κs. search filling) (λ c. search filling) (λ c. search filling) (λ c. search filling)
-    (λ c. search filling) (λ c. search filling) (λ c κs. search filling) (λ c. search filling) (λ c. search filling)
-    (λ c. search filling) (λ c. search filling) (λ c κs. search filling) (λ c. search filling) (λ c. search filling)
     (λ c. search filling) (λ c κs. search filling) (λ c. search filling) (λ c κs. search filling)
-    (λ c. search filling) (λ c κs. search filling) (λ c. search filling) (λ c. search filling) (λ c. search filling))
+    (λ c. search filling) (λ c κs. search filling) (λ c. search filling) (λ c. search filling)
+    (λ c κs. search filling) (λ c. search filling) (λ c κs. search filling) (λ c. search filling)
+    (λ c. search filling) (λ c. search filling))
