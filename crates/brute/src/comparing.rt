@@ -1,72 +1,25 @@
-// What is answered of a word, and the comparison of two answers: they differ in each part that is not the same.
-//
-// The answers to all questions of one word are eight parts of 1,024 numbers each, in one array: letters, marks and entries of its pair, the word back, the
-// column reading, junction set, rows and letter counts. Each part has its numbers first, and 0 after them.
-ghost use Prim.Native.Nat.{_<_, _≤_};
+// The comparison of two answers, answers spoilt on purpose, and the numbers that are counted and printed.
+use plain_words::answer::Answer;
+use plain_words::answer::nothing;
+use plain_words::one_if;
+ghost use Prim.Native.Nat.{_≤_};
 
-// How many parts there are.
-pub(crate) const PARTS: usize = 8;
-
-// Answers with one number everywhere.
-pub(crate) fn filled(number: u64) -> [u64; 8192] {
-    [number; 8192]
-}
-
-// Bytes, each as wide as an entry; after a wrong reply, the first is a number that no byte is.
-pub(crate) fn widened(wrong: usize, bytes: [u8; 1024]) -> [u16; 1024] {
-    let mut out = [0u16; 1024];
-    let mut i = 0;
-    while i < 1024 {
-        out[i] = bytes[i] as u16;
-        i += 1;
-    }
-    if 0 < wrong {
-        out[0] = 65535;
-    }
-    out
-}
-
-// The answers with a list as one part.
-pub(crate) fn put(part: usize, list: [u16; 1024], answers: [u64; 8192]) -> [u64; 8192]
-    requires { ⌜ part < 8 ⌝ }
-{
-    let mut all = answers;
-    let mut i = 0;
-    while i < 1024 {
-        all[1024 * part + i] = list[i] as u64;
-        i += 1;
-    }
-    all
-}
-
-// Letter counts, as long as a list.
-pub(crate) fn lengthened(counts: [u16; 64]) -> [u16; 1024] {
-    let mut out = [0u16; 1024];
-    let mut i = 0;
-    while i < 64 {
-        out[i] = counts[i];
-        i += 1;
-    }
-    out
-}
-
-// The answers with a junction set and rows as two parts.
-pub(crate) fn put_numbers(set: u64, rows: usize, answers: [u64; 8192]) -> [u64; 8192] {
-    let mut all = answers;
-    all[5120] = set;
-    all[6144] = rows as u64;
-    all
-}
-
-// 1 where two answers differ in some number of a part, else 0.
-fn unequal(part: usize, one: [u64; 8192], other: [u64; 8192]) -> usize
-    requires { ⌜ part < 8 ⌝ }
+// 1 where two answers differ in letters, marks or entries of the first cells, so many of them, else 0.
+pub(crate) fn unlike_cells(cells: usize, one: Answer, other: Answer) -> usize
     ensures { λ r. ⌜ r ≤ 1 ⌝ }
 {
     let mut i = 0;
     while i < 1024 {
-        let at = 1024 * part + i;
-        if one[at] != other[at] {
+        if cells <= i {
+            return 0;
+        }
+        if one.letters[i] != other.letters[i] {
+            return 1;
+        }
+        if one.marks[i] != other.marks[i] {
+            return 1;
+        }
+        if one.entries[i] != other.entries[i] {
             return 1;
         }
         i += 1;
@@ -74,25 +27,70 @@ fn unequal(part: usize, one: [u64; 8192], other: [u64; 8192]) -> usize
     0
 }
 
-// In how many parts two answers differ.
-pub(crate) fn differences(one: [u64; 8192], other: [u64; 8192]) -> usize
-    ensures { λ r. ⌜ r ≤ 8 ⌝ }
+// 1 where two answers differ in letter counts, else 0.
+fn unlike_counts(one: Answer, other: Answer) -> usize
+    ensures { λ r. ⌜ r ≤ 1 ⌝ }
 {
+    let mut i = 0;
+    while i < 64 {
+        if one.counts[i] != other.counts[i] {
+            return 1;
+        }
+        i += 1;
+    }
+    0
+}
+
+// In how many of the three numbers, the first cells and the counts two answers differ.
+pub(crate) fn differences(cells: usize, one: Answer, other: Answer) -> usize
+    ensures { λ r. ⌜ r ≤ 5 ⌝ }
+{
+    one_if(one.rank != other.rank)
+        + one_if(one.number != other.number)
+        + one_if(one.length != other.length)
+        + unlike_cells(cells, one, other)
+        + unlike_counts(one, other)
+}
+
+// An answer of two numbers.
+pub(crate) fn two_numbers(number: usize, length: usize) -> Answer {
+    let mut all = nothing(0);
+    all.number = number;
+    all.length = length;
+    all
+}
+
+// An answer with one part spoilt on purpose: the lowest bit of its first number is turned. The parts are numbered as the fields stand.
+fn spoilt(part: usize, answer: Answer) -> Answer {
+    let mut all = answer;
+    match part {
+        0 => all.rank = answer.rank ^ 1,
+        1 => all.number = answer.number ^ 1,
+        2 => all.length = answer.length ^ 1,
+        3 => all.letters[0] = answer.letters[0] ^ 1,
+        4 => all.marks[0] = answer.marks[0] ^ 1,
+        5 => all.counts[0] = answer.counts[0] ^ 1,
+        _ => all.entries[0] = answer.entries[0] ^ 1,
+    }
+    all
+}
+
+// How many answers that are spoilt, each in another part from one part to before another, the comparison finds: each differs in one way from the kernel's.
+pub(crate) fn found(cells: usize, from: usize, end: usize, own: Answer, told: Answer) -> usize {
     let mut found = 0;
-    let mut part = 0;
-    while part < PARTS {
-        found += unequal(part, one, other);
+    let mut part = from;
+    while part < end {
+        let unlike = differences(cells, spoilt(part, own), told);
+        found = std::num::wrapping_add_usize(found, one_if(unlike == 1));
         part += 1;
     }
     found
 }
 
-// The answers with one part spoilt on purpose: the lowest bit of its first number is turned.
-pub(crate) fn spoilt(part: usize, answers: [u64; 8192]) -> [u64; 8192]
-    requires { ⌜ part < 8 ⌝ }
-{
-    let mut all = answers;
-    let at = 1024 * part;
-    all[at] = all[at] ^ 1;
+// So many more on a line of the numbers that are printed.
+pub(crate) fn added(line: usize, more: usize, lines: [usize; 16]) -> [usize; 16] {
+    let mut all = lines;
+    let at = line % 16;
+    all[at] = std::num::wrapping_add_usize(all[at], more);
     all
 }

@@ -1,94 +1,113 @@
-// Words cut in two: the product of the tableaux of both parts beside the tableau of the whole word, all three by plain insertion.
-use crate::multiplying::compare;
+// Products held to plain insertion: words are cut in two, the kernel multiplies the tableaux of both parts, and the product is compared with the tableau of the
+// whole word. Each word of at most 6 letters over 1 to 3 is cut at every place: so every two tableaux over 1 to 3 with at most 6 cells together are
+// multiplied, once for their column readings and once for any other two words of their classes. Each word of plain_words is cut at one place.
+use crate::comparing::added;
+use crate::comparing::differences;
+use crate::comparing::found;
+use crate::kernel::elements;
+use crate::kernel::first_bytes;
+use crate::short_words::SHORT;
+use crate::short_words::rest_of;
+use crate::short_words::short_word;
+use multiplication::product::product;
+use plain_words::WORDS;
 use plain_words::Word;
-use plain_words::tableau::Tableau;
-use plain_words::tableau::plain_tableau;
-ghost use Prim.Native.Nat.{_≤_};
+use plain_words::answer::Answer;
+use plain_words::drawn::below;
+use plain_words::insertion::plain_tableau;
+use plain_words::word_of;
 
-// How many words of at most 6 letters over 1 to 3 there are.
-pub(crate) const SHORT: usize = 1093;
-
-// Such a word by its number, whose digits to the base 3 it has, the highest first, each from 1 to 3: shorter words come first, and words of one length in
-// dictionary order. The digits are found from the lowest up, and so written from the last of 6 places down.
-pub(crate) fn short_word(number: usize) -> Word
-    ensures { λ r. ⌜ r .length ≤ 6 ⌝ }
-{
-    let mut letters = [0u8; 1024];
-    let mut rest = number;
-    let mut length = 0;
-    while length < 6 && 0 < rest {
-        letters[5 - length] = ((rest - 1) % 3) as u8 + 1;
-        rest = (rest - 1) / 3;
-        length += 1;
-    }
-    Word {
-        rank: 3,
-        length,
-        letters: letters_from(6 - length, letters),
-        state: 0,
-    }
-}
-
-// The letters of a word from a place on.
-fn letters_from(cut: usize, word: [u8; 1024]) -> [u8; 1024] {
-    let mut letters = [0u8; 1024];
-    let mut i = cut;
-    while i < 1024 {
-        letters[i - cut] = word[i];
-        i += 1;
-    }
-    letters
-}
-
-// The tableaux of a word's first letters and of all others, multiplied: the differences from a count of cells and a tableau.
-pub(crate) fn compare_with(word: Word, cut: usize, cells: usize, answer: Tableau) -> usize
-    requires { ⌜ (word .length ≤ 1024) × (cut ≤ word .length) ⌝ }
-    ensures { λ r. ⌜ r ≤ 4 ⌝ }
-{
-    let letters = word.letters;
-    let others = word.length - cut;
-    let first = plain_tableau(cut, letters);
-    let second = plain_tableau(others, letters_from(cut, letters));
+// The kernel's product of two tableaux.
+fn multiplied(first: Answer, second: Answer) -> Answer {
     let first_letters = first.letters;
     let first_marks = first.marks;
     let first_counts = first.counts;
     let second_letters = second.letters;
     let second_marks = second.marks;
     let second_counts = second.counts;
-    compare(
-        word.rank,
-        cut,
-        first_letters,
-        first_marks,
-        first_counts,
-        others,
-        second_letters,
-        second_marks,
-        second_counts,
-        cells,
-        answer,
-    )
+    let mut letters = [0u8; 1024];
+    let mut marks = [0u8; 1024];
+    let mut counts = [65535u16; 64];
+    let reply = product(
+        first.rank,
+        first_bytes(&first_letters, first.length),
+        first_bytes(&first_marks, first.length),
+        &first_counts,
+        first_bytes(&second_letters, second.length),
+        first_bytes(&second_marks, second.length),
+        &second_counts,
+        &mut letters,
+        &mut marks,
+        &mut counts,
+    );
+    Answer {
+        rank: first.rank,
+        number: 0,
+        length: elements(reply),
+        letters,
+        marks,
+        counts,
+        entries: [0; 1024],
+    }
 }
 
-// The same from the tableau of the whole word.
-pub(crate) fn compare_cut(word: Word, cut: usize) -> usize
-    requires { ⌜ (word .length ≤ 1024) × (cut ≤ word .length) ⌝ }
-    ensures { λ r. ⌜ r ≤ 4 ⌝ }
-{
-    let letters = word.letters;
-    compare_with(word, cut, word.length, plain_tableau(word.length, letters))
+// The kernel's product of the tableaux of a word's first letters and of all others.
+fn product_at(cut: usize, word: Word) -> Answer {
+    let mut first = word;
+    first.length = cut;
+    multiplied(plain_tableau(first), plain_tableau(rest_of(cut, word)))
+}
+
+// One product and its differences, in two numbers.
+fn compare_cut(cut: usize, word: Word, lines: [usize; 16]) -> [usize; 16] {
+    let unlike = differences(1024, plain_tableau(word), product_at(cut, word));
+    added(0, 1, added(1, unlike, lines))
 }
 
 // The same at every place of a short word.
-pub(crate) fn compare_cuts(word: Word) -> usize
-    requires { ⌜ word .length ≤ 6 ⌝ }
-    ensures { λ r. ⌜ r ≤ 28 ⌝ }
-{
-    let mut found = 0;
+fn compare_cuts(word: Word, lines: [usize; 16]) -> [usize; 16] {
+    let mut all = lines;
     let mut cut = 0;
-    while cut <= word.length {
-        found += compare_cut(word, cut);
+    while cut < 7 {
+        if word.length < cut {
+            return all;
+        }
+        let more = compare_cut(cut, word, all);
+        all = more;
         cut += 1;
     }
-    found
+    all
+}
+
+// Short words, each cut at every place.
+fn compare_short() -> [usize; 16] {
+    let mut lines = [0usize; 16];
+    let mut k = 0;
+    while k < SHORT {
+        let more = compare_cuts(short_word(k), lines);
+        lines = more;
+        k += 1;
+    }
+    lines
+}
+
+// How many of four answers that are spoilt for 31 times 2 the comparison finds: the count of cells, the letters, the marks and the counts.
+fn products_found() -> usize {
+    let word = short_word(32);
+    found(1024, 2, 6, plain_tableau(word), product_at(2, word))
+}
+
+// Four numbers: products of short words and then of the words of document 01 and drawn ones, each cut at one place; differences, answers spoilt and found.
+pub(crate) fn compare_products() -> [usize; 16] {
+    let mut lines = compare_short();
+    let mut state: u64 = 20201;
+    let mut k = 0;
+    while k < WORDS {
+        let word = word_of(k, state);
+        state = word.state;
+        let more = compare_cut(below(word.length + 1, k as u64), word, lines);
+        lines = more;
+        k += 1;
+    }
+    added(2, 4, added(3, products_found(), lines))
 }

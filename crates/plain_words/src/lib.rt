@@ -1,11 +1,9 @@
-// The words that the programs brute and brute_moves compare with the kernel, the streams of brute_windows, and their pairs and tableaux by plain insertion.
-// Nothing here is of the kernel, and no contract says what a word or a pair is: that is compared by running. Contracts give what callers must know to be safe.
-pub mod comparing;
-pub mod counts;
+// The words and the streams of letters that the program brute compares with the kernel, and their pairs and tableaux by plain insertion. Nothing here is
+// of the kernel, and no contract says what a word or a pair is: that is compared by running. Contracts give what callers must know to be safe.
+pub mod answer;
 pub mod drawn;
 pub mod insertion;
 mod known;
-pub mod tableau;
 
 use crate::drawn::DRAWN;
 use crate::drawn::drawn_word;
