@@ -12,8 +12,7 @@ from page_texts import CRATES, PROMISES, code, find, paths, promises, prose, row
 
 # Programs, and what only they use: no promise of theirs has a row.
 PROGRAMS = {
-    "ribbon", "cases", "operations", "brute", "brute_moves", "brute_windows", "notation",
-    "plain_words",
+    "ribbon", "cases", "operations", "brute", "notation", "plain_words",
 }
 # How a name stands in a text; a function with its contract, if it has one; a theorem with its type; how a definition is declared.
 STANDS = r"(?<![\w-])NAME(?![\w-])"

@@ -1,5 +1,4 @@
 // What is answered, by the kernel or by plain insertion.
-ghost use Prim.Native.Nat.{_≤_};
 ghost use mathlib.Core.Path.{_≡_};
 ghost use lib.ListN.{length};
 
