@@ -156,6 +156,12 @@ pub fn bytes_of<'a>(
     &mut out[0..count]
 }
 
+// How many elements a line's argument of a kind has.
+pub(crate) fn count_of(kinds: &[u8], line: &[u8], kind: u8) -> usize {
+    let mut space: [u8; 1100] = [0; 1100];
+    bytes(false, argument(kinds, line, kind), &mut space)
+}
+
 // A number as a 16-bit element.
 fn element(number: usize) -> u16 {
     (number % 65536) as u16

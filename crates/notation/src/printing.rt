@@ -1,6 +1,8 @@
 // Numbers and lists, printed in the table's notation. A list of more than 16 elements that are not all equal is printed by its first eight, its length and a
 // checksum, the sum of place times element mod 65,536, places from 1; a text of more than 64 bytes by its first 32, its length and its checksum. Letter counts
 // are printed up to the last that is not 0, and where all are equal as one and how often.
+use crate::fields::has;
+use crate::lists::count_of;
 use libc::STDOUT_FILENO;
 
 // A text as it is.
@@ -134,14 +136,14 @@ fn print_either(text: bool, bytes: &[u8], entries: &[u16], count: usize) {
     }
 }
 
-// Lent bytes after the call, or a text.
-pub fn print_bytes(text: bool, list: &[u8]) {
-    print_either(text, list, &[], list.len());
+// Lent bytes after the call, a line's argument of a kind by the kinds of all: as many as the line has of them. As a text where one is written.
+pub fn print_bytes(kinds: &[u8], line: &[u8], kind: u8, list: [u8; 1100]) {
+    print_either(has(kinds, b'w'), &list[0..1100], &[], count_of(kinds, line, kind));
 }
 
-// A lent list of 16-bit elements after the call.
-pub fn print_entries(list: &[u16]) {
-    print_either(false, b"", list, list.len());
+// The same for 16-bit elements.
+pub fn print_entries(kinds: &[u8], line: &[u8], kind: u8, list: [u16; 1100]) {
+    print_either(false, b"", &list[0..1100], count_of(kinds, line, kind));
 }
 
 // Lent letter counts after the call.

@@ -1,4 +1,4 @@
-// The calls that write into letters, marks, entries and counts of a pair.
+// The calls that write into letters, marks, entries and counts of a pair. What is lent is printed after the call.
 use departures::departure::remove_oldest;
 use notation::answers::print_read;
 use notation::answers::print_used;
@@ -14,67 +14,85 @@ use pairs::insertion::insert_letter;
 use readers::pair::read_pair_line;
 use ribbons::pair::pair_of_word;
 
-// Calls from 32 to 35. The third number of a line is that of a letter.
-fn change_pair(
-    operation: usize,
-    line: &[u8],
-    rank: usize,
-    index: usize,
-    a: &[u8],
-    letters: &mut [u8],
-    marks: &mut [u8],
-    entries: &mut [u16],
-    counts: &mut [u16; 64],
-) {
-    if operation == 32 {
-        return print_read(read_pair_line(a, letters, marks, entries, counts));
-    }
-    if operation == 33 {
-        return print_written(pair_of_word(rank, a, letters, marks, entries, counts));
-    }
-    if operation == 34 {
-        return print_used(insert_letter(
-            rank,
-            index,
-            number(line, 3),
-            letters,
-            marks,
-            entries,
-            counts,
-        ));
-    }
-    print_used(remove_oldest(rank, index, letters, marks, entries, counts))
-}
-
-// Lends letters, marks, entries and counts to the call, and prints them after it.
-pub(crate) fn lend_pair(
-    operation: usize,
+// A lent pair after the call.
+fn print_pair_lent(
     kinds: &[u8],
     line: &[u8],
-    rank: usize,
-    index: usize,
-    a: &[u8],
+    letters: [u8; 1100],
+    marks: [u8; 1100],
+    entries: [u16; 1100],
+    counts: [u16; 64],
 ) {
-    let mut letters_space: [u8; 1100] = [0; 1100];
-    let mut marks_space: [u8; 1100] = [0; 1100];
-    let mut entries_space: [u16; 1100] = [0; 1100];
-    let letters = bytes_of(false, kinds, line, b'L', &mut letters_space);
-    let marks = bytes_of(false, kinds, line, b'M', &mut marks_space);
-    let entries = entries_of(kinds, line, b'E', &mut entries_space);
-    let mut counts = counts_of(kinds, line, b'K');
-    change_pair(
-        operation,
-        line,
-        rank,
-        index,
-        a,
-        letters,
-        marks,
-        entries,
-        &mut counts,
-    );
-    print_bytes(false, letters);
-    print_bytes(false, marks);
-    print_entries(entries);
+    print_bytes(kinds, line, b'L', letters);
+    print_bytes(kinds, line, b'M', marks);
+    print_entries(kinds, line, b'E', entries);
     print_counts(counts);
+}
+
+// A P line read.
+pub(crate) fn read_pair(kinds: &[u8], line: &[u8], a: &[u8]) {
+    let mut letters: [u8; 1100] = [0; 1100];
+    let mut marks: [u8; 1100] = [0; 1100];
+    let mut entries: [u16; 1100] = [0; 1100];
+    let mut counts = counts_of(kinds, line, b'K');
+    print_read(read_pair_line(
+        a,
+        bytes_of(false, kinds, line, b'L', &mut letters),
+        bytes_of(false, kinds, line, b'M', &mut marks),
+        entries_of(kinds, line, b'E', &mut entries),
+        &mut counts,
+    ));
+    print_pair_lent(kinds, line, letters, marks, entries, counts);
+}
+
+// The pair of a word.
+pub(crate) fn insert_word(kinds: &[u8], line: &[u8], rank: usize, a: &[u8]) {
+    let mut letters: [u8; 1100] = [0; 1100];
+    let mut marks: [u8; 1100] = [0; 1100];
+    let mut entries: [u16; 1100] = [0; 1100];
+    let mut counts = counts_of(kinds, line, b'K');
+    print_written(pair_of_word(
+        rank,
+        a,
+        bytes_of(false, kinds, line, b'L', &mut letters),
+        bytes_of(false, kinds, line, b'M', &mut marks),
+        entries_of(kinds, line, b'E', &mut entries),
+        &mut counts,
+    ));
+    print_pair_lent(kinds, line, letters, marks, entries, counts);
+}
+
+// A letter inserted: the third number of the line.
+pub(crate) fn insert(kinds: &[u8], line: &[u8], rank: usize, used: usize) {
+    let mut letters: [u8; 1100] = [0; 1100];
+    let mut marks: [u8; 1100] = [0; 1100];
+    let mut entries: [u16; 1100] = [0; 1100];
+    let mut counts = counts_of(kinds, line, b'K');
+    print_used(insert_letter(
+        rank,
+        used,
+        number(line, 3),
+        bytes_of(false, kinds, line, b'L', &mut letters),
+        bytes_of(false, kinds, line, b'M', &mut marks),
+        entries_of(kinds, line, b'E', &mut entries),
+        &mut counts,
+    ));
+    print_pair_lent(kinds, line, letters, marks, entries, counts);
+}
+
+// The oldest letter removed.
+pub(crate) fn remove(kinds: &[u8], line: &[u8], rank: usize, used: usize) {
+    let mut letters: [u8; 1100] = [0; 1100];
+    let mut marks: [u8; 1100] = [0; 1100];
+    let mut entries: [u16; 1100] = [0; 1100];
+    let mut counts = counts_of(kinds, line, b'K');
+    print_used(remove_oldest(
+        rank,
+        used,
+        bytes_of(false, kinds, line, b'L', &mut letters),
+        bytes_of(false, kinds, line, b'M', &mut marks),
+        entries_of(kinds, line, b'E', &mut entries),
+        &mut counts,
+    ));
+    print_pair_lent(kinds, line, letters, marks, entries, counts);
 }

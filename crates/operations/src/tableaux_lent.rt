@@ -1,9 +1,8 @@
-// The calls that write into letters and counts of a tableau, or into its marks too.
+// The calls that write into letters and counts of a tableau, or into its marks too. What is lent is printed after the call.
 use multiplication::product::product;
 use notation::answers::print_move;
 use notation::answers::print_read;
 use notation::answers::print_written;
-use notation::fields::has;
 use notation::lists::bytes_of;
 use notation::lists::counts_of;
 use notation::printing::print_bytes;
@@ -13,35 +12,73 @@ use run_readers::runs::read_run_line;
 use tableaux::moves::lower_tableau;
 use tableaux::moves::raise_tableau;
 
-// Moves of a tableau, 28 and 29, and a T line and a C line read, 30 and 31.
-fn change_tableau(
-    operation: usize,
-    rank: usize,
-    index: usize,
-    a: &[u8],
-    letters: &mut [u8],
-    marks: &mut [u8],
-    counts: &mut [u16; 64],
-) {
-    if operation == 28 {
-        return print_move(raise_tableau(rank, index, letters, a, counts));
-    }
-    if operation == 29 {
-        return print_move(lower_tableau(rank, index, letters, a, counts));
-    }
-    if operation == 30 {
-        return print_read(read_tableau_line(a, letters, marks, counts));
-    }
-    print_read(read_run_line(a, letters, marks, counts))
+// A tableau raised.
+pub(crate) fn raise(kinds: &[u8], line: &[u8], rank: usize, index: usize, a: &[u8]) {
+    let mut letters: [u8; 1100] = [0; 1100];
+    let mut counts = counts_of(kinds, line, b'K');
+    print_move(raise_tableau(
+        rank,
+        index,
+        bytes_of(false, kinds, line, b'L', &mut letters),
+        a,
+        &mut counts,
+    ));
+    print_bytes(kinds, line, b'L', letters);
+    print_counts(counts);
 }
 
-// Lends letters, marks and counts to the call, and prints them after it; of the calls up to 31, and the product, 38.
-pub(crate) fn lend_tableau(
-    operation: usize,
+// A tableau lowered.
+pub(crate) fn lower(kinds: &[u8], line: &[u8], rank: usize, index: usize, a: &[u8]) {
+    let mut letters: [u8; 1100] = [0; 1100];
+    let mut counts = counts_of(kinds, line, b'K');
+    print_move(lower_tableau(
+        rank,
+        index,
+        bytes_of(false, kinds, line, b'L', &mut letters),
+        a,
+        &mut counts,
+    ));
+    print_bytes(kinds, line, b'L', letters);
+    print_counts(counts);
+}
+
+// A T line read.
+pub(crate) fn read_tableau(kinds: &[u8], line: &[u8], a: &[u8]) {
+    let mut letters: [u8; 1100] = [0; 1100];
+    let mut marks: [u8; 1100] = [0; 1100];
+    let mut counts = counts_of(kinds, line, b'K');
+    print_read(read_tableau_line(
+        a,
+        bytes_of(false, kinds, line, b'L', &mut letters),
+        bytes_of(false, kinds, line, b'M', &mut marks),
+        &mut counts,
+    ));
+    print_bytes(kinds, line, b'L', letters);
+    print_bytes(kinds, line, b'M', marks);
+    print_counts(counts);
+}
+
+// A C line read.
+pub(crate) fn read_runs(kinds: &[u8], line: &[u8], a: &[u8]) {
+    let mut letters: [u8; 1100] = [0; 1100];
+    let mut marks: [u8; 1100] = [0; 1100];
+    let mut counts = counts_of(kinds, line, b'K');
+    print_read(read_run_line(
+        a,
+        bytes_of(false, kinds, line, b'L', &mut letters),
+        bytes_of(false, kinds, line, b'M', &mut marks),
+        &mut counts,
+    ));
+    print_bytes(kinds, line, b'L', letters);
+    print_bytes(kinds, line, b'M', marks);
+    print_counts(counts);
+}
+
+// The product of two tableaux.
+pub(crate) fn multiply(
     kinds: &[u8],
     line: &[u8],
     rank: usize,
-    index: usize,
     a: &[u8],
     b: &[u8],
     k: &[u16; 64],
@@ -49,19 +86,22 @@ pub(crate) fn lend_tableau(
     d: &[u8],
     q: &[u16; 64],
 ) {
-    let mut letters_space: [u8; 1100] = [0; 1100];
-    let mut marks_space: [u8; 1100] = [0; 1100];
-    let letters = bytes_of(false, kinds, line, b'L', &mut letters_space);
-    let marks = bytes_of(false, kinds, line, b'M', &mut marks_space);
+    let mut letters: [u8; 1100] = [0; 1100];
+    let mut marks: [u8; 1100] = [0; 1100];
     let mut counts = counts_of(kinds, line, b'K');
-    if operation < 32 {
-        change_tableau(operation, rank, index, a, letters, marks, &mut counts);
-    } else {
-        print_written(product(rank, a, b, k, c, d, q, letters, marks, &mut counts));
-    }
-    print_bytes(false, letters);
-    if has(kinds, b'M') {
-        print_bytes(false, marks);
-    }
+    print_written(product(
+        rank,
+        a,
+        b,
+        k,
+        c,
+        d,
+        q,
+        bytes_of(false, kinds, line, b'L', &mut letters),
+        bytes_of(false, kinds, line, b'M', &mut marks),
+        &mut counts,
+    ));
+    print_bytes(kinds, line, b'L', letters);
+    print_bytes(kinds, line, b'M', marks);
     print_counts(counts);
 }

@@ -8,7 +8,6 @@ use lines::tableau::tableau_line_of_word;
 use notation::answers::print_move;
 use notation::answers::print_read;
 use notation::answers::print_written;
-use notation::fields::has;
 use notation::lists::bytes_of;
 use notation::printing::print_bytes;
 use operators::moves::lower_word;
@@ -127,8 +126,16 @@ pub(crate) fn lend_letters(
     entries: &[u16],
     counts: &[u16; 64],
 ) {
-    let mut space: [u8; 4200] = [0; 4200];
-    let out = bytes_of(false, kinds, line, b'L', &mut space);
-    change(operation, rank, index, a, b, entries, counts, out);
-    print_bytes(has(kinds, b'w'), out);
+    let mut letters: [u8; 1100] = [0; 1100];
+    change(
+        operation,
+        rank,
+        index,
+        a,
+        b,
+        entries,
+        counts,
+        bytes_of(false, kinds, line, b'L', &mut letters),
+    );
+    print_bytes(kinds, line, b'L', letters);
 }
