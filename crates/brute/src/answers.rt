@@ -13,13 +13,13 @@ use crate::picture::read_columns;
 use crate::picture::rows_of;
 use columns::reading::column_reading;
 use inverses::way_back::word_of_pair;
-use plain_words::WORDS;
 use plain_words::Word;
 use plain_words::answer::Answer;
 use plain_words::insertion::plain_pair;
 use plain_words::word_of;
 use refusals::answers::Junctions;
 use words::junctions::junctions;
+ghost use Prim.Native.Nat.{_≤_};
 
 // What word and pair lead to: the way back leads to the word.
 fn plain_answer(word: Word, pair: Answer) -> Answer {
@@ -49,40 +49,6 @@ fn written(told: usize, count: usize, word: [u8; 1024]) -> [u8; 1024] {
     all
 }
 
-// The kernel's word back from a pair.
-fn word_back(pair: Answer) -> [u8; 1024] {
-    let letters = pair.letters;
-    let marks = pair.marks;
-    let entries = pair.entries;
-    let counts = pair.counts;
-    let mut word = [0u8; 1024];
-    let reply = word_of_pair(
-        pair.rank,
-        first_bytes(&letters, pair.length),
-        first_bytes(&marks, pair.length),
-        first_entries(&entries, pair.length),
-        &counts,
-        &mut word,
-    );
-    written(elements(reply), pair.length, word)
-}
-
-// The kernel's column reading.
-fn reading_of(pair: Answer) -> [u8; 1024] {
-    let letters = pair.letters;
-    let marks = pair.marks;
-    let counts = pair.counts;
-    let mut word = [0u8; 1024];
-    let reply = column_reading(
-        pair.rank,
-        first_bytes(&letters, pair.length),
-        first_bytes(&marks, pair.length),
-        &counts,
-        &mut word,
-    );
-    written(elements(reply), pair.length, word)
-}
-
 // The kernel's junction set and rows of a word; for a refusal, rows that no word has.
 fn junctions_of(word: Word) -> Answer {
     let letters = word.letters;
@@ -94,11 +60,28 @@ fn junctions_of(word: Word) -> Answer {
 
 // What word and pair lead to in the kernel.
 fn kernel_answer(word: Word, pair: Answer) -> Answer {
+    let letters = pair.letters;
+    let marks = pair.marks;
+    let entries = pair.entries;
+    let counts = pair.counts;
+    let cells = first_bytes(&letters, pair.length);
+    let steps = first_bytes(&marks, pair.length);
+    let mut back = [0u8; 1024];
+    let mut reading = [0u8; 1024];
+    let told = word_of_pair(
+        pair.rank,
+        cells,
+        steps,
+        first_entries(&entries, pair.length),
+        &counts,
+        &mut back,
+    );
+    let told_too = column_reading(pair.rank, cells, steps, &counts, &mut reading);
     let mut all = junctions_of(word);
-    let back = word_back(pair);
-    let reading = reading_of(pair);
-    all.letters = back;
-    all.marks = reading;
+    let letters = written(elements(told), pair.length, back);
+    let marks = written(elements(told_too), pair.length, reading);
+    all.letters = letters;
+    all.marks = marks;
     all
 }
 
@@ -110,7 +93,9 @@ fn compare_pair(word: Word, pair: Answer) -> usize {
 }
 
 // The differences for one word: by its pair made at once and, for a word of at most 64 letters, by its pair made letter by letter.
-fn compare(word: Word) -> usize {
+fn compare(word: Word) -> usize
+    requires { ⌜ word .length ≤ 1024 ⌝ }
+{
     let at_once = compare_pair(word, pair_at_once(word));
     if 64 < word.length {
         return at_once;
@@ -119,7 +104,7 @@ fn compare(word: Word) -> usize {
 }
 
 // How many of eight answers that are spoilt for 4323 the comparison finds: letters, marks, counts and entries of its pair, and all that these lead to.
-fn answers_found() -> usize {
+pub(crate) fn answers_found() -> usize {
     let word = word_of(0, 0);
     let own = plain_pair(word);
     let pair = pair_at_once(word);
@@ -133,17 +118,9 @@ fn answers_found() -> usize {
     std::num::wrapping_add_usize(found(1024, 3, 7, own, pair), led)
 }
 
-// Four numbers: words, differences, answers spoilt and found.
-pub(crate) fn compare_words() -> [usize; 16] {
-    let mut state: u64 = 20201;
-    let mut lines = [0usize; 16];
-    let mut k = 0;
-    while k < WORDS {
-        let word = word_of(k, state);
-        state = word.state;
-        let more = added(0, 1, added(1, compare(word), lines));
-        lines = more;
-        k += 1;
-    }
-    added(2, 8, added(3, answers_found(), lines))
+// The differences for one word, in two lines.
+pub(crate) fn compare_answers(word: Word, lines: [usize; 32]) -> [usize; 32]
+    requires { ⌜ word .length ≤ 1024 ⌝ }
+{
+    added(0, 1, added(1, compare(word), lines))
 }

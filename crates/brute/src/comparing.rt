@@ -6,13 +6,11 @@ ghost use Prim.Native.Nat.{_≤_};
 
 // 1 where two answers differ in letters, marks or entries of the first cells, so many of them, else 0.
 pub(crate) fn unlike_cells(cells: usize, one: Answer, other: Answer) -> usize
+    requires { ⌜ cells ≤ 1024 ⌝ }
     ensures { λ r. ⌜ r ≤ 1 ⌝ }
 {
     let mut i = 0;
-    while i < 1024 {
-        if cells <= i {
-            return 0;
-        }
+    while i < cells {
         if one.letters[i] != other.letters[i] {
             return 1;
         }
@@ -43,6 +41,7 @@ fn unlike_counts(one: Answer, other: Answer) -> usize
 
 // In how many of the three numbers, the first cells and the counts two answers differ.
 pub(crate) fn differences(cells: usize, one: Answer, other: Answer) -> usize
+    requires { ⌜ cells ≤ 1024 ⌝ }
     ensures { λ r. ⌜ r ≤ 5 ⌝ }
 {
     one_if(one.rank != other.rank)
@@ -60,23 +59,25 @@ pub(crate) fn two_numbers(number: usize, length: usize) -> Answer {
     all
 }
 
-// An answer with one part spoilt on purpose: the lowest bit of its first number is turned. The parts are numbered as the fields stand.
+// An answer with one part spoilt on purpose: its first number is one that no answer has there. The parts are numbered as the fields stand.
 fn spoilt(part: usize, answer: Answer) -> Answer {
     let mut all = answer;
     match part {
-        0 => all.rank = answer.rank ^ 1,
-        1 => all.number = answer.number ^ 1,
-        2 => all.length = answer.length ^ 1,
-        3 => all.letters[0] = answer.letters[0] ^ 1,
-        4 => all.marks[0] = answer.marks[0] ^ 1,
-        5 => all.counts[0] = answer.counts[0] ^ 1,
-        _ => all.entries[0] = answer.entries[0] ^ 1,
+        0 => all.rank = 5000,
+        1 => all.number = 5000,
+        2 => all.length = 5000,
+        3 => all.letters[0] = 200,
+        4 => all.marks[0] = 200,
+        5 => all.counts[0] = 5000,
+        _ => all.entries[0] = 5000,
     }
     all
 }
 
 // How many answers that are spoilt, each in another part from one part to before another, the comparison finds: each differs in one way from the kernel's.
-pub(crate) fn found(cells: usize, from: usize, end: usize, own: Answer, told: Answer) -> usize {
+pub(crate) fn found(cells: usize, from: usize, end: usize, own: Answer, told: Answer) -> usize
+    requires { ⌜ cells ≤ 1024 ⌝ }
+{
     let mut found = 0;
     let mut part = from;
     while part < end {
@@ -88,9 +89,9 @@ pub(crate) fn found(cells: usize, from: usize, end: usize, own: Answer, told: An
 }
 
 // So many more on a line of the numbers that are printed.
-pub(crate) fn added(line: usize, more: usize, lines: [usize; 16]) -> [usize; 16] {
+pub(crate) fn added(line: usize, more: usize, lines: [usize; 32]) -> [usize; 32] {
     let mut all = lines;
-    let at = line % 16;
+    let at = line % 32;
     all[at] = std::num::wrapping_add_usize(all[at], more);
     all
 }

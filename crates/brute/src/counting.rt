@@ -1,4 +1,4 @@
-// Moves, classes and weights, in sixteen numbers: words; moves made, and refused with 9, 10 and 11; pairs of words of one class and of two, and the same of those
+// Moves, classes and weights, in sixteen lines: words; moves made, and refused with 9, 10 and 11; pairs of words of one class and of two, and the same of those
 // of two ranks; weights equal, lower, higher and neither; differences from the kernel; answers spoilt and found.
 use crate::comparing::added;
 use crate::comparing::differences;
@@ -11,12 +11,12 @@ use crate::scanning::move_on_word;
 use crate::two_words::plain_two;
 use crate::two_words::tableaux_told;
 use crate::two_words::words_told;
-use plain_words::WORDS;
 use plain_words::Word;
 use plain_words::answer::Answer;
 use plain_words::insertion::plain_tableau;
 use plain_words::one_if;
 use plain_words::word_of;
+ghost use Prim.Native.Nat.{_≤_};
 
 // A move on a word and on its tableau.
 fn count_move(
@@ -24,18 +24,18 @@ fn count_move(
     index: usize,
     word: Word,
     before: Answer,
-    lines: [usize; 16],
-) -> [usize; 16] {
+    lines: [usize; 32],
+) -> [usize; 32] {
     let own = move_on_word(raising, index, word);
     let on_word = differences(1024, own, word_moved(raising, index, word));
     let after = move_on_tableau(own, word, before);
     let on_tableau = differences(1024, after, tableau_moved(raising, index, before));
-    let line = 1 + own.rank % 8;
-    added(line, 1, added(13, on_word + on_tableau, lines))
+    let line = 13 + own.rank % 8;
+    added(line, 1, added(25, on_word + on_tableau, lines))
 }
 
 // Both moves on a word at every index from 0 to the rank; for a word of more than 64 letters at every sixteenth.
-fn count_moves(k: usize, word: Word, lines: [usize; 16]) -> [usize; 16] {
+pub(crate) fn count_moves(k: usize, word: Word, lines: [usize; 32]) -> [usize; 32] {
     let tableau = plain_tableau(word);
     let step = 1 + 15 * one_if(64 < word.length);
     let mut all = lines;
@@ -59,20 +59,26 @@ fn compare_two(own: Answer, one: Word, other: Word) -> usize {
 }
 
 // One word beside another.
-fn count_two(one: Word, other: Word, lines: [usize; 16]) -> [usize; 16] {
+fn count_two(one: Word, other: Word, lines: [usize; 32]) -> [usize; 32] {
     let own = plain_two(plain_tableau(one), plain_tableau(other));
     let class = own.number % 2;
     let weights = own.length % 4;
-    let all = added(5 + class, 1, added(13, compare_two(own, one, other), lines));
-    added(
-        9 + weights,
+    let all = added(
+        17 + class,
         1,
-        added(7 + class, one_if(one.rank != other.rank), all),
+        added(25, compare_two(own, one, other), lines),
+    );
+    added(
+        21 + weights,
+        1,
+        added(19 + class, one_if(one.rank != other.rank), all),
     )
 }
 
 // The word beside its partner, in this order or the other.
-fn count_pair(k: usize, word: Word, lines: [usize; 16]) -> [usize; 16] {
+pub(crate) fn count_pair(k: usize, word: Word, lines: [usize; 32]) -> [usize; 32]
+    requires { ⌜ word .length ≤ 1024 ⌝ }
+{
     let other = partner(k, word);
     if k / 60 % 2 == 1 {
         return count_two(other, word, lines);
@@ -82,7 +88,7 @@ fn count_pair(k: usize, word: Word, lines: [usize; 16]) -> [usize; 16] {
 
 // How many of ten answers that are spoilt for lowering 1 in 3113 of rank 3 the comparison finds: of the word refusal, place, repeat count and letters, of its
 // tableau these, marks and letter counts.
-fn moves_found() -> usize {
+pub(crate) fn moves_found() -> usize {
     let word = word_of(6, 0);
     let tableau = plain_tableau(word);
     let own = move_on_word(false, 1, word);
@@ -96,7 +102,7 @@ fn moves_found() -> usize {
 
 // How many answers that are spoilt, from the class to before a part, for 3243 of rank 4 beside 4323 of a rank, which are of one class, the comparison finds:
 // of the words and of their tableaux.
-fn two_found(rank: usize, end: usize) -> usize {
+pub(crate) fn two_found(rank: usize, end: usize) -> usize {
     let one = word_of(12, 0);
     let mut other = word_of(0, 0);
     other.rank = rank;
@@ -108,21 +114,4 @@ fn two_found(rank: usize, end: usize) -> usize {
         of_words,
         found(1024, 1, end, own, tableaux_told(first, second)),
     )
-}
-
-// How often each answer came over all words, and the differences; ten spoilt moves, then class and weights at rank 4, and the class where 4323 has rank 6.
-pub(crate) fn compare_moves() -> [usize; 16] {
-    let mut state: u64 = 20201;
-    let mut lines = [0usize; 16];
-    let mut k = 0;
-    while k < WORDS {
-        let word = word_of(k, state);
-        state = word.state;
-        let moves = count_moves(k, word, added(0, 1, lines));
-        let more = count_pair(k, word, moves);
-        lines = more;
-        k += 1;
-    }
-    let all = added(15, moves_found(), added(14, 16, lines));
-    added(15, two_found(4, 3), added(15, two_found(6, 2), all))
 }

@@ -6,16 +6,12 @@ use crate::comparing::differences;
 use crate::comparing::found;
 use crate::kernel::elements;
 use crate::kernel::first_bytes;
-use crate::short_words::SHORT;
 use crate::short_words::rest_of;
 use crate::short_words::short_word;
 use multiplication::product::product;
-use plain_words::WORDS;
 use plain_words::Word;
 use plain_words::answer::Answer;
-use plain_words::drawn::below;
 use plain_words::insertion::plain_tableau;
-use plain_words::word_of;
 
 // The kernel's product of two tableaux.
 fn multiplied(first: Answer, second: Answer) -> Answer {
@@ -58,14 +54,14 @@ fn product_at(cut: usize, word: Word) -> Answer {
     multiplied(plain_tableau(first), plain_tableau(rest_of(cut, word)))
 }
 
-// One product and its differences, in two numbers.
-fn compare_cut(cut: usize, word: Word, lines: [usize; 16]) -> [usize; 16] {
+// One product and its differences, in two lines.
+pub(crate) fn compare_cut(cut: usize, word: Word, lines: [usize; 32]) -> [usize; 32] {
     let unlike = differences(1024, plain_tableau(word), product_at(cut, word));
-    added(0, 1, added(1, unlike, lines))
+    added(4, 1, added(5, unlike, lines))
 }
 
 // The same at every place of a short word.
-fn compare_cuts(word: Word, lines: [usize; 16]) -> [usize; 16] {
+pub(crate) fn compare_cuts(word: Word, lines: [usize; 32]) -> [usize; 32] {
     let mut all = lines;
     let mut cut = 0;
     while cut < 7 {
@@ -79,35 +75,8 @@ fn compare_cuts(word: Word, lines: [usize; 16]) -> [usize; 16] {
     all
 }
 
-// Short words, each cut at every place.
-fn compare_short() -> [usize; 16] {
-    let mut lines = [0usize; 16];
-    let mut k = 0;
-    while k < SHORT {
-        let more = compare_cuts(short_word(k), lines);
-        lines = more;
-        k += 1;
-    }
-    lines
-}
-
 // How many of four answers that are spoilt for 31 times 2 the comparison finds: the count of cells, the letters, the marks and the counts.
-fn products_found() -> usize {
+pub(crate) fn products_found() -> usize {
     let word = short_word(32);
     found(1024, 2, 6, plain_tableau(word), product_at(2, word))
-}
-
-// Four numbers: products of short words and then of the words of document 01 and drawn ones, each cut at one place; differences, answers spoilt and found.
-pub(crate) fn compare_products() -> [usize; 16] {
-    let mut lines = compare_short();
-    let mut state: u64 = 20201;
-    let mut k = 0;
-    while k < WORDS {
-        let word = word_of(k, state);
-        state = word.state;
-        let more = compare_cut(below(word.length + 1, k as u64), word, lines);
-        lines = more;
-        k += 1;
-    }
-    added(2, 4, added(3, products_found(), lines))
 }

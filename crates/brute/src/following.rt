@@ -12,7 +12,6 @@ use crate::short_words::rest_of;
 use plain_words::Word;
 use plain_words::answer::Answer;
 use plain_words::answer::nothing;
-use plain_words::drawn::Stream;
 use plain_words::drawn::drawn_next;
 use plain_words::drawn::drawn_stream;
 use plain_words::insertion::plain_pair;
@@ -26,85 +25,73 @@ const LETTERS: usize = 3000;
 // How many streams there are: each of five sizes with each of five ways in which letters are drawn.
 const STREAMS: usize = 25;
 
-// The pair in the kernel's memory, the letters that are in the window, and the stream that it follows.
-struct Window {
-    pair: Answer,
-    word: Word,
-    stream: Stream,
-}
-
-// The oldest letter leaves, where there is one.
-fn left(window: Window) -> Window {
-    let pair = window.pair;
-    let word = window.word;
-    let stream = window.stream;
-    Window {
-        pair: depart(pair),
-        word: rest_of(one_if(0 < word.length), word),
-        stream,
-    }
-}
-
-// The stream's next letter arrives.
-fn came(window: Window) -> Window {
-    let pair = window.pair;
-    let word = window.word;
-    let stream = drawn_next(window.stream);
-    Window {
-        pair: arrive(stream.letter, pair),
-        word: longer(stream.letter as u8, word),
-        stream,
-    }
-}
-
-// One call: a letter arrives as long as there is one, where the window is full after the oldest has left; then the oldest leaves.
-fn turn(calls: usize, size: usize, window: Window) -> Window {
-    let word = window.word;
-    if LETTERS <= calls {
-        return left(window);
-    }
-    if word.length == size {
-        return came(left(window));
-    }
-    came(window)
-}
-
 // The state after so many calls, compared where it is its turn.
-fn compare_at(calls: usize, size: usize, window: Window, lines: [usize; 16]) -> [usize; 16] {
+fn compare_at(
+    calls: usize,
+    size: usize,
+    word: Word,
+    pair: Answer,
+    lines: [usize; 32],
+) -> [usize; 32] {
     if calls % (size / 64 + 1) != 0 {
         return lines;
     }
-    let own = plain_pair(window.word);
-    let unlike = differences(own.length, own, window.pair);
-    added(0, 1, added(1, unlike, lines))
+    let own = plain_pair(word);
+    added(28, 1, added(29, differences(own.length, own, pair), lines))
 }
 
-// A window before the first letter.
-fn started(rank: usize, way: usize) -> Window {
-    let mut word = word_of(2, 0);
-    word.rank = rank;
-    Window {
-        pair: nothing(rank),
-        word,
-        stream: drawn_stream(rank, way),
+// The pair after the oldest letter has left, where one leaves.
+fn after_leaving(leaving: usize, pair: Answer) -> Answer {
+    if leaving == 0 {
+        return pair;
     }
+    depart(pair)
 }
 
-// A window of a size along a stream of a rank, whose letters are drawn in one of five ways.
-fn follow(rank: usize, size: usize, way: usize, lines: [usize; 16]) -> [usize; 16]
+// A window that is no longer followed, until it is empty.
+fn leave_all(size: usize, from: Word, state: Answer, lines: [usize; 32]) -> [usize; 32]
     requires { ⌜ size ≤ 1024 ⌝ }
 {
-    let mut window = started(rank, way);
+    let mut word = from;
+    let mut pair = state;
     let mut all = lines;
-    let mut calls = 0;
-    while calls < LETTERS + size {
-        let after = turn(calls, size, window);
-        window = after;
-        calls += 1;
-        let more = compare_at(calls, size, window, all);
+    let mut left = 0;
+    while left < size {
+        let leaving = one_if(0 < word.length);
+        let rest = rest_of(leaving, word);
+        word = rest;
+        let after = after_leaving(leaving, pair);
+        pair = after;
+        left += 1;
+        let more = compare_at(LETTERS + left, size, word, pair, all);
         all = more;
     }
     all
+}
+
+// A window of a size along a stream of a rank, whose letters are drawn in one of five ways.
+fn follow(rank: usize, size: usize, way: usize, lines: [usize; 32]) -> [usize; 32]
+    requires { ⌜ size ≤ 1024 ⌝ }
+{
+    let mut stream = drawn_stream(rank, way);
+    let mut word = word_of(2, 0);
+    word.rank = rank;
+    let mut pair = nothing(rank);
+    let mut all = lines;
+    let mut calls = 0;
+    while calls < LETTERS {
+        let next = drawn_next(stream);
+        stream = next;
+        let leaving = one_if(word.length == size);
+        let letters = longer(next.letter as u8, rest_of(leaving, word));
+        word = letters;
+        let after = arrive(next.letter, after_leaving(leaving, pair));
+        pair = after;
+        calls += 1;
+        let more = compare_at(calls, size, word, pair, all);
+        all = more;
+    }
+    leave_all(size, word, pair, all)
 }
 
 // How many letters a window holds.
@@ -133,7 +120,7 @@ fn rank_of(k: usize) -> usize {
 
 // How many of six spoilt states the comparison finds, of a window through which 4323 has passed and of which the oldest has left: replies, used count, letters,
 // marks, counts and entries.
-fn windows_found() -> usize {
+pub(crate) fn windows_found() -> usize {
     let word = word_of(0, 0);
     found(
         3,
@@ -144,14 +131,14 @@ fn windows_found() -> usize {
     )
 }
 
-// Four numbers: states, differences, states spoilt and found.
-pub(crate) fn compare_windows() -> [usize; 16] {
-    let mut lines = [0usize; 16];
+// All streams, in two lines.
+pub(crate) fn compare_windows(lines: [usize; 32]) -> [usize; 32] {
+    let mut all = lines;
     let mut k = 0;
     while k < STREAMS {
-        let more = follow(rank_of(k), size_of(k), k / 5, lines);
-        lines = more;
+        let more = follow(rank_of(k), size_of(k), k / 5, all);
+        all = more;
         k += 1;
     }
-    added(2, 6, added(3, windows_found(), lines))
+    all
 }

@@ -7,6 +7,7 @@ use plain_words::answer::nothing;
 use refusals::answers::Used;
 use refusals::answers::Written;
 use ribbons::pair::pair_of_word;
+ghost use Prim.Native.Nat.{_≤_};
 
 // The first bytes of an array, so many of them; all where there are not so many.
 pub(crate) fn first_bytes(bytes: &[u8; 1024], count: usize) -> &[u8] {
@@ -113,13 +114,12 @@ pub(crate) fn depart(pair: Answer) -> Answer {
 }
 
 // The pair of a word, its letters inserted one after the other.
-pub(crate) fn pair_by_letters(word: Word) -> Answer {
+pub(crate) fn pair_by_letters(word: Word) -> Answer
+    requires { ⌜ word .length ≤ 1024 ⌝ }
+{
     let mut pair = nothing(word.rank);
     let mut i = 0;
-    while i < 1024 {
-        if word.length <= i {
-            return pair;
-        }
+    while i < word.length {
         let more = arrive(word.letters[i] as usize, pair);
         pair = more;
         i += 1;

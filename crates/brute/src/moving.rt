@@ -57,53 +57,37 @@ fn with_reply(reply: Move, answer: Answer) -> Answer {
     }
 }
 
-// How often a move can be made on a word.
-fn times_on_word(raising: bool, index: usize, word: Word) -> usize {
-    let letters = word.letters;
-    let given = first_bytes(&letters, word.length);
-    times_in(repeat_word(side_of(raising), word.rank, index, given))
-}
-
 // A move on a word.
 pub(crate) fn word_moved(raising: bool, index: usize, word: Word) -> Answer {
+    let side = side_of(raising);
     let mut letters = word.letters;
+    let times = repeat_word(side, word.rank, index, first_bytes(&letters, word.length));
     let given = first_changed(&mut letters, word.length);
-    let reply = move_word(side_of(raising), word.rank, index, given);
-    let mut all = two_numbers(0, times_on_word(raising, index, word));
+    let reply = move_word(side, word.rank, index, given);
+    let mut all = two_numbers(0, times_in(times));
     all.letters = letters;
     with_reply(reply, all)
 }
 
-// How often a move can be made on a tableau.
-fn times_on_tableau(raising: bool, index: usize, tableau: Answer) -> usize {
-    let letters = tableau.letters;
-    let marks = tableau.marks;
-    let counts = tableau.counts;
-    times_in(repeat_tableau(
-        side_of(raising),
-        tableau.rank,
-        index,
-        first_bytes(&letters, tableau.length),
-        first_bytes(&marks, tableau.length),
-        &counts,
-    ))
-}
-
 // A move on a tableau.
 pub(crate) fn tableau_moved(raising: bool, index: usize, tableau: Answer) -> Answer {
+    let side = side_of(raising);
     let mut letters = tableau.letters;
     let marks = tableau.marks;
     let mut counts = tableau.counts;
-    let reply = move_tableau(
-        side_of(raising),
+    let steps = first_bytes(&marks, tableau.length);
+    let times = repeat_tableau(
+        side,
         tableau.rank,
         index,
-        first_changed(&mut letters, tableau.length),
-        first_bytes(&marks, tableau.length),
-        &mut counts,
+        first_bytes(&letters, tableau.length),
+        steps,
+        &counts,
     );
+    let given = first_changed(&mut letters, tableau.length);
+    let reply = move_tableau(side, tableau.rank, index, given, steps, &mut counts);
     let mut all = tableau;
-    all.length = times_on_tableau(raising, index, tableau);
+    all.length = times_in(times);
     all.letters = letters;
     all.counts = counts;
     with_reply(reply, all)

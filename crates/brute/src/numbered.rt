@@ -18,7 +18,7 @@ use plain_words::answer::Answer;
 use plain_words::insertion::plain_tableau;
 use plain_words::one_if;
 use refusals::answers::Numbered;
-ghost use Prim.Native.Nat.{_<_};
+ghost use Prim.Native.Nat.{_<_, _≤_};
 
 // A tableau of at most 6 cells over 1 to 3 as one number: two bits for the letter of each cell and one for its mark, 0 for cells that it has not.
 fn tableau_number(tableau: Answer) -> u64 {
@@ -33,7 +33,7 @@ fn tableau_number(tableau: Answer) -> u64 {
 }
 
 // The tableaux of all these words, in their order.
-fn short_tableaux() -> [u64; 1093] {
+pub(crate) fn short_tableaux() -> [u64; 1093] {
     let mut all = [0u64; 1093];
     let mut k = 0;
     while k < SHORT {
@@ -44,13 +44,12 @@ fn short_tableaux() -> [u64; 1093] {
 }
 
 // How many of the first words have a tableau.
-fn count_before(end: usize, tableau: u64, all: [u64; 1093]) -> usize {
+fn count_before(end: usize, tableau: u64, all: [u64; 1093]) -> usize
+    requires { ⌜ end ≤ 1093 ⌝ }
+{
     let mut count = 0;
     let mut k = 0;
-    while k < SHORT {
-        if end <= k {
-            return count;
-        }
+    while k < end {
         count = std::num::wrapping_add_usize(count, one_if(all[k] == tableau));
         k += 1;
     }
@@ -63,8 +62,9 @@ fn plain_answer(k: usize, all: [u64; 1093]) -> Answer
 {
     let word = short_word(k);
     let letters = word.letters;
-    let mut own = two_numbers(count_before(SHORT, all[k], all), word.length);
-    own.rank = count_before(k, all[k], all);
+    let tableau = all[k];
+    let mut own = two_numbers(count_before(SHORT, tableau, all), word.length);
+    own.rank = count_before(k, tableau, all);
     own.letters = letters;
     own
 }
@@ -77,55 +77,27 @@ fn number_in(reply: Numbered) -> usize {
     }
 }
 
-// The kernel's number of a word.
-fn number_of(word: Word) -> usize {
-    let letters = word.letters;
-    number_in(class_number(3, first_bytes(&letters, word.length)))
-}
-
-// The kernel's size of the class of a tableau.
-fn size_of(tableau: Answer) -> usize {
-    let letters = tableau.letters;
-    let marks = tableau.marks;
-    let counts = tableau.counts;
-    number_in(class_size(
-        3,
-        first_bytes(&letters, tableau.length),
-        first_bytes(&marks, tableau.length),
-        &counts,
-    ))
-}
-
-// The kernel's word with a number, of the class of a tableau.
-fn word_with(number: usize, tableau: Answer) -> Answer {
-    let letters = tableau.letters;
-    let marks = tableau.marks;
-    let counts = tableau.counts;
-    let mut word = [0u8; 1024];
-    let reply = class_word(
-        3,
-        first_bytes(&letters, tableau.length),
-        first_bytes(&marks, tableau.length),
-        &counts,
-        number as u64,
-        &mut word,
-    );
-    let mut all = two_numbers(0, elements(reply));
-    all.letters = word;
-    all
-}
-
 // The kernel's answer for a word, of whose class the word with a number is asked for.
 fn kernel_answer(number: usize, word: Word) -> Answer {
     let tableau = plain_tableau(word);
-    let mut all = word_with(number, tableau);
-    all.rank = number_of(word);
-    all.number = size_of(tableau);
+    let given = word.letters;
+    let letters = tableau.letters;
+    let marks = tableau.marks;
+    let counts = tableau.counts;
+    let cells = first_bytes(&letters, tableau.length);
+    let steps = first_bytes(&marks, tableau.length);
+    let mut found = [0u8; 1024];
+    let size = class_size(3, cells, steps, &counts);
+    let reply = class_word(3, cells, steps, &counts, number as u64, &mut found);
+    let told = class_number(3, first_bytes(&given, word.length));
+    let mut all = two_numbers(number_in(size), elements(reply));
+    all.rank = number_in(told);
+    all.letters = found;
     all
 }
 
 // How many of four answers that are spoilt for 312, the second and last word of its class, the comparison finds: number, size, count of letters and letters.
-fn classes_found(all: [u64; 1093]) -> usize {
+pub(crate) fn classes_found(all: [u64; 1093]) -> usize {
     found(
         1024,
         0,
@@ -135,17 +107,11 @@ fn classes_found(all: [u64; 1093]) -> usize {
     )
 }
 
-// Four numbers: words, differences, answers spoilt and found.
-pub(crate) fn compare_classes() -> [usize; 16] {
-    let all = short_tableaux();
-    let mut lines = [0usize; 16];
-    let mut k = 0;
-    while k < SHORT {
-        let own = plain_answer(k, all);
-        let unlike = differences(1024, own, kernel_answer(own.rank, short_word(k)));
-        let more = added(0, 1, added(1, unlike, lines));
-        lines = more;
-        k += 1;
-    }
-    added(2, 4, added(3, classes_found(all), lines))
+// One of these words, in two lines.
+pub(crate) fn compare_class(k: usize, all: [u64; 1093], lines: [usize; 32]) -> [usize; 32]
+    requires { ⌜ k < 1093 ⌝ }
+{
+    let own = plain_answer(k, all);
+    let unlike = differences(1024, own, kernel_answer(own.rank, short_word(k)));
+    added(8, 1, added(9, unlike, lines))
 }

@@ -5,13 +5,13 @@ use crate::short_words::longer;
 use plain_words::Word;
 use plain_words::drawn::below;
 use plain_words::word_of;
+ghost use Prim.Native.Nat.{_≤_};
 
 // The word with the letter at a place and the one before it exchanged; as it is where there are no two such.
-fn exchanged(place: usize, word: Word) -> Word {
+fn exchanged(place: usize, word: Word) -> Word
+    requires { ⌜ word .length ≤ 1024 ⌝ }
+{
     if place < 1 {
-        return word;
-    }
-    if 1023 < place {
         return word;
     }
     if word.length <= place {
@@ -26,27 +26,23 @@ fn exchanged(place: usize, word: Word) -> Word {
 
 // Whether a letter is at least one of two others and below the other one.
 fn parts(b: u8, one: u8, other: u8) -> bool {
-    if one < other {
-        return one <= b && b < other;
-    }
-    other <= b && b < one
+    (one <= b) != (other <= b)
 }
 
-// The later place of the first two neighbours that a step of rewriting exchanges, by one of two pairs of factors: acb and cab with a ≤ b < c; and, the same
-// with letters counted from the largest down (255 less the letter), bac and bca with a < b ≤ c. 0 where there is no such factor.
-fn step_place(word: Word) -> usize {
+// The later place of the first two neighbours that a step of rewriting exchanges, by one of two pairs of factors: acb and cab with a ≤ b < c; bac and
+// bca with a < b ≤ c, the same for the letter before b. 0 where there is no such factor.
+fn step_place(word: Word) -> usize
+    requires { ⌜ word .length ≤ 1024 ⌝ }
+{
     let mut i = 2;
-    while i < 1024 {
-        if word.length <= i {
-            return 0;
-        }
+    while i < word.length {
         let first = word.letters[i - 2];
         let second = word.letters[i - 1];
         let third = word.letters[i];
         if parts(third, first, second) {
             return i - 1;
         }
-        if parts(first ^ 255, second ^ 255, third ^ 255) {
+        if parts(std::num::wrapping_sub_u8(first, 1), second, third) {
             return i;
         }
         i += 1;
@@ -80,12 +76,11 @@ fn above(word: Word) -> Word {
 }
 
 // The second word, where it is no other drawn word.
-fn changed(way: usize, k: usize, word: Word) -> Word {
+fn changed(way: usize, k: usize, word: Word) -> Word
+    requires { ⌜ word .length ≤ 1024 ⌝ }
+{
     match way {
-        1 => exchanged(
-            below(std::num::wrapping_add_usize(word.length, 1), word.state),
-            word,
-        ),
+        1 => exchanged(below(word.length + 1, word.state), word),
         2 => exchanged(step_place(word), word),
         3 => word,
         4 => moved(k, word),
@@ -95,7 +90,9 @@ fn changed(way: usize, k: usize, word: Word) -> Word {
 
 // The second word of the pair whose first word, of this number, is given. Words are drawn in five ways too, by the number's remainder: each of these ways
 // meets each of those, and with each both ranks.
-pub(crate) fn partner(k: usize, word: Word) -> Word {
+pub(crate) fn partner(k: usize, word: Word) -> Word
+    requires { ⌜ word .length ≤ 1024 ⌝ }
+{
     let way = k / 5 % 6;
     if way == 0 {
         return word_of(std::num::wrapping_add_usize(k, 64), word.state);

@@ -6,13 +6,10 @@ use plain_words::answer::Answer;
 use plain_words::answer::nothing;
 use plain_words::insertion::plain_tableau;
 
-// Where a letter stands first from a place on; 1,024 where it does not stand.
+// Where a letter stands first from a place on; 1,024 where it does not stand. No letter is 0, as all is after the last one.
 fn leftmost(letter: u8, from: usize, word: Word) -> usize {
     let mut place = from;
     while place < 1024 {
-        if word.length <= place {
-            return 1024;
-        }
         if word.letters[place] == letter {
             return place;
         }
@@ -21,19 +18,21 @@ fn leftmost(letter: u8, from: usize, word: Word) -> usize {
     1024
 }
 
+// Whether a letter b stands left of some a: so an a after the leftmost b. Of a itself, whether it stands in the word.
+pub(crate) fn stands_left(b: u8, a: u8, word: Word) -> bool {
+    leftmost(a, leftmost(b, 0, word), word) < 1024
+}
+
 // Where a letter stands last; 1,024 where it does not stand.
 fn rightmost(letter: u8, word: Word) -> usize {
-    let mut last = 1024;
-    let mut i = 0;
-    while i < 1024 {
-        let place = leftmost(letter, i, word);
-        if 1023 < place {
-            return last;
+    let mut after = 1024;
+    while 0 < after {
+        after -= 1;
+        if word.letters[after] == letter {
+            return after;
         }
-        last = place;
-        i += 1;
     }
-    last
+    1024
 }
 
 // The word as it is, with the number of a refusal or 0.
@@ -55,19 +54,17 @@ fn with_letter(letter: u8, place: usize, word: Word) -> Answer {
     all
 }
 
-// The word after a move: raising turns the leftmost i+1 into i, lowering the rightmost i into i+1. It is refused where some i+1 stands left of some i, so where
-// an i stands after the leftmost i+1.
+// The word after a move: raising turns the leftmost i+1 into i, lowering the rightmost i into i+1. It is refused where some i+1 stands left of some i.
 pub(crate) fn plain_move(raising: bool, index: usize, word: Word) -> Answer {
     if index < 1 || word.rank <= index {
         return unmoved(9, word);
     }
     let low = (index % 64) as u8;
-    let high = leftmost(low + 1, 0, word);
-    if leftmost(low, high, word) < 1024 {
+    if stands_left(low + 1, low, word) {
         return unmoved(10, word);
     }
     if raising {
-        return with_letter(low, high, word);
+        return with_letter(low, leftmost(low + 1, 0, word), word);
     }
     with_letter(low + 1, rightmost(low, word), word)
 }

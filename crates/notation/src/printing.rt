@@ -138,7 +138,12 @@ fn print_either(text: bool, bytes: &[u8], entries: &[u16], count: usize) {
 
 // Lent bytes after the call, a line's argument of a kind by the kinds of all: as many as the line has of them. As a text where one is written.
 pub fn print_bytes(kinds: &[u8], line: &[u8], kind: u8, list: [u8; 1100]) {
-    print_either(has(kinds, b'w'), &list[0..1100], &[], count_of(kinds, line, kind));
+    print_either(
+        has(kinds, b'w'),
+        &list[0..1100],
+        &[],
+        count_of(kinds, line, kind),
+    );
 }
 
 // The same for 16-bit elements.

@@ -1,11 +1,11 @@
--- `brute::numbered::short_tableaux` is safe and ends. The invariant: the place is at most the number of words. Assumes nothing.
-use Prim.Native.Nat.{_-_, _≤_}
+-- `brute::numbered::short_tableaux` is safe and ends. Assumes nothing.
+use Prim.Native.Nat.{_-_}
 use borrow.Author.Needs.{needs}
 use Rattle.brute.proofs.numbered.short_tableaux.Statement.{statement}
 use Rattle.brute.proofs.numbered.short_tableaux.Tie as tie
 
 abbrev Inv-loop : tie.InvT-loop
-Inv-loop all₀ k₀ all k = k ≤ 1093
+Inv-loop all₀ k₀ all k = Unit {0}
 
 abbrev μ-loop : tie.MeasureT-loop
 μ-loop all₀ k₀ all k = 1093 - k

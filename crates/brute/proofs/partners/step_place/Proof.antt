@@ -8,9 +8,9 @@ abbrev Inv-loop : tie.InvT-loop
 Inv-loop word i₀ i = 2 ≤ i
 
 abbrev μ-loop : tie.MeasureT-loop
-μ-loop word i₀ i = 1024 - i
+μ-loop word i₀ i = word .length - i
 
 pub step-place-spec : {M : Type 1} → statement M
 step-place-spec =
     tie.close
-    (tie.spec Inv-loop μ-loop (λ c. search needs) (λ c. search needs) (λ c. search needs) (λ c. search needs) (λ c. search needs) (λ c. search needs) (λ c. search needs) (λ c κs. search needs) (λ c. search needs) (λ c. search needs) (λ c κs. search needs) (λ c. search needs) (λ c. search needs) (λ c. search needs) (λ c. search needs) (λ c. search needs))
+    (tie.spec Inv-loop μ-loop (λ c. search needs) (λ c. search needs) (λ c. search needs) (λ c. search needs) (λ c. search needs) (λ c. search needs) (λ c κs. search needs) (λ c. search needs) (λ c. search needs) (λ c κs. search needs) (λ c κs. search needs) (λ c. search needs) (λ c. search needs) (λ c. search needs) (λ c. search needs) (λ c. search needs))

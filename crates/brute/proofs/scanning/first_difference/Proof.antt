@@ -1,11 +1,11 @@
--- `brute::scanning::first_difference` is safe and ends. The invariant: the place is at most 1,024. Assumes nothing.
-use Prim.Native.Nat.{_-_, _≤_}
+-- `brute::scanning::first_difference` is safe and ends. Assumes nothing.
+use Prim.Native.Nat.{_-_}
 use borrow.Author.Needs.{needs}
 use Rattle.brute.proofs.scanning.first_difference.Statement.{statement}
 use Rattle.brute.proofs.scanning.first_difference.Tie as tie
 
 abbrev Inv-loop : tie.InvT-loop
-Inv-loop one other place₀ place = place ≤ 1024
+Inv-loop one other place₀ place = Unit {0}
 
 abbrev μ-loop : tie.MeasureT-loop
 μ-loop one other place₀ place = 1024 - place
