@@ -8,7 +8,7 @@ ghost use Rattle.notation.specs.Digits.{digitsFrom, NumberIn};
 
 // Where the first byte from a place on stands that is a given one, or one of so many after it, 0 after 255; the text's length where there is none, or the
 // place itself past the text's end.
-fn place_among(text: &[u8], from: usize, byte: u8, more: u8) -> usize
+pub fn place_of(text: &[u8], from: usize, byte: u8, more: u8) -> usize
     ensures { λ r. ⌜ Between from r (length (now (text .entry))) ⌝ }
 {
     let mut at = from;
@@ -21,18 +21,11 @@ fn place_among(text: &[u8], from: usize, byte: u8, more: u8) -> usize
     at
 }
 
-// The same for one byte.
-pub fn place_of(text: &[u8], from: usize, byte: u8) -> usize
-    ensures { λ r. ⌜ Between from r (length (now (text .entry))) ⌝ }
-{
-    place_among(text, from, byte, 0)
-}
-
 // Where the digits that begin at a place of a text end.
 pub(crate) fn number_end(text: &[u8], from: usize) -> usize
     ensures { λ r. ⌜ from ≤ r ⌝ }
 {
-    place_among(text, from, b':', 245)
+    place_of(text, from, b':', 245)
 }
 
 // Where a field of a line begins: after so many spaces.
@@ -59,7 +52,7 @@ pub fn field(line: &[u8], place: usize) -> &[u8]
     ensures { λ r. ⌜ length (now r) ≤ length (now (line .entry)) ⌝ }
 {
     let start = field_start(line, place);
-    let end = place_of(line, start, b' ');
+    let end = place_of(line, start, b' ', 0);
     &line[start..end]
 }
 
@@ -117,13 +110,13 @@ pub fn number(line: &[u8], place: usize) -> usize
 
 // Whether there is an argument of a kind, by the kinds of all.
 pub fn has(kinds: &[u8], kind: u8) -> bool {
-    place_of(kinds, 0, kind) < kinds.len()
+    place_of(kinds, 0, kind, 0) < kinds.len()
 }
 
 // The field of a line that holds its argument of a kind; an empty one where there is none.
 pub(crate) fn argument<'a>(kinds: &[u8], line: &'a [u8], kind: u8) -> &'a [u8] {
     field(
         line,
-        std::num::wrapping_add_usize(place_of(kinds, 0, kind), 1),
+        std::num::wrapping_add_usize(place_of(kinds, 0, kind, 0), 1),
     )
 }

@@ -40,7 +40,7 @@ fn in_list(list: &[u8], place: usize) -> usize {
     let mut left = place;
     let mut from = 0;
     while from < list.len() {
-        let end = place_of(list, from, b',');
+        let end = place_of(list, from, b',', 0);
         let item = &list[from..end];
         let times = times_of(item);
         if left < times {
@@ -97,13 +97,13 @@ fn in_text(text: &[u8], place: usize) -> usize {
     let mut left = place;
     let mut from = 0;
     while from < text.len() {
-        let open = place_of(text, from, b'(');
+        let open = place_of(text, from, b'(', 0);
         if left < open - from {
             return meant(text, from + left);
         }
         left -= open - from;
         let inner = open + 1;
-        let close = place_of(text, inner, b')');
+        let close = place_of(text, inner, b')', 0);
         let times = number_at(text, close + 2);
         let found = in_group(text, inner, close - inner, times, left);
         if found < 65536 {
@@ -123,11 +123,6 @@ fn in_either(is_text: bool, list: &[u8], place: usize) -> usize {
     in_list(list, place)
 }
 
-// A number as a byte.
-fn byte(number: usize) -> u8 {
-    (number % 256) as u8
-}
-
 // A text or a list of bytes; answers how many there are.
 fn bytes(is_text: bool, list: &[u8], out: &mut [u8]) -> usize
     ensures { λ r. ⌜ r ≤ length (now (out .exit)) ⌝ }
@@ -138,7 +133,7 @@ fn bytes(is_text: bool, list: &[u8], out: &mut [u8]) -> usize
         if 65535 < value {
             return i;
         }
-        out[i] = byte(value);
+        out[i] = (value % 256) as u8;
         i += 1;
     }
     i
@@ -162,11 +157,6 @@ pub(crate) fn count_of(kinds: &[u8], line: &[u8], kind: u8) -> usize {
     bytes(false, argument(kinds, line, kind), &mut space)
 }
 
-// A number as a 16-bit element.
-fn element(number: usize) -> u16 {
-    (number % 65536) as u16
-}
-
 // A list of 16-bit elements; answers how many there are.
 fn entries(list: &[u8], out: &mut [u16]) -> usize
     ensures { λ r. ⌜ r ≤ length (now (out .exit)) ⌝ }
@@ -177,7 +167,7 @@ fn entries(list: &[u8], out: &mut [u16]) -> usize
         if 65535 < value {
             return i;
         }
-        out[i] = element(value);
+        out[i] = (value % 65536) as u16;
         i += 1;
     }
     i

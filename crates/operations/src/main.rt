@@ -25,15 +25,20 @@ fn answer_line(line: &[u8]) {
 fn answer_table(table: &[u8]) {
     let mut from = 0;
     while from < table.len() {
-        let end = place_of(table, from, b'\n');
+        let end = place_of(table, from, b'\n', 0);
         answer_line(&table[from..end]);
         from = end + 1;
     }
 }
 
+// Room for a table.
+fn room() -> [u8; 131072] {
+    [0; 131072]
+}
+
 // The table that the first argument names.
 fn main() {
-    let mut space: [u8; 131072] = [0; 131072];
+    let mut space = room();
     let table = read_argument(&mut space);
     answer_table(table);
 }

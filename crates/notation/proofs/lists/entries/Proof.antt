@@ -15,5 +15,5 @@ pub entries-spec : {M : Type 1} → statement M
 entries-spec =
     tie.close
     (tie.spec Inv-loop μ-loop (λ c. search filling) (λ c κs. search filling) (λ c. search filling)
-    (λ c. search filling) (λ c κs. search filling) (λ c. search filling) (λ c. search filling) (λ c. search filling)
+    (λ c. search filling) (λ c. search filling) (λ c. search filling) (λ c. search filling) (λ c. search filling)
     (λ c. search filling) (λ c. search filling) (λ c. search filling) (λ c. search filling))
