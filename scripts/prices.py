@@ -7,7 +7,7 @@
 A crate is checked from nothing over an incremental folder, where the checker leaves a file for each module as soon as it is done. The time since the file
 before it is the module's; a module that is the first to need another crate bears the loading of it. The gate checks a crate once, and once more for each of its
 must-fail edits. What stands below a crate has to be proved already (`rt check`), and the machine should do nothing else. A function's modules are
-summed up: `Lts` among them is a table of all locals for each statement of the compiled function, so that it grows with the square of the function's size.
+summed up: `Lts` among them has a table of the locals for each statement of the compiled function, and takes more than half of the time.
 """
 import shutil
 import subprocess

@@ -146,7 +146,9 @@ pub fn bytes_of<'a>(
     line: &[u8],
     kind: u8,
     out: &'a mut [u8],
-) -> &'a mut [u8] {
+) -> &'a mut [u8]
+    ensures { λ r. ⌜ length (now r) ≤ length (now (out .entry)) ⌝ }
+{
     let count = bytes(is_text, argument(kinds, line, kind), out);
     &mut out[0..count]
 }
@@ -174,7 +176,9 @@ fn entries(list: &[u8], out: &mut [u16]) -> usize
 }
 
 // The same for a list of 16-bit elements.
-pub fn entries_of<'a>(kinds: &[u8], line: &[u8], kind: u8, out: &'a mut [u16]) -> &'a mut [u16] {
+pub fn entries_of<'a>(kinds: &[u8], line: &[u8], kind: u8, out: &'a mut [u16]) -> &'a mut [u16]
+    ensures { λ r. ⌜ length (now r) ≤ length (now (out .entry)) ⌝ }
+{
     let count = entries(argument(kinds, line, kind), out);
     &mut out[0..count]
 }
