@@ -109,7 +109,7 @@ pub fn number(line: &[u8], place: usize) -> usize
 }
 
 // Whether there is an argument of a kind, by the kinds of all.
-pub fn has(kinds: &[u8], kind: u8) -> bool {
+pub(crate) fn has(kinds: &[u8], kind: u8) -> bool {
     place_of(kinds, 0, kind, 0) < kinds.len()
 }
 

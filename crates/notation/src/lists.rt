@@ -116,20 +116,20 @@ fn in_text(text: &[u8], place: usize) -> usize {
 }
 
 // The element of a text or a list at a place; 65,536 past its end.
-fn in_either(is_text: bool, list: &[u8], place: usize) -> usize {
-    if is_text {
+fn in_either(text: bool, list: &[u8], place: usize) -> usize {
+    if text {
         return in_text(list, place);
     }
     in_list(list, place)
 }
 
 // A text or a list of bytes; answers how many there are.
-fn bytes(is_text: bool, list: &[u8], out: &mut [u8]) -> usize
+fn bytes(text: bool, list: &[u8], out: &mut [u8]) -> usize
     ensures { λ r. ⌜ r ≤ length (now (out .exit)) ⌝ }
 {
     let mut i = 0;
     while i < out.len() {
-        let value = in_either(is_text, list, i);
+        let value = in_either(text, list, i);
         if 65535 < value {
             return i;
         }
@@ -139,17 +139,16 @@ fn bytes(is_text: bool, list: &[u8], out: &mut [u8]) -> usize
     i
 }
 
+// Whether the argument of a kind is a text: a and b are where t stands among the kinds.
+fn is_text(kinds: &[u8], kind: u8) -> bool {
+    std::num::wrapping_sub_u8(kind, b'a') < 2 && has(kinds, b't')
+}
+
 // The bytes of a line's argument of a kind, a text or a list, by the kinds of all its arguments; none where it has no such argument.
-pub fn bytes_of<'a>(
-    is_text: bool,
-    kinds: &[u8],
-    line: &[u8],
-    kind: u8,
-    out: &'a mut [u8],
-) -> &'a mut [u8]
+pub fn bytes_of<'a>(kinds: &[u8], line: &[u8], kind: u8, out: &'a mut [u8]) -> &'a mut [u8]
     ensures { λ r. ⌜ length (now r) ≤ length (now (out .entry)) ⌝ }
 {
-    let count = bytes(is_text, argument(kinds, line, kind), out);
+    let count = bytes(is_text(kinds, kind), argument(kinds, line, kind), out);
     &mut out[0..count]
 }
 

@@ -1,7 +1,6 @@
 // The operation of a line, and the lists that are given to its call, each in memory of its own. A list that the operation does not have is empty.
 use crate::calls::call;
 use notation::fields::field;
-use notation::fields::has;
 use notation::fields::name_of;
 use notation::lists::bytes_of;
 use notation::lists::counts_of;
@@ -15,8 +14,8 @@ const OPERATIONS: usize = 39;
 fn give_second(operation: usize, kinds: &[u8], line: &[u8], a: &[u8], b: &[u8], entries: &[u16]) {
     let mut third: [u8; 1100] = [0; 1100];
     let mut fourth: [u8; 1100] = [0; 1100];
-    let c = bytes_of(false, kinds, line, b'c', &mut third);
-    let d = bytes_of(false, kinds, line, b'd', &mut fourth);
+    let c = bytes_of(kinds, line, b'c', &mut third);
+    let d = bytes_of(kinds, line, b'd', &mut fourth);
     let k = counts_of(kinds, line, b'k');
     let q = counts_of(kinds, line, b'q');
     call(operation, kinds, line, a, b, entries, &k, c, d, &q);
@@ -27,9 +26,8 @@ fn give_first(operation: usize, kinds: &[u8], line: &[u8]) {
     let mut first: [u8; 18100] = [0; 18100];
     let mut second: [u8; 2200] = [0; 2200];
     let mut third: [u16; 1100] = [0; 1100];
-    let text = has(kinds, b't');
-    let a = bytes_of(text, kinds, line, b'a', &mut first);
-    let b = bytes_of(text, kinds, line, b'b', &mut second);
+    let a = bytes_of(kinds, line, b'a', &mut first);
+    let b = bytes_of(kinds, line, b'b', &mut second);
     let entries = entries_of(kinds, line, b'e', &mut third);
     give_second(operation, kinds, line, a, b, entries);
 }

@@ -37,8 +37,8 @@ pub(crate) fn read_pair(kinds: &[u8], line: &[u8], a: &[u8]) {
     let mut counts = counts_of(kinds, line, b'K');
     print_read(read_pair_line(
         a,
-        bytes_of(false, kinds, line, b'L', &mut letters),
-        bytes_of(false, kinds, line, b'M', &mut marks),
+        bytes_of(kinds, line, b'L', &mut letters),
+        bytes_of(kinds, line, b'M', &mut marks),
         entries_of(kinds, line, b'E', &mut entries),
         &mut counts,
     ));
@@ -54,8 +54,8 @@ pub(crate) fn insert_word(kinds: &[u8], line: &[u8], rank: usize, a: &[u8]) {
     print_written(pair_of_word(
         rank,
         a,
-        bytes_of(false, kinds, line, b'L', &mut letters),
-        bytes_of(false, kinds, line, b'M', &mut marks),
+        bytes_of(kinds, line, b'L', &mut letters),
+        bytes_of(kinds, line, b'M', &mut marks),
         entries_of(kinds, line, b'E', &mut entries),
         &mut counts,
     ));
@@ -72,8 +72,8 @@ pub(crate) fn insert(kinds: &[u8], line: &[u8], rank: usize, used: usize) {
         rank,
         used,
         number(line, 3),
-        bytes_of(false, kinds, line, b'L', &mut letters),
-        bytes_of(false, kinds, line, b'M', &mut marks),
+        bytes_of(kinds, line, b'L', &mut letters),
+        bytes_of(kinds, line, b'M', &mut marks),
         entries_of(kinds, line, b'E', &mut entries),
         &mut counts,
     ));
@@ -89,8 +89,8 @@ pub(crate) fn remove(kinds: &[u8], line: &[u8], rank: usize, used: usize) {
     print_used(remove_oldest(
         rank,
         used,
-        bytes_of(false, kinds, line, b'L', &mut letters),
-        bytes_of(false, kinds, line, b'M', &mut marks),
+        bytes_of(kinds, line, b'L', &mut letters),
+        bytes_of(kinds, line, b'M', &mut marks),
         entries_of(kinds, line, b'E', &mut entries),
         &mut counts,
     ));

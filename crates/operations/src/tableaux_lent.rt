@@ -19,7 +19,7 @@ pub(crate) fn raise(kinds: &[u8], line: &[u8], rank: usize, index: usize, a: &[u
     print_move(raise_tableau(
         rank,
         index,
-        bytes_of(false, kinds, line, b'L', &mut letters),
+        bytes_of(kinds, line, b'L', &mut letters),
         a,
         &mut counts,
     ));
@@ -34,7 +34,7 @@ pub(crate) fn lower(kinds: &[u8], line: &[u8], rank: usize, index: usize, a: &[u
     print_move(lower_tableau(
         rank,
         index,
-        bytes_of(false, kinds, line, b'L', &mut letters),
+        bytes_of(kinds, line, b'L', &mut letters),
         a,
         &mut counts,
     ));
@@ -49,8 +49,8 @@ pub(crate) fn read_tableau(kinds: &[u8], line: &[u8], a: &[u8]) {
     let mut counts = counts_of(kinds, line, b'K');
     print_read(read_tableau_line(
         a,
-        bytes_of(false, kinds, line, b'L', &mut letters),
-        bytes_of(false, kinds, line, b'M', &mut marks),
+        bytes_of(kinds, line, b'L', &mut letters),
+        bytes_of(kinds, line, b'M', &mut marks),
         &mut counts,
     ));
     print_bytes(kinds, line, b'L', letters);
@@ -65,8 +65,8 @@ pub(crate) fn read_runs(kinds: &[u8], line: &[u8], a: &[u8]) {
     let mut counts = counts_of(kinds, line, b'K');
     print_read(read_run_line(
         a,
-        bytes_of(false, kinds, line, b'L', &mut letters),
-        bytes_of(false, kinds, line, b'M', &mut marks),
+        bytes_of(kinds, line, b'L', &mut letters),
+        bytes_of(kinds, line, b'M', &mut marks),
         &mut counts,
     ));
     print_bytes(kinds, line, b'L', letters);
@@ -97,8 +97,8 @@ pub(crate) fn multiply(
         c,
         d,
         q,
-        bytes_of(false, kinds, line, b'L', &mut letters),
-        bytes_of(false, kinds, line, b'M', &mut marks),
+        bytes_of(kinds, line, b'L', &mut letters),
+        bytes_of(kinds, line, b'M', &mut marks),
         &mut counts,
     ));
     print_bytes(kinds, line, b'L', letters);

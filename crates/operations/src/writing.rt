@@ -135,7 +135,7 @@ pub(crate) fn lend_letters(
         b,
         entries,
         counts,
-        bytes_of(false, kinds, line, b'L', &mut letters),
+        bytes_of(kinds, line, b'L', &mut letters),
     );
     print_bytes(kinds, line, b'L', letters);
 }
