@@ -1,6 +1,7 @@
 // A second implementation by plain insertion and plain scans, run against the kernel: it prints how many words, products, classes and states of windows were
 // compared and how many differences were found, how often each answer to moves and to pairs of words came, and how many answers were spoilt on purpose and
 // how many of these the same comparison found.
+#![tactic(auto)]
 mod answers;
 mod comparing;
 mod counting;

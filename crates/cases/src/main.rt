@@ -1,5 +1,6 @@
 // Runs every file that its arguments name through the code of the program `ribbon`, and prints for each its name and what the program answers. The output
 // is held to crates/cases/stdout, which scripts/expected.py makes without the kernel.
+#![tactic(auto)]
 use libc::STDOUT_FILENO;
 
 // One file: its name, then the program's whole output for it. A file that cannot be opened is said to be so, which no expected output says.

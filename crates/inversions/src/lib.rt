@@ -1,2 +1,3 @@
 // Whether a tableau has an inversion: what leaves a move on it undefined.
+#![tactic(auto)]
 pub mod scan;

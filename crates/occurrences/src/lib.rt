@@ -1,2 +1,3 @@
 // Where a letter stands in a word. Every public function takes whatever it is given.
+#![tactic(auto)]
 pub mod places;

@@ -1,4 +1,5 @@
 // Makes every call that a table names, and prints each line of the table with what came of its call (notation).
+#![tactic(auto)]
 mod calls;
 mod giving;
 mod pairs_lent;

@@ -1,5 +1,6 @@
 // The words and the streams of letters that the program brute compares with the kernel, and their pairs and tableaux by plain insertion. Nothing here is
 // of the kernel, and no contract says what a word or a pair is: that is compared by running. Contracts give what callers must know to be safe.
+#![tactic(auto)]
 pub mod answer;
 pub mod drawn;
 pub mod insertion;

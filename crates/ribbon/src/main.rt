@@ -1,4 +1,5 @@
 // `ribbon`: one W line from standard input; the P line, the W line of the column reading and the J line to standard output, or one E line.
+#![tactic(auto)]
 use libc::{STDIN_FILENO, STDOUT_FILENO};
 use streams::answer_stream;
 

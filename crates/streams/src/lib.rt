@@ -1,5 +1,6 @@
 // The program between two descriptors: what comes in through one, answered through the other. No contract can say what is read or written; the answer itself
 // is `outputs::answer::answer`, whose promise is about every input.
+#![tactic(auto)]
 use outputs::answer::answer;
 use refusals::answers::Written;
 

@@ -1,2 +1,3 @@
 // The reader of W lines: the word of a line into lent memory, or the exact refusal. It takes whatever it is given.
+#![tactic(auto)]
 pub mod word;

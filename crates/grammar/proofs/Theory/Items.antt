@@ -30,10 +30,14 @@ First P c = P c.0 × (c.1 ≡ 0)
 pub stepped : (xs ms : List ℕ) → Marked xs ms → Stepped xs ms
 stepped [] [] h = tt
 stepped (x ∷ xs) (m ∷ ms) h = (omega arith, h.1)
+stepped [] (m ∷ ms) h = elim h [ ]
+stepped (x ∷ xs) [] h = elim h [ ]
 
 stepped-length : (xs ms : List ℕ) → Stepped xs ms → length ms ≡ length xs
 stepped-length [] [] h = refl
 stepped-length (x ∷ xs) (m ∷ ms) h = ap suc (stepped-length xs ms h.1)
+stepped-length [] (m ∷ ms) h = elim h [ ]
+stepped-length (x ∷ xs) [] h = elim h [ ]
 
 -- As many marks as letters.
 pub marked-length : (xs ms : List ℕ) → Marked xs ms → length ms ≡ length xs
@@ -42,22 +46,32 @@ marked-length xs ms h = stepped-length xs ms (stepped xs ms h)
 pub cells-length : (xs ms : List ℕ) → Stepped xs ms → length (cells xs ms) ≡ length xs
 cells-length [] [] h = refl
 cells-length (x ∷ xs) (m ∷ ms) h = ap suc (cells-length xs ms h.1)
+cells-length [] (m ∷ ms) h = elim h [ ]
+cells-length (x ∷ xs) [] h = elim h [ ]
 
 pub cells-letters : (xs ms : List ℕ) → Stepped xs ms → letters (cells xs ms) ≡ xs
 cells-letters [] [] h = refl
 cells-letters (x ∷ xs) (m ∷ ms) h = rw (cells-letters xs ms h.1)
+cells-letters [] (m ∷ ms) h = elim h [ ]
+cells-letters (x ∷ xs) [] h = elim h [ ]
 
 pub cells-marks : (xs ms : List ℕ) → Stepped xs ms → marks (cells xs ms) ≡ ms
 cells-marks [] [] h = refl
 cells-marks (x ∷ xs) (m ∷ ms) h = rw (cells-marks xs ms h.1)
+cells-marks [] (m ∷ ms) h = elim h [ ]
+cells-marks (x ∷ xs) [] h = elim h [ ]
 
 cells_good : (P : ℕ → Type 0) (xs ms : List ℕ) → Items P P xs → Stepped xs ms → Items (Cell P) (Cell P) (cells xs ms)
 cells_good P [] [] g h = tt
 cells_good P (x ∷ xs) (m ∷ ms) g h = ((g.0, h.0), cells_good P xs ms g.1 h.1)
+cells_good P [] (m ∷ ms) g h = elim h [ ]
+cells_good P (x ∷ xs) [] g h = elim h [ ]
 
 pub ribbon_good : (P : ℕ → Type 0) (xs ms : List ℕ) → Items P P xs → Marked xs ms → Items (First P) (Cell P) (cells xs ms)
 ribbon_good P [] [] g h = tt
 ribbon_good P (x ∷ xs) (m ∷ ms) g h = ((g.0, h.0), cells_good P xs ms g.1 h.1)
+ribbon_good P [] (m ∷ ms) g h = elim h [ ]
+ribbon_good P (x ∷ xs) [] g h = elim h [ ]
 
 -- Cells are those of their letters and marks.
 pub cells_of : (cs : List (ℕ × ℕ)) → cells (letters cs) (marks cs) ≡ cs

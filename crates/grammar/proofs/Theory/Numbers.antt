@@ -23,7 +23,7 @@ number_begun : (j k n : ℕ) (t : List ℕ) → 10 ^ j ≤ n → n < 10 ^ suc j 
 number_begun zero k n t low high e =
     let all : k ≡ further_digits = omega arith in
     let back : 48 + n - 48 ≡ n = omega arith in
-    rw (all, decimal_digit n high, ne_eqb (48 + n) 48 (omega arith), digit_is n high, back)
+    rw (all, decimal_digit n high, ne_eqb (48 + n) 48 (omega arith), digit_is n high) (ap (λ (m : ℕ). more_digits further_digits m t) back)
 number_begun (suc j) k n t low high e =
     let back : n / 10 * 10 + (48 + n % 10 - 48) ≡ n = omega arith in
     rw (decimal_more n (omega arith), append_assoc)

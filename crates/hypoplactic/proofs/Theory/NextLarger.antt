@@ -41,8 +41,14 @@ next_high a x xs h none n = (h, rw (eq-eqb x x refl) (omega arith), λ b k m. rw
 next_high a x xs h (some q) n = go (le-or-lt q x)
   where
     go : (q ≤ x) ⊎ (x < q) → Next a (λ b. count b (x ∷ xs)) (some (least x (some q)))
-    go (inl l) = rw (le-ltb x q l) (n.0, tick-least (eqb x q) n.1, λ b k m. rw (ne_eqb x b (λ e. omega arith)) (n.2 b k m))
-    go (inr l) = rw (lt-ltb x q l) (h, rw (eq-eqb x x refl) (omega arith), λ b k m. rw (ne_eqb x b (λ e. omega arith)) (n.2 b k (omega arith)))
+    go (inl l) =
+        let is : least x (some q) ≡ q = rw (le-ltb x q l) in
+        subst (λ (p : ℕ). Next a (λ b. count b (x ∷ xs)) (some p)) (sym is)
+        (n.0, tick-least (eqb x q) n.1, λ b k m. rw (ne_eqb x b (λ e. omega arith)) (n.2 b k m))
+    go (inr l) =
+        let is : least x (some q) ≡ x = rw (lt-ltb x q l) in
+        subst (λ (p : ℕ). Next a (λ b. count b (x ∷ xs)) (some p)) (sym is)
+        (h, rw (eq-eqb x x refl) (omega arith), λ b k m. rw (ne_eqb x b (λ e. omega arith)) (n.2 b k (omega arith)))
 
 -- next_larger is the next larger letter by the counts.
 pub next_larger_lem : (a : ℕ) (w : List ℕ) → Next a (λ b. count b w) (next_larger a w)

@@ -91,22 +91,22 @@ seat-before a e (y ∷ ys) [] u h = absurd h
 seat-before a e (y ∷ ys) (s ∷ ss) u h = seat_high a y (y ∷ ys) (h.1 u.0) (omega arith, ordered_rising y s ys ss h.2)
 
 -- Without it the cells are in order.
-pub ordered_without : (x r : ℕ) {a e : ℕ} {xs rs ys ss : List ℕ} → Placed a e xs rs ys ss → Under e rs → Ordered x r ys ss → Ordered x r xs rs
-ordered_without x r {a} {e} (here {xs = xs} {rs = rs}) u h = ordered_over x r a e xs rs h.0 u h.2
+pub ordered_without : {a e : ℕ} (x r : ℕ) {xs rs ys ss : List ℕ} → Placed a e xs rs ys ss → Under e rs → Ordered x r ys ss → Ordered x r xs rs
+ordered_without {a} {e} x r (here {xs = xs} {rs = rs}) u h = ordered_over x r a e xs rs h.0 u h.2
 ordered_without x r (later {x = y} {r = s} p) u h = (h.0, h.1, ordered_without y s p u.1 h.2)
 
 -- Its letter is at least those before it.
-letter_after : (x r : ℕ) {a e : ℕ} {xs rs ys ss : List ℕ} → Placed a e xs rs ys ss → Ordered x r ys ss → x ≤ a
+letter_after : {a e : ℕ} (x r : ℕ) {xs rs ys ss : List ℕ} → Placed a e xs rs ys ss → Ordered x r ys ss → x ≤ a
 letter_after x r here h = h.0
 letter_after x r (later {x = y} {r = s} p) h = let l : x ≤ y = h.0 in omega (arith, letter_after y s p h.2)
 
 -- Insertion of its letter puts the cell back where it stood.
-pub put_back : (x r : ℕ) {a e : ℕ} {xs rs ys ss : List ℕ} → Placed a e xs rs ys ss → Under e rs → Ordered x r ys ss
+pub put_back : {a e : ℕ} (x r : ℕ) {xs rs ys ss : List ℕ} → Placed a e xs rs ys ss → Under e rs → Ordered x r ys ss
     → (put_at (seat a xs) a xs ≡ ys) × (put_at (seat a xs) e rs ≡ ss)
-put_back x r {a} {e} (here {xs = xs} {rs = rs}) u h =
+put_back {a} {e} x r (here {xs = xs} {rs = rs}) u h =
     let first : seat a xs ≡ 0 = seat-before a e xs rs u h.2 in
     (rw first, rw first)
-put_back x r {a} {e} (later {x = y} {r = s} {xs = xs} {rs = rs} {ys = ys} {ss = ss} p) u h =
+put_back {a} {e} x r (later {x = y} {r = s} {xs = xs} {rs = rs} {ys = ys} {ss = ss} p) u h =
     let over : seat a (y ∷ xs) ≡ suc (seat a xs) = seat_low a y xs (letter_after y s p h.2) in
     let rest : (put_at (seat a xs) a xs ≡ ys) × (put_at (seat a xs) e rs ≡ ss) = put_back y s p u.1 h.2 in
     (rw over (ap (λ (zs : List ℕ). y ∷ zs) rest.0), rw over (ap (λ (zs : List ℕ). s ∷ zs) rest.1))
