@@ -84,7 +84,7 @@ module _ (b d : ℕ) (t : List ℕ) (is : d ≡ digit_of (b ∷ t)) (h : d ≤ 9
   begun_read : (d ≡ 0 → ⊥) → read_number (b ∷ t) ≡ more_digits further_digits d t
   begun_read z =
       let v : b - 48 ≡ d = omega (arith, digit_value) in
-      rw (ne_eqb b 48 (λ e. z (omega (arith, digit_value))), digit_is b t (rw is at h), v)
+      rw (ne_eqb b 48 (λ e. z (omega (arith, digit_value))), digit_is b t (rw is at h)) (ap (λ (n : ℕ). more_digits further_digits n t) v)
 
   next_read : (k n : ℕ) → more_digits (suc k) n (b ∷ t) ≡ more_digits k (n * 10 + d) t
   next_read k n = let v : b - 48 ≡ d = omega (arith, digit_value) in rw (digit_is b t (rw is at h), v)

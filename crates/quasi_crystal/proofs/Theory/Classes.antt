@@ -88,10 +88,14 @@ stepped x [] [] h = tt
 stepped x (y ∷ ys) (zero ∷ ms) h = (zero-le, stepped y ys ms h.1)
 stepped x (y ∷ ys) (suc zero ∷ ms) h = (le_refl 1, stepped y ys ms h.1)
 stepped x (y ∷ ys) (suc (suc m) ∷ ms) h = absurd h.0
+stepped x [] (_ ∷ ms) h = elim h [ ]
+stepped x (y ∷ ys) [] h = elim h [ ]
 
 pub marked : (xs ms : List ℕ) → Tableau xs ms → Marked xs ms
 marked [] [] h = tt
 marked (x ∷ xs) (m ∷ ms) h = (h.0, stepped x xs ms h.1)
+marked [] (m ∷ ms) h = elim h [ ]
+marked (x ∷ xs) [] h = elim h [ ]
 
 -- The T line tells tableaux apart.
 pub line-tells : (n : ℕ) (xs ms ys ns : List ℕ) → Tableau xs ms → Tableau ys ns → t_line n xs ms ≡ t_line n ys ns → (xs ≡ ys) × (ms ≡ ns)

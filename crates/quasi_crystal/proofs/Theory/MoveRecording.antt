@@ -119,7 +119,7 @@ kept_insert {i} {p} {q} c ne k =
 -- Kept by the letters that follow, none of which is i.
 kept_all : {i : ℕ} {p q : Pair} (w : List ℕ) → Lacks i w → Kept i p q → Kept i (insert_all p w) (insert_all q w)
 kept_all [] l k = k
-kept_all (c ∷ w) l k = kept_all w l.1 (kept_insert c l.0 k)
+kept_all {p = p} {q = q} (c ∷ w) l k = kept_all {p = insert c p} {q = insert c q} w l.1 (kept_insert c l.0 k)
 
 -- Kept from the changed letter on, the first of its kind.
 kept_start : (i : ℕ) (p : Pair) → Lacks (suc i) p.letters → Kept i (insert (suc i) p) (insert i p)
