@@ -45,6 +45,9 @@ first_one (gives vs ∷ js) (gives us ∷ ks) a b h e = first_one js ks a b h.1 
 first_one (gives vs ∷ js) (refused k p ∷ ks) a b h e = absurd h.0
 first_one (refused k p ∷ js) (gives vs ∷ ks) a b h e = absurd h.0
 first_one (refused k p ∷ js) (refused i q ∷ ks) a b h e = h.0
+first_one [] (_ ∷ ks) a b h e = elim h [ ]
+first_one (gives vs ∷ js) [] a b h e = elim h [ ]
+first_one (refused k p ∷ js) [] a b h e = elim h [ ]
 
 -- ---- the letters of joined words
 
