@@ -1,5 +1,6 @@
 // Lent memory: values copied into it, and tails of it shifted or pulled by one. Every public function takes whatever it is given.
 #![tactic(auto)]
+
 pub mod copies;
 pub mod pulls;
 pub mod shifts;

@@ -1,5 +1,6 @@
 // Whether letters and marks have the shape of a quasi-ribbon tableau: the checks 5 and 6. Each is a total function over slices, equal to its judgement of
 // the written meaning (crate outcomes).
 #![tactic(auto)]
+
 pub mod marks;
 pub mod rising;
