@@ -1,5 +1,4 @@
 -- `counts::blocks::confirmed` meets its contract. The loop's invariant: the blocks passed agree with their counts. Assumes nothing.
-use Prim.Native.Nat.{◌-◌}
 use Rattle.counts.specs.Blocks.{agreeing}
 use Rattle.counts.proofs.blocks.confirmed.Goals as goal
 

@@ -1,5 +1,4 @@
 -- `counts::check::first_wrong` meets its contract, by the laws of specs/Comparing. Assumes nothing.
-use Prim.Native.Nat.{◌-◌}
 use Rattle.counts.specs.Comparing.{counting}
 use Rattle.counts.proofs.check.first_wrong.Goals as goal
 

@@ -1,5 +1,4 @@
 -- `inversions::scan::some_step_below` meets its contract, by the laws of specs/Walking. Assumes nothing.
-use Prim.Native.Nat.{◌-◌}
 use Rattle.inversions.specs.Walking.{walking}
 use Rattle.inversions.proofs.scan.some_step_below.Goals as goal
 
