@@ -58,10 +58,10 @@ module _ {c : List ℕ → ℕ} {w : List ℕ} {i n : ℕ} (s : Counting c w i n
   pub counted_all : length w ≤ i → c [] ≡ 0 → n ≡ c w
   counted_all h none = sym (s.left ∙ rw (drop_of_length-le w h, none) (omega arith))
 
-pub count_end : {a : ℕ} {w : List ℕ} {i n : ℕ} → Counting (count a) w i n → length w ≤ i → n ≡ count a w
-count_end s h = counted_all s h refl
+pub count_end : (a : ℕ) {w : List ℕ} {i n : ℕ} → Counting (count a) w i n → length w ≤ i → n ≡ count a w
+count_end a s h = counted_all s h refl
 
-pub up_to_end : {a : ℕ} {w : List ℕ} {i n : ℕ} → Counting (count_up_to a) w i n → length w ≤ i → n ≡ count_up_to a w
-up_to_end s h = counted_all s h refl
+pub up_to_end : (a : ℕ) {w : List ℕ} {i n : ℕ} → Counting (count_up_to a) w i n → length w ≤ i → n ≡ count_up_to a w
+up_to_end a s h = counted_all s h refl
 
 pub ruleset counting = (tick_one, tick_none, up_to_one, up_to_none, count_start, count_turn, count_fits, count_end, up_to_end, rules)

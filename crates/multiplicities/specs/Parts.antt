@@ -47,14 +47,14 @@ module _ (w : List ℕ) (i : ℕ) {r : ℕ} (h : Part i (length w) r) where
     sum_turn = record { within = h.within; small = omega (arith, part_small, s.small, h.from); left = omega (arith, s.left, part_left) }
 
   -- Of one letter, and of the letters up to one.
-  module _ {a n one : ℕ} (s : Counting (count a) w i n) (e : one ≡ count a (take (r - i) (drop i w))) where
+  module _ (a : ℕ) {n one : ℕ} (s : Counting (count a) w i n) (e : one ≡ count a (take (r - i) (drop i w))) where
     pub part_fits : length w < 2 ^ 64 → Fits w64 (n + one)
     part_fits = sum_fits (count a) (count_append a) (count-length a) s e
 
     pub part_turn : Counting (count a) w r (n + one)
     part_turn = sum_turn (count a) (count_append a) (count-length a) s e
 
-  module _ {a n one : ℕ} (s : Counting (count_up_to a) w i n) (e : one ≡ count_up_to a (take (r - i) (drop i w))) where
+  module _ (a : ℕ) {n one : ℕ} (s : Counting (count_up_to a) w i n) (e : one ≡ count_up_to a (take (r - i) (drop i w))) where
     pub part_fits_up_to : length w < 2 ^ 64 → Fits w64 (n + one)
     part_fits_up_to = sum_fits (count_up_to a) (up_to-append a) (up_to-length a) s e
 

@@ -16,7 +16,7 @@ use refusals::numbers::{check_index, check_rank};
 use refusals::refusal::Refusal;
 
 // Raising turns an i+1 into i, lowering an i into i+1.
-#[derive(Drop)]
+#[derive(Clone, Copy)]
 pub enum Side {
     Raising,
     Lowering,

@@ -3,7 +3,7 @@ ghost use Rattle.std.specs.Prelude.{◌≤◌};
 ghost use Rattle.weight_sums.specs.Sums.{Grown, Stepped};
 
 // The sums of the first k counts, of the first word and of the second.
-#[derive(Drop)]
+#[derive(Clone, Copy)]
 pub(crate) struct Sums {
     pub first: usize,
     pub second: usize,

@@ -1,5 +1,4 @@
 -- `multiplicities::counts::count_few` meets its contract. The invariant: so many letters before place i. Assumes nothing.
-use Prim.Native.Nat.{◌-◌}
 use Rattle.multiplicities.specs.Counting.{counting}
 use Rattle.multiplicities.proofs.counts.count_few.Goals as goal
 

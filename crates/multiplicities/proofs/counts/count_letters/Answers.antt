@@ -1,6 +1,4 @@
 -- `multiplicities::counts::count_letters` meets its contract, by the laws of specs/Parts. Assumes nothing.
-use Prim.Native.Nat.{◌-◌}
-use Rattle.hypoplactic.specs.Words.{count}
 use Rattle.multiplicities.specs.Parts.{parting}
 use Rattle.multiplicities.proofs.counts.count_letters.Goals as goal
 

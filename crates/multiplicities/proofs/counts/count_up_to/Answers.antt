@@ -1,5 +1,4 @@
 -- `multiplicities::counts::count_up_to` meets its contract, by the laws of specs/Parts. Assumes nothing.
-use Prim.Native.Nat.{◌-◌}
 use Rattle.multiplicities.specs.Parts.{parting}
 use Rattle.multiplicities.proofs.counts.count_up_to.Goals as goal
 

@@ -1,0 +1,30 @@
+-- `openings::lists::open_letters` meets its contract, by the laws of specs/Openings. Assumes nothing.
+use Rattle.openings.specs.Openings.{opening}
+use Rattle.openings.proofs.lists.open_letters.Goals as goal
+
+pub returns-then-used-at : goal.returns-then-used-at
+returns-then-used-at c = search opening
+
+pub returns-then-letters-used : goal.returns-then-letters-used
+returns-then-letters-used c = search opening
+
+pub overflow_add-used : goal.overflow_add-used
+overflow_add-used c = search opening
+
+pub slice_bounds-shift_bytes-count : goal.slice_bounds-shift_bytes-count
+slice_bounds-shift_bytes-count c = search opening
+
+pub slice_bounds-shift_bytes-start : goal.slice_bounds-shift_bytes-start
+slice_bounds-shift_bytes-start c = search opening
+
+pub slice_bounds-shift_bytes-end : goal.slice_bounds-shift_bytes-end
+slice_bounds-shift_bytes-end c = search opening
+
+pub shift_bytes-requires : goal.shift_bytes-requires
+shift_bytes-requires c = search opening
+
+pub shape_of-letters : goal.shape_of-letters
+shape_of-letters c = search opening
+
+pub returns : goal.returns
+returns c = search opening

@@ -1,0 +1,16 @@
+-- `validity::tableau::check_tableau_sizes` meets its contract, by the laws of refusals' specs/Chains. Assumes nothing.
+use Rattle.refusals.specs.Chains.{chaining}
+use borrow.Author.Rules.{rules}
+use Rattle.validity.proofs.tableau.check_tableau_sizes.Goals as goal
+
+pub check_limits-requires : goal.check_limits-requires
+check_limits-requires c = search rules
+
+pub check_marks_alike-requires : goal.check_marks_alike-requires
+check_marks_alike-requires c = search rules
+
+pub or_else-requires : goal.or_else-requires
+or_else-requires c = search rules
+
+pub returns : goal.returns
+returns c = search chaining
