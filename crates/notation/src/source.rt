@@ -4,19 +4,29 @@ ghost use Rattle.std.specs.Prelude.{◌≤◌, length};
 use inputs::read_full;
 use std::env::Env;
 use std::fs::Files;
-use std::{fs, str};
+use std::{fs, io, str};
 
-// Reads the file that stands under a name, as far as there is room, and answers how many bytes it has; none where it cannot be read.
+// Says on standard error why a file cannot be read.
+fn tell(rt: &impl Eprint, path: &str, error: io::Error) {
+    let _ = eprintln!(rt; "{path}: {error}");
+}
+
+// Reads the file that stands under a name, as far as there is room, and answers how many bytes it has; none where it cannot be opened.
 fn read_path(rt: &(impl Files + Eprint), path: &str, out: &mut [u8]) -> usize
     ensures { result ≤ length out.new }
 {
-    match fs::open(rt, path) {
-        Ok(mut file) => read_full(&mut file, out),
+    let mut file = match fs::open(rt, path) {
+        Ok(file) => file,
         Err(error) => {
-            let _ = eprintln!(rt; "{path}: {error}");
-            0
+            tell(rt, path, error);
+            return 0;
         }
+    };
+    let (count, ended) = read_full(&mut file, out);
+    if let Err(error) = ended {
+        tell(rt, path, error);
     }
+    count
 }
 
 // The bytes of the file whose name is the program's first argument. A name that is missing or no text is an empty one, which no file has.

@@ -1,4 +1,4 @@
--- `inputs::read_full`: the list stays as long, and what it holds up to a place is what the reader has given. Each read gives a byte or is the last.
+-- `inputs::read_full`: the list stays as long, and what it holds up to a place is what the reader has given. Each read gives a byte or is the last. Assumes nothing.
 use Rattle.std.proofs.Common.{length, ◌-◌, ◌≤◌, take, ◌≡◌}
 use Rattle.std.specs.Io.KnownBytes.{Consumes}
 use Rattle.inputs.proofs.read_full.Given as goal
