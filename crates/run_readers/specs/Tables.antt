@@ -67,7 +67,7 @@ tabled_table : {h : ℕ → ℕ} {cs : List ℕ} (f : Run → ℕ) (x : ℕ) (rs
     → Table (λ a. told f (h a) rs a) (tabled f rs cs)
 tabled_table f x [] g w t = t
 tabled_table {h} f x (r ∷ rs) g w t =
-    let rest = tabled_table f r.letter rs g.1 w.2 (kept_table r.letter (f r) w.0 w.1 t) in
+    let rest = tabled_table {h = λ a. cond (eqb r.letter a) (f r) (h a)} f r.letter rs g.1 w.2 (kept_table r.letter (f r) w.0 w.1 t) in
     record { size = rest.size; entry = λ j l. rest.entry j l ∙ go (suc j) (eqb r.letter (suc j)) refl }
   where
     go : (a : ℕ) (b : Bool) → eqb r.letter a ≡ b → told f (cond b (f r) (h a)) rs a ≡ cond b (f r) (told f (h a) rs a)

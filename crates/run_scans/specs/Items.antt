@@ -10,7 +10,7 @@ use Rattle.std.specs.Prelude.{ℕ, zero, suc, ◌+◌, ◌-◌, ◌*◌, ◌^◌
 use Rattle.std.proofs.Common.{ap, sym, ◌∙◌, append-nil, arith, drop_of_length-le, length-append, length-drop, drop-cons, rules, eq-eqb, ne_eqb}
 use Rattle.std.proofs.Math.Seq.{append_snoc}
 use Rattle.grammar.specs.Lines.{Run}
-use Rattle.grammar.specs.Reading.{Read, broken, feed_next, got, onward, read_runs, turned, until_feed}
+use Rattle.grammar.specs.Reading.{broken, feed_next, got, onward, read_runs, turned, until_feed}
 use Rattle.numerals.specs.Numbers.{Told}
 use Rattle.run_lines.specs.Runs.{run_with}
 use Rattle.run_tallies.specs.Leads.{tallied_more}

@@ -1,5 +1,6 @@
 // The structs in which the C interface answers, and the functions that turn each kind of answer into its struct.
 #![tactic(auto)]
+
 pub mod comparisons;
 pub mod converters;
 pub mod counts;

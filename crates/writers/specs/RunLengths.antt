@@ -27,7 +27,7 @@ first_run_lem x m (y ∷ ys) (k ∷ ks) e = go (eqb x y) refl (first_run_lem y k
         → runs_of (y ∷ ys) (k ∷ ks) ≡ run_with y (suc (leading y ys)) k ∷ runs_of (drop (leading y ys) ys) (drop (leading y ys) ks)
         → cell_before x m (runs_of (y ∷ ys) (k ∷ ks))
         ≡ run_with x (suc (leading x (y ∷ ys))) m ∷ runs_of (drop (leading x (y ∷ ys)) (y ∷ ys)) (drop (leading x (y ∷ ys)) (k ∷ ks))
-    go true t h = rw (h, t, eqb-true x y t) refl
+    go true t h = let p : leading x ys ≡ leading y ys = ap (λ (z : ℕ). leading z ys) (eqb-true x y t) in rw (h, t, p, eqb-true x y t) refl
     go false t h = rw (h, t) (ap (λ rs. run_with x 1 m ∷ rs) (sym h))
 
 -- ---- the length of a run

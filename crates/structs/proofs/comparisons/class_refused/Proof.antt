@@ -1,7 +1,0 @@
--- `structs::comparisons::class_refused` meets its contract, by the laws of specs/Handing. Assumes nothing.
-use Rattle.structs.specs.Handing.{replying}
-use Rattle.structs.proofs.comparisons.class_refused.Statement.{statement}
-use Rattle.structs.proofs.comparisons.class_refused.Tie as tie
-
-pub class_refused_spec : {M : Type 1} → statement M
-class_refused_spec = tie.close (tie.spec (λ c κs. search replying) (λ c. search replying))

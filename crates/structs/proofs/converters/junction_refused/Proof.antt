@@ -1,7 +1,0 @@
--- `structs::converters::junction_refused` meets its contract, by the laws of specs/Handing. Assumes nothing.
-use Rattle.structs.specs.Handing.{replying}
-use Rattle.structs.proofs.converters.junction_refused.Statement.{statement}
-use Rattle.structs.proofs.converters.junction_refused.Tie as tie
-
-pub junction_refused_spec : {M : Type 1} → statement M
-junction_refused_spec = tie.close (tie.spec (λ c κs. search replying) (λ c. search replying))

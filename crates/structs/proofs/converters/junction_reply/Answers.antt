@@ -1,0 +1,18 @@
+-- `structs::converters::junction_reply` meets its contract, by the laws of specs/Handing. Assumes nothing.
+use Rattle.structs.specs.Handing.{replying}
+use Rattle.structs.proofs.converters.junction_reply.Goals as goal
+
+pub enum_known-answer : goal.enum_known-answer
+enum_known-answer c = search replying
+
+pub enum_known-answer-in-Refused-1 : goal.enum_known-answer-in-Refused-1
+enum_known-answer-in-Refused-1 c = search replying
+
+pub junction_refused-requires : goal.junction_refused-requires
+junction_refused-requires c = search replying
+
+pub returns-in-Found : goal.returns-in-Found
+returns-in-Found c = search replying
+
+pub returns-in-Refused : goal.returns-in-Refused
+returns-in-Refused c = search replying

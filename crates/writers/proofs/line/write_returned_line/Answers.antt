@@ -1,0 +1,12 @@
+-- `writers::line::write_returned_line` meets its contract, by the laws of specs/Runs. Assumes nothing.
+use Rattle.writers.specs.Runs.{running}
+use Rattle.writers.proofs.line.write_returned_line.Goals as goal
+
+pub write_numbers-requires : goal.write_numbers-requires
+write_numbers-requires c = search running
+
+pub shape_of-out : goal.shape_of-out
+shape_of-out c = search running
+
+pub returns : goal.returns
+returns c = search running

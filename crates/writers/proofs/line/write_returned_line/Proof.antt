@@ -1,7 +1,0 @@
--- `writers::line::write_returned_line` meets its contract, by the laws of specs/Runs. Assumes nothing.
-use Rattle.writers.specs.Runs.{running}
-use Rattle.writers.proofs.line.write_returned_line.Statement.{statement}
-use Rattle.writers.proofs.line.write_returned_line.Tie as tie
-
-pub write_returned_line_spec : {M : Type 1} → statement M
-write_returned_line_spec = tie.close (tie.spec (λ c κs. search running) (λ c. search running) (λ c. search running))
