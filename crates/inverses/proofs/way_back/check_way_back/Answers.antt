@@ -1,0 +1,15 @@
+-- `inverses::way_back::check_way_back` meets its contract, by the laws of refusals' specs/Running. Assumes nothing.
+use Rattle.refusals.specs.Running.{following}
+use Rattle.inverses.proofs.way_back.check_way_back.Goals as goal
+
+pub check_counted_pair-pair-requires : goal.check_counted_pair-pair-requires
+check_counted_pair-pair-requires c = search following
+
+pub check_room-requires : goal.check_room-requires
+check_room-requires c = search following
+
+pub or_else-requires : goal.or_else-requires
+or_else-requires c = search following
+
+pub returns : goal.returns
+returns c = search following
