@@ -15,7 +15,7 @@ import sys
 from pathlib import Path
 
 ROOT = Path(__file__).resolve().parent.parent
-FOLDER = ROOT / "target" / "inc"
+CRATES = ROOT / "crates"
 DEAREST = 30
 
 
@@ -23,7 +23,7 @@ def owner(module):
     """The function that a module was made for, or the file of definitions or theorems that it is; what other crates see of a crate is one row."""
     if module.startswith("Rattle"):
         return "passed on"
-    names = module.replace("specs.specs", "specs").replace("proofs.proofs", "proofs").split(".")
+    names = module.split(".")
     if names[0] == "proofs" and names[1:2] != ["Theory"]:
         while len(names) > 2 and names[-1][0].isupper():
             names.pop()
@@ -33,23 +33,24 @@ def owner(module):
 
 def prices(crate):
     """Seconds of each function and file of a crate, checked from nothing."""
-    shutil.rmtree(FOLDER / crate, ignore_errors=True)
-    checked = subprocess.run(["rt", "dev", crate], cwd=ROOT, capture_output=True, text=True)
+    folder = CRATES / crate / "out" / "incremental"
+    shutil.rmtree(folder, ignore_errors=True)
+    checked = subprocess.run(["rt", "check", crate, "--jobs", "1"], cwd=ROOT, capture_output=True, text=True)
     if checked.returncode:
         sys.exit(checked.stdout[-2000:] + checked.stderr[-2000:])
-    done = sorted((file.stat().st_mtime_ns, file.stem) for file in (FOLDER / crate).glob("*/*.oantt"))
+    done = sorted((file.stat().st_mtime_ns, file.stem) for file in folder.glob("*/*.oantt"))
     seconds = {}
     for (before, _), (after, module) in zip(done, done[1:]):
-        name = owner(module.removeprefix(f"Rattle·{crate}·"))
+        name = owner(module.removeprefix(f"Rattle-{crate}-"))
         seconds[name] = seconds.get(name, 0) + (after - before) / 1e9
     return seconds
 
 
 def main(named):
-    crates = named or [line.split(":")[0] for line in (ROOT / "crates.txt").read_text().splitlines() if ":" in line]
+    crates = named or [line.split(":")[0].split()[0] for line in (ROOT / "crates.txt").read_text().splitlines() if ":" in line]
     found = []
     for crate in crates:
-        times = 1 + len([*(ROOT / "crates" / crate / "must-fail").glob("*.edit")])
+        times = 1 + len([*(CRATES / crate / "must-fail").glob("*.edit")])
         found += [(once * times, once, f"{crate} {name}") for name, once in prices(crate).items()]
     shown = sorted(found, reverse=True)[: None if named else DEAREST]
     print("  in all    once")

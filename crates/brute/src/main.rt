@@ -2,6 +2,7 @@
 // compared and how many differences were found, how often each answer to moves and to pairs of words came, and how many answers were spoilt on purpose and
 // how many of these the same comparison found.
 #![tactic(auto)]
+
 mod answers;
 mod comparing;
 mod counting;
@@ -26,9 +27,9 @@ use crate::cutting::{compare_cut, compare_cuts, products_found};
 use crate::following::{compare_windows, windows_found};
 use crate::numbered::{classes_found, compare_class, short_tableaux};
 use crate::short_words::{SHORT, short_word};
-use libc::STDOUT_FILENO;
 use plain_words::drawn::below;
 use plain_words::{WORDS, Word, word_of};
+use std::io;
 
 // One word: its answers, its product at one place, its moves, and what is so of it beside another word.
 fn compare_word(k: usize, word: Word, lines: [usize; 32]) -> [usize; 32]
@@ -78,28 +79,29 @@ fn with_found(lines: [usize; 32]) -> [usize; 32] {
 }
 
 // At the end of a line, its number. The answer is the line that then goes on.
-fn print_number(byte: u8, line: usize, numbers: [usize; 32]) -> usize {
+fn print_number(rt: &impl Print, byte: u8, line: usize, numbers: [usize; 32]) -> io::Result<usize> {
     if byte != 10 {
-        return line;
+        return Ok(line);
     }
     let at = line % 32;
-    io::print_decimal(STDOUT_FILENO, numbers[at] as u64);
-    at + 1
+    rt.print(numbers[at])?;
+    Ok(at + 1)
 }
 
 // A text of names, one on each line, with the numbers behind them.
-fn print(names: &[u8], numbers: [usize; 32]) {
+fn print(rt: &impl Print, names: &[u8], numbers: [usize; 32]) -> io::Result<()> {
     let mut line = 0;
     let mut i = 0;
     while i < names.len() {
-        line = print_number(names[i], line, numbers);
-        io::write_all(STDOUT_FILENO, &names[i..i + 1]);
+        line = print_number(rt, names[i], line, numbers)?;
+        rt.write_all(&names[i..i + 1])?;
         i += 1;
     }
+    Ok(())
 }
 
 // All lines. How many answers are spoilt stands in the numbers from the start.
-fn main() {
+fn main(rt: HostRuntime) -> io::Result<()> {
     let lines = added(
         2,
         8,
@@ -108,7 +110,8 @@ fn main() {
     let names =
         b"words \ndifferences \nspoilt \nfound \nproducts \ndifferences \nspoilt \nfound \nclasses \ndifferences \nspoilt \nfound \nwords moved \nmoves made \nmoves refused with 9 \nmoves refused with 10 \nmoves refused with 11 \npairs of one class \npairs of two classes \npairs of two ranks and one class \npairs of two ranks and two classes \nweights equal \nweights lower \nweights higher \nweights neither \ndifferences \nspoilt \nfound \nwindows \ndifferences \nspoilt \nfound \n";
     print(
+        &rt,
         names,
         with_found(compare_windows(compare_short(compare_words(lines)))),
-    );
+    )
 }

@@ -189,7 +189,7 @@ line_cases =
     case (output (replicate 4097 65)) (text "E,14,4096\n")
     ∷ case (output (replicate 4096 65)) (text "E,14,0\n")
     -- of the values of a line: 1 before 2 before 4
-    ∷ case (program 65 (replicate 1025 1) ++ program 4 (replicate 1025 5) ++ program 4 (2 ∷ 5 ∷ 0 ∷ [])) (text "E,1,0\n_e,2,0\n_e,4,1\n")
+    ∷ case (program 65 (replicate 1025 1) ++ program 4 (replicate 1025 5) ++ program 4 (2 ∷ 5 ∷ 0 ∷ [])) (text "E,1,0\nE,2,0\nE,4,1\n")
     -- 14 before 1 and 2; numbers of up to four digits; nothing after the line feed
     ∷ case (outcome (read_w_run (text "W,0,1025,1\n") (9 ∷ []))) (14 ∷ 10 ∷ 9 ∷ [])
     ∷ case (tableau_outcome (read_t_run (text "T,0,1025,1\n") (9 ∷ []) (8 ∷ []) (6 ∷ 7 ∷ []))) (14 ∷ 10 ∷ 9 ∷ 8 ∷ 6 ∷ 7 ∷ [])

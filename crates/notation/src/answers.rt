@@ -4,127 +4,128 @@ use refusals::answers::{
     Cell, Class, Junctions, Move, Numbered, ReadLine, Repeat, Used, Verdict, Weights, Written,
 };
 use refusals::refusal::{Refusal, number_and_place};
+use std::io;
 
 // A call that succeeds.
-fn print_success() {
-    print(b"gives");
+fn print_success(rt: &impl Print) -> io::Result<()> {
+    print(rt, b"gives")
 }
 
 // A call that gives one value.
-fn print_gives(value: usize) {
-    print_success();
-    print_number(b' ', value);
+fn print_gives(rt: &impl Print, value: usize) -> io::Result<()> {
+    print_success(rt)?;
+    print_number(rt, b' ', value)
 }
 
 // A call that gives two values.
-fn print_gives_two(value: usize, other: usize) {
-    print_gives(value);
-    print_number(b' ', other);
+fn print_gives_two(rt: &impl Print, value: usize, other: usize) -> io::Result<()> {
+    print_gives(rt, value)?;
+    print_number(rt, b' ', other)
 }
 
 // A call that gives three values.
-fn print_gives_three(value: usize, other: usize, third: usize) {
-    print_gives_two(value, other);
-    print_number(b' ', third);
+fn print_gives_three(rt: &impl Print, value: usize, other: usize, third: usize) -> io::Result<()> {
+    print_gives_two(rt, value, other)?;
+    print_number(rt, b' ', third)
 }
 
 // A refusal: number and place.
-fn print_refusal(refusal: Refusal) {
+fn print_refusal(rt: &impl Print, refusal: Refusal) -> io::Result<()> {
     let returned = number_and_place(refusal);
-    print(b"refused");
-    print_number(b' ', returned.number);
-    print_number(b' ', returned.place);
+    print(rt, b"refused")?;
+    print_number(rt, b' ', returned.number)?;
+    print_number(rt, b' ', returned.place)
 }
 
 // The changed place.
-pub fn print_move(answer: Move) {
+pub fn print_move(rt: &impl Print, answer: Move) -> io::Result<()> {
     match answer {
-        Move::Made(place) => print_gives(place),
-        Move::Refused(refusal) => print_refusal(refusal),
+        Move::Made(place) => print_gives(rt, place),
+        Move::Refused(refusal) => print_refusal(rt, refusal),
     }
 }
 
 // The size of a class, or the number of a word in it.
-pub fn print_numbered(answer: Numbered) {
+pub fn print_numbered(rt: &impl Print, answer: Numbered) -> io::Result<()> {
     match answer {
-        Numbered::Number(value) => print_gives(value as usize),
-        Numbered::Refused(refusal) => print_refusal(refusal),
+        Numbered::Number(value) => print_gives(rt, value as usize),
+        Numbered::Refused(refusal) => print_refusal(rt, refusal),
     }
 }
 
 // How often.
-pub fn print_repeat(answer: Repeat) {
+pub fn print_repeat(rt: &impl Print, answer: Repeat) -> io::Result<()> {
     match answer {
-        Repeat::Times(times) => print_gives(times),
-        Repeat::Refused(refusal) => print_refusal(refusal),
+        Repeat::Times(times) => print_gives(rt, times),
+        Repeat::Refused(refusal) => print_refusal(rt, refusal),
     }
 }
 
 // The elements written.
-pub fn print_written(answer: Written) {
+pub fn print_written(rt: &impl Print, answer: Written) -> io::Result<()> {
     match answer {
-        Written::Elements(count) => print_gives(count),
-        Written::Refused(refusal) => print_refusal(refusal),
+        Written::Elements(count) => print_gives(rt, count),
+        Written::Refused(refusal) => print_refusal(rt, refusal),
     }
 }
 
 // The new used count.
-pub fn print_used(answer: Used) {
+pub fn print_used(rt: &impl Print, answer: Used) -> io::Result<()> {
     match answer {
-        Used::Cells(used) => print_gives(used),
-        Used::Refused(refusal) => print_refusal(refusal),
+        Used::Cells(used) => print_gives(rt, used),
+        Used::Refused(refusal) => print_refusal(rt, refusal),
     }
 }
 
 // The junction set, then the rows.
-pub fn print_junctions(answer: Junctions) {
+pub fn print_junctions(rt: &impl Print, answer: Junctions) -> io::Result<()> {
     match answer {
-        Junctions::Found(set, rows) => print_gives_two(set as usize, rows),
-        Junctions::Refused(refusal) => print_refusal(refusal),
+        Junctions::Found(set, rows) => print_gives_two(rt, set as usize, rows),
+        Junctions::Refused(refusal) => print_refusal(rt, refusal),
     }
 }
 
 // Rank and number of letters or cells of a line that is read.
-pub fn print_read(answer: ReadLine) {
+pub fn print_read(rt: &impl Print, answer: ReadLine) -> io::Result<()> {
     match answer {
-        ReadLine::Values(rank, count) => print_gives_two(rank, count),
-        ReadLine::Refused(refusal) => print_refusal(refusal),
+        ReadLine::Values(rank, count) => print_gives_two(rt, rank, count),
+        ReadLine::Refused(refusal) => print_refusal(rt, refusal),
     }
 }
 
 // Letter, row and column; no value where there is no such cell.
-pub fn print_cell(answer: Cell) {
+pub fn print_cell(rt: &impl Print, answer: Cell) -> io::Result<()> {
     match answer {
-        Cell::Found(letter, row, column) => print_gives_three(letter as usize, row, column),
-        Cell::NoSuchCell => print_success(),
-        Cell::Refused(refusal) => print_refusal(refusal),
+        Cell::Found(letter, row, column) => print_gives_three(rt, letter as usize, row, column),
+        Cell::NoSuchCell => print_success(rt),
+        Cell::Refused(refusal) => print_refusal(rt, refusal),
     }
 }
 
 // 1 for two words or tableaux of one class, 0 for others.
-pub fn print_class(answer: Class) {
+pub fn print_class(rt: &impl Print, answer: Class) -> io::Result<()> {
     match answer {
-        Class::Same => print_gives(1),
-        Class::Different => print_gives(0),
-        Class::Refused(refusal) => print_refusal(refusal),
+        Class::Same => print_gives(rt, 1),
+        Class::Different => print_gives(rt, 0),
+        Class::Refused(refusal) => print_refusal(rt, refusal),
     }
 }
 
 // 0 for equal weights, 1 lower, 2 higher, 3 neither.
-pub fn print_weights(answer: Weights) {
+pub fn print_weights(rt: &impl Print, answer: Weights) -> io::Result<()> {
     match answer {
-        Weights::Equal => print_gives(0),
-        Weights::Lower => print_gives(1),
-        Weights::Higher => print_gives(2),
-        Weights::Neither => print_gives(3),
-        Weights::Refused(refusal) => print_refusal(refusal),
+        Weights::Equal => print_gives(rt, 0),
+        Weights::Lower => print_gives(rt, 1),
+        Weights::Higher => print_gives(rt, 2),
+        Weights::Neither => print_gives(rt, 3),
+        Weights::Refused(refusal) => print_refusal(rt, refusal),
     }
 }
 
 // A check that passes gives no value.
-pub fn print_verdict(answer: Verdict) {
+pub fn print_verdict(rt: &impl Print, answer: Verdict) -> io::Result<()> {
     match answer {
-        Verdict::Passed => print_success(),
-        Verdict::Refused(refusal) => print_refusal(refusal),
+        Verdict::Passed => print_success(rt),
+        Verdict::Refused(refusal) => print_refusal(rt, refusal),
     }
 }

@@ -3,8 +3,6 @@ ghost use Rattle.std.specs.Prelude.{◌≡◌, ◌≤◌, length, drop};
 ghost use Rattle.notation.specs.Bounds.{Between};
 ghost use Rattle.notation.specs.Digits.{digits_from, NumberIn};
 
-use check::same;
-
 // Where the first byte from a place on stands that is a given one, or one of so many after it, 0 after 255; the text's length where there is none, or the
 // place itself past the text's end.
 pub fn place_of(text: &[u8], from: usize, byte: u8, more: u8) -> usize
@@ -61,10 +59,7 @@ pub fn name_of(line: &[u8], name: &[u8], most: usize) -> usize
 {
     let mut place = 0;
     while place < most {
-        if same(
-            field(line, std::num::wrapping_add_usize(place, place)),
-            name,
-        ) {
+        if field(line, std::num::wrapping_add_usize(place, place)) == name {
             return place;
         }
         place += 1;

@@ -3,27 +3,27 @@
 // are printed up to the last that is not 0, and where all are equal as one and how often.
 use crate::fields::has;
 use crate::lists::count_of;
-use libc::STDOUT_FILENO;
+use std::io;
 
 // A text as it is.
-pub fn print(text: &[u8]) {
-    io::write_all(STDOUT_FILENO, text);
+pub fn print(rt: &impl Print, text: &[u8]) -> io::Result<()> {
+    rt.write_all(text)
 }
 
 // A byte as it is.
-pub fn print_byte(byte: u8) {
-    print(&[byte]);
+pub fn print_byte(rt: &impl Print, byte: u8) -> io::Result<()> {
+    print(rt, &[byte])
 }
 
 // A mark between spaces.
-pub fn print_mark(mark: u8) {
-    print(&[b' ', mark, b' ']);
+pub fn print_mark(rt: &impl Print, mark: u8) -> io::Result<()> {
+    print(rt, &[b' ', mark, b' '])
 }
 
 // A number after a mark.
-pub(crate) fn print_number(mark: u8, number: usize) {
-    print_byte(mark);
-    io::print_decimal(STDOUT_FILENO, number as u64);
+pub(crate) fn print_number(rt: &impl Print, mark: u8, number: usize) -> io::Result<()> {
+    print_byte(rt, mark)?;
+    rt.print(number)
 }
 
 // A byte of a text, `$` for the line feed.
@@ -36,14 +36,14 @@ fn in_notation(element: u16) -> u8 {
 }
 
 // An element at a place, after a comma where it is not the first; of a text a byte.
-fn print_element(text: bool, place: usize, element: u16) {
+fn print_element(rt: &impl Print, text: bool, place: usize, element: u16) -> io::Result<()> {
     if text {
-        return print_byte(in_notation(element));
+        return print_byte(rt, in_notation(element));
     }
     if 0 < place {
-        return print_number(b',', element as usize);
+        return print_number(rt, b',', element as usize);
     }
-    io::print_decimal(STDOUT_FILENO, element as u64);
+    rt.print(element)
 }
 
 // A byte as a 16-bit element.
@@ -63,12 +63,19 @@ fn at(bytes: &[u8], entries: &[u16], place: usize) -> u16 {
 }
 
 // The first elements of a list.
-fn print_first(text: bool, bytes: &[u8], entries: &[u16], count: usize) {
+fn print_first(
+    rt: &impl Print,
+    text: bool,
+    bytes: &[u8],
+    entries: &[u16],
+    count: usize,
+) -> io::Result<()> {
     let mut i = 0;
     while i < count {
-        print_element(text, i, at(bytes, entries, i));
+        print_element(rt, text, i, at(bytes, entries, i))?;
         i += 1;
     }
+    Ok(())
 }
 
 // How many elements there are up to the last that is not a given one.
@@ -114,50 +121,76 @@ fn shown(text: bool, bytes: &[u8], entries: &[u16], count: usize) -> usize {
 }
 
 // What follows the elements of a list that is not printed whole.
-fn print_rest(first: usize, bytes: &[u8], entries: &[u16], count: usize) {
+fn print_rest(
+    rt: &impl Print,
+    first: usize,
+    bytes: &[u8],
+    entries: &[u16],
+    count: usize,
+) -> io::Result<()> {
     if first == 1 {
-        return print_number(b'*', count);
+        return print_number(rt, b'*', count);
     }
-    print_byte(b'.');
-    print_number(b'.', count);
-    print_number(b':', checksum(bytes, entries, count) as usize);
+    print_byte(rt, b'.')?;
+    print_number(rt, b'.', count)?;
+    print_number(rt, b':', checksum(bytes, entries, count) as usize)
 }
 
 // A lent list after the call, or a text.
-fn print_either(text: bool, bytes: &[u8], entries: &[u16], count: usize) {
-    print_mark(b'|');
+fn print_either(
+    rt: &impl Print,
+    text: bool,
+    bytes: &[u8],
+    entries: &[u16],
+    count: usize,
+) -> io::Result<()> {
+    print_mark(rt, b'|')?;
     if count < 1 {
-        return print_byte(b'-');
+        return print_byte(rt, b'-');
     }
     let first = shown(text, bytes, entries, count);
-    print_first(text, bytes, entries, first);
+    print_first(rt, text, bytes, entries, first)?;
     if first < count {
-        print_rest(first, bytes, entries, count);
+        return print_rest(rt, first, bytes, entries, count);
     }
+    Ok(())
 }
 
 // Lent bytes after the call, a line's argument of a kind by the kinds of all: as many as the line has of them. As a text where one is written.
-pub fn print_bytes(kinds: &[u8], line: &[u8], kind: u8, list: [u8; 1100]) {
+pub fn print_bytes(
+    rt: &impl Print,
+    kinds: &[u8],
+    line: &[u8],
+    kind: u8,
+    list: [u8; 1100],
+) -> io::Result<()> {
     print_either(
+        rt,
         has(kinds, b'w'),
         &list[0..1100],
         &[],
         count_of(kinds, line, kind),
-    );
+    )
 }
 
 // The same for 16-bit elements.
-pub fn print_entries(kinds: &[u8], line: &[u8], kind: u8, list: [u16; 1100]) {
-    print_either(false, b"", &list[0..1100], count_of(kinds, line, kind));
+pub fn print_entries(
+    rt: &impl Print,
+    kinds: &[u8],
+    line: &[u8],
+    kind: u8,
+    list: [u16; 1100],
+) -> io::Result<()> {
+    print_either(rt, false, b"", &list[0..1100], count_of(kinds, line, kind))
 }
 
 // Lent letter counts after the call.
-pub fn print_counts(counts: [u16; 64]) {
+pub fn print_counts(rt: &impl Print, counts: [u16; 64]) -> io::Result<()> {
     let none = b"";
     let list = &counts[0..64];
     if shown(false, none, list, 64) == 1 {
-        return print_either(false, none, list, 64);
+        return print_either(rt, false, none, list, 64);
     }
-    print_mark(b'|');
-    print_first(false, none, list, up_to_other(none, list, 64, 0));
+    print_mark(rt, b'|')?;
+    print_first(rt, false, none, list, up_to_other(none, list, 64, 0))
 }

@@ -6,6 +6,7 @@ use notation::answers::{
     print_weights,
 };
 use operators::moves::{lower_count_word, raise_count_word};
+use std::io;
 use stored_tableaux::two_tableaux::{compare_weights_of_tableaux, same_class_of_tableaux};
 use tableaux::moves::{lower_count_tableau, raise_count_tableau};
 use validity::counted::{check_counted_pair, check_counted_tableau};
@@ -14,27 +15,35 @@ use weights::two_words::compare_weights;
 use words::junctions::junctions;
 
 // Questions about words, 0 to 5.
-pub(crate) fn ask_words(operation: usize, rank: usize, index: usize, a: &[u8], b: &[u8]) {
+pub(crate) fn ask_words(
+    rt: &impl Print,
+    operation: usize,
+    rank: usize,
+    index: usize,
+    a: &[u8],
+    b: &[u8],
+) -> io::Result<()> {
     if operation == 0 {
-        return print_repeat(raise_count_word(rank, index, a));
+        return print_repeat(rt, raise_count_word(rank, index, a));
     }
     if operation == 1 {
-        return print_repeat(lower_count_word(rank, index, a));
+        return print_repeat(rt, lower_count_word(rank, index, a));
     }
     if operation == 2 {
-        return print_class(same_class(rank, a, index, b));
+        return print_class(rt, same_class(rank, a, index, b));
     }
     if operation == 3 {
-        return print_weights(compare_weights(rank, a, index, b));
+        return print_weights(rt, compare_weights(rank, a, index, b));
     }
     if operation == 4 {
-        return print_junctions(junctions(rank, a));
+        return print_junctions(rt, junctions(rank, a));
     }
-    print_numbered(class_number(rank, a))
+    print_numbered(rt, class_number(rank, a))
 }
 
 // Questions about a tableau, 6 to 10, and about a pair, 11.
 pub(crate) fn ask_tableau(
+    rt: &impl Print,
     operation: usize,
     rank: usize,
     index: usize,
@@ -42,27 +51,28 @@ pub(crate) fn ask_tableau(
     b: &[u8],
     entries: &[u16],
     counts: &[u16; 64],
-) {
+) -> io::Result<()> {
     if operation == 6 {
-        return print_numbered(class_size(rank, a, b, counts));
+        return print_numbered(rt, class_size(rank, a, b, counts));
     }
     if operation == 7 {
-        return print_repeat(raise_count_tableau(rank, index, a, b, counts));
+        return print_repeat(rt, raise_count_tableau(rank, index, a, b, counts));
     }
     if operation == 8 {
-        return print_repeat(lower_count_tableau(rank, index, a, b, counts));
+        return print_repeat(rt, lower_count_tableau(rank, index, a, b, counts));
     }
     if operation == 9 {
-        return print_cell(look_once(rank, a, b, index));
+        return print_cell(rt, look_once(rank, a, b, index));
     }
     if operation == 10 {
-        return print_verdict(check_counted_tableau(rank, a, b, counts));
+        return print_verdict(rt, check_counted_tableau(rank, a, b, counts));
     }
-    print_verdict(check_counted_pair(rank, a, b, entries, counts))
+    print_verdict(rt, check_counted_pair(rank, a, b, entries, counts))
 }
 
 // Class and weights of two tableaux, 36 and 37. Letters and marks of the second are c and d, its counts q.
 pub(crate) fn ask_two(
+    rt: &impl Print,
     operation: usize,
     rank: usize,
     other: usize,
@@ -72,9 +82,12 @@ pub(crate) fn ask_two(
     c: &[u8],
     d: &[u8],
     q: &[u16; 64],
-) {
+) -> io::Result<()> {
     if operation == 36 {
-        return print_class(same_class_of_tableaux(rank, a, b, k, other, c, d, q));
+        return print_class(rt, same_class_of_tableaux(rank, a, b, k, other, c, d, q));
     }
-    print_weights(compare_weights_of_tableaux(rank, a, b, k, other, c, d, q))
+    print_weights(
+        rt,
+        compare_weights_of_tableaux(rank, a, b, k, other, c, d, q),
+    )
 }

@@ -11,6 +11,7 @@ use notation::printing::print_bytes;
 use operators::moves::{lower_word, raise_word};
 use refusals::answers::Written;
 use run_conversions::forms::{runs_to_tableau, tableau_to_runs};
+use std::io;
 use word_readers::word::read_word_line;
 use writers::line::{
     write_junction_line, write_pair_line, write_run_line, write_tableau_line, write_word_line,
@@ -84,6 +85,7 @@ fn write_line(operation: usize, rank: usize, a: &[u8], out: &mut [u8]) -> Writte
 
 // Moves of a word, 12 and 13, a W line read, 14, and all that write lines and words, from 15 on.
 fn change(
+    rt: &impl Print,
     operation: usize,
     rank: usize,
     index: usize,
@@ -92,24 +94,28 @@ fn change(
     entries: &[u16],
     counts: &[u16; 64],
     out: &mut [u8],
-) {
+) -> io::Result<()> {
     if operation == 12 {
-        return print_move(raise_word(rank, index, out));
+        return print_move(rt, raise_word(rank, index, out));
     }
     if operation == 13 {
-        return print_move(lower_word(rank, index, out));
+        return print_move(rt, lower_word(rank, index, out));
     }
     if operation == 14 {
-        return print_read(read_word_line(a, out));
+        return print_read(rt, read_word_line(a, out));
     }
     if operation < 21 {
-        return print_written(write_line(operation, rank, a, out));
+        return print_written(rt, write_line(operation, rank, a, out));
     }
-    print_written(write_tableau(operation, rank, index, a, b, entries, counts, out))
+    print_written(
+        rt,
+        write_tableau(operation, rank, index, a, b, entries, counts, out),
+    )
 }
 
 // Lends letters to the call, and prints them after it.
 pub(crate) fn lend_letters(
+    rt: &impl Print,
     operation: usize,
     kinds: &[u8],
     line: &[u8],
@@ -119,9 +125,10 @@ pub(crate) fn lend_letters(
     b: &[u8],
     entries: &[u16],
     counts: &[u16; 64],
-) {
+) -> io::Result<()> {
     let mut letters: [u8; 1100] = [0; 1100];
     change(
+        rt,
         operation,
         rank,
         index,
@@ -130,6 +137,6 @@ pub(crate) fn lend_letters(
         entries,
         counts,
         bytes_of(kinds, line, b'L', &mut letters),
-    );
-    print_bytes(kinds, line, b'L', letters);
+    )?;
+    print_bytes(rt, kinds, line, b'L', letters)
 }

@@ -96,7 +96,7 @@ c12446553275 = counts (1 ∷ 2 ∷ 1 ∷ 2 ∷ 3 ∷ 1 ∷ 1 ∷ [])
 unfoldable pub starred_cases : List Case
 starred_cases =
     -- 4323 at rank 4: the three lines, the first the T items and then the N items of document 01
-    case (output (text "W,4,4,4,3,2,3\n")) (text "P,4,4,2,d,3,r,3,d,4,3,2,4,1\n_w,4,4,3,2,4,3\n_j,6,3\n")
+    case (output (text "W,4,4,4,3,2,3\n")) (text "P,4,4,2,d,3,r,3,d,4,3,2,4,1\nW,4,4,3,2,4,3\nJ,6,3\n")
     -- and so its ribbons, the way back, the column reading, the junction set and the rows; here and below one element lies beyond those needed
     ∷ case (pair_outcome (pair_run 4 w4323 (lent_pair 5) (lent 64)))
     (0 ∷ 4 ∷ 2 ∷ 3 ∷ 3 ∷ 4 ∷ 99 ∷ 0 ∷ 1 ∷ 0 ∷ 1 ∷ 99 ∷ 3 ∷ 2 ∷ 4 ∷ 1 ∷ 99 ∷ c4323)
@@ -108,7 +108,7 @@ starred_cases =
     (0 ∷ 11 ∷ (x12446553275 ++ 99 ∷ (m12446553275 ++ 99 ∷ (r12446553275 ++ 99 ∷ c12446553275))))
     ∷ case (outcome (word_run 7 x12446553275 m12446553275 r12446553275 c12446553275 (lent 12))) (0 ∷ 11 ∷ (w12446553275 ++ 99 ∷ []))
     -- the empty word at rank 4
-    ∷ case (output (text "W,4,0\n")) (text "P,4,0\n_w,4,0\n_j,0,0\n")
+    ∷ case (output (text "W,4,0\n")) (text "P,4,0\nW,4,0\nJ,0,0\n")
     -- 433 at rank 4: its tableau, with its recording, and the tableau's line, column reading
     ∷ case (pair_outcome (pair_run 4 w433 (lent_pair 4) (lent 64)))
     (0 ∷ 3 ∷ 3 ∷ 3 ∷ 4 ∷ 99 ∷ 0 ∷ 0 ∷ 1 ∷ 99 ∷ 2 ∷ 3 ∷ 1 ∷ 99 ∷ counts (0 ∷ 0 ∷ 2 ∷ 1 ∷ []))

@@ -7,7 +7,7 @@
 --                               do not add to the cells
 --     young_rooms need f         13 of lent letters, standard entries and row lengths, of which 64 are needed
 -- Places are those of the cells from 0, row by row. Assumes nothing.
-use Rattle.std.specs.Prelude.{ℕ, zero, suc, ◌+◌, List, [], ◌∷◌, ◌++◌, Bool, true, false, ◌||◌, ltb, leb, length}
+use Rattle.std.specs.Prelude.{ℕ, suc, ◌+◌, List, [], ◌∷◌, ◌++◌, Bool, true, false, ◌||◌, ltb, leb, length}
 use Rattle.std.proofs.Math.Option.{Option, none, some}
 use Rattle.hypoplactic.specs.Words.{occurs}
 use Rattle.outcomes.specs.Replies.{Said, passed, refuse_if}

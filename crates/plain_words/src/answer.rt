@@ -3,7 +3,7 @@ ghost use Rattle.std.specs.Prelude.{◌≡◌, length};
 
 // A pair: its rank, how many cells it has, their letters, marks and entries, and the letter counts; `number` is 0. An answer to another question has its
 // parts in some of these fields, and 0 in the others.
-#[derive(Drop)]
+#[derive(Clone, Copy)]
 pub struct Answer {
     pub rank: usize,
     pub number: usize,

@@ -87,7 +87,7 @@ fn letter_before(way: usize, rank: usize) -> usize {
 }
 
 // A stream of letters: its rank and its way, the last letter that was drawn, and the generator's state.
-#[derive(Drop)]
+#[derive(Clone, Copy)]
 pub struct Stream {
     pub rank: usize,
     pub way: usize,

@@ -1,6 +1,7 @@
 // The words and the streams of letters that the program brute compares with the kernel, and their pairs and tableaux by plain insertion. Nothing here is
 // of the kernel, and no contract says what a word or a pair is: that is compared by running. Contracts give what callers must know to be safe.
 #![tactic(auto)]
+
 pub mod answer;
 pub mod drawn;
 pub mod insertion;
@@ -15,7 +16,7 @@ use crate::known::{KNOWN, known_word};
 pub const WORDS: usize = KNOWN + DRAWN;
 
 // A word with its rank, and the state of the generator after it.
-#[derive(Drop)]
+#[derive(Clone, Copy)]
 pub struct Word {
     pub rank: usize,
     pub length: usize,

@@ -2,6 +2,8 @@
 -- ---- the product found from letters and marks
 pub mod ProductContents
 pub mod ProductSteps
+pub mod ProductDowns
+pub mod ProductOnly
 -- ---- its laws
 pub mod ProductLaws
 -- ---- replies

@@ -26,7 +26,7 @@ rank_cases =
     ∷ case (numbers (same_class_says 6 (5 ∷ []) 4 (5 ∷ []))) (4 ∷ 1 ∷ [])
     ∷ case (numbers (same_class_says 4 (4 ∷ 3 ∷ 2 ∷ []) 2 (1 ∷ 3 ∷ []))) (4 ∷ 4 ∷ [])
     -- the lines still carry the rank, and are one without it
-    ∷ case (tableau_line 4 w4323 ++ tableau_line 6 w4323) (text "T,4,4,2,d,3,r,3,d,4\n_t,6,4,2,d,3,r,3,d,4\n")
+    ∷ case (tableau_line 4 w4323 ++ tableau_line 6 w4323) (text "T,4,4,2,d,3,r,3,d,4\nT,6,4,2,d,3,r,3,d,4\n")
     ∷ case (unranked_line 4 w4323) (text "T,4,2,d,3,r,3,d,4\n")
     ∷ case (unranked_line 6 w4323) (text "T,4,2,d,3,r,3,d,4\n")
     ∷ case (unranked_line 64 []) (text "T,0\n")
@@ -34,8 +34,8 @@ rank_cases =
     ∷ case (without_rank (text "W,64,4,4,3,2,3\n")) (text "W,4,4,3,2,3\n")
     ∷ case (without_rank (text "P,4,4,2,d,3,r,3,d,4,3,2,4,1\n")) (text "P,4,2,d,3,r,3,d,4,3,2,4,1\n")
     ∷ case (without_rank (text "C,4,4,2,1,d,3,2,d,4,1\n")) (text "C,4,2,1,d,3,2,d,4,1\n")
-    ∷ case (without_rank (text "X,7\n") ++ without_rank (text "T,4") ++ without_rank (text "T") ++ without_rank []) (text "X\n_tt")
-    ∷ case (without_rank (text "T;4,0\n") ++ without_rank (text "T\n4,0")) (text "T,0\n_t,0")
+    ∷ case (without_rank (text "X,7\n") ++ without_rank (text "T,4") ++ without_rank (text "T") ++ without_rank []) (text "X\nTT")
+    ∷ case (without_rank (text "T;4,0\n") ++ without_rank (text "T\n4,0")) (text "T,0\nT,0")
     -- a move that both ranks have: made in both, or refused in both with one number
     ∷ case (outcome (move_word_run 4 (raise 1) w4323) ++ outcome (move_word_run 6 (raise 1) (3 ∷ 2 ∷ 4 ∷ 3 ∷ [])))
     (0 ∷ 2 ∷ 4 ∷ 3 ∷ 1 ∷ 3 ∷ 0 ∷ 1 ∷ 3 ∷ 1 ∷ 4 ∷ 3 ∷ [])

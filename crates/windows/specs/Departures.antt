@@ -35,7 +35,7 @@ window_judgements n used p cs =
 pub record WindowAt (n used : ℕ) (p : Pair) (cs : List ℕ) : Type 0 where
   pub cells : PairAt n (take used p.letters) (take used p.marks) (take used p.recording)
   pub counts : TrueCounts (take used p.letters) cs
-  pub in_letters_lem : used ≤ length p.letters
+  pub in_letters : used ≤ length p.letters
   pub in_marks : used ≤ length p.marks
   pub in_recording : used ≤ length p.recording
 

@@ -39,14 +39,14 @@ returning-none z x s (cell y u ∷ cs) l h =
     rw (returning-none z y u cs (omega (arith, h.0)) h.2, le-ltb y z (omega (arith, h.0)))
 
 -- What a row did with a letter is undone by what it handed down.
-pub taken_back : (x s : ℕ) {t a : ℕ} {r r' : Row} {z : Option ℕ} → Takes t a r z r' → Rises x s r → Before t r
+pub taken_back : {t a : ℕ} {r r' : Row} {z : Option ℕ} (x s : ℕ) → Takes t a r z r' → Rises x s r → Before t r
     → ◌≡◌ {A = Option ℕ × Row} (up_to t r' z) (some a, r)
-taken_back x s {t = t} ends h b = rw (eq-eqb t t refl)
-taken_back x s {a = a} (replaces {x = y} {s = u} {cs = cs} l) h b =
+taken_back {t = t} x s ends h b = rw (eq-eqb t t refl)
+taken_back {a = a} x s (replaces {x = y} {s = u} {cs = cs} l) h b =
     rw (returning-none y y u cs (omega arith) h.2, lt-ltb a y l)
-taken_back x s {t = t} {z = none} (passes {x = y} {s = u} l tk) h b =
+taken_back {t = t} {z = none} x s (passes {x = y} {s = u} l tk) h b =
     rw (ne_eqb u t (omega (arith, b.0)), taken_back y u tk h.2 b.1)
-taken_back x s {z = some z} (passes {x = y} {s = u} l tk) h b = rw (taken_back y u tk h.2 b.1)
+taken_back {z = some z} x s (passes {x = y} {s = u} l tk) h b = rw (taken_back y u tk h.2 b.1)
 
 -- ---- all rows
 

@@ -51,9 +51,9 @@ rises-lower x y s [] l h = tt
 rises-lower x y s (cell z u ∷ cs) l h = (omega (arith, h.0), h.1, h.2)
 
 -- It rises as before,
-pub takes_rises : (x s : ℕ) {t a : ℕ} {r r' : Row} {z : Option ℕ} → Takes t a r z r' → x ≤ a → s < t → Before t r → Rises x s r → Rises x s r'
+pub takes_rises : {t a : ℕ} {r r' : Row} {z : Option ℕ} (x s : ℕ) → Takes t a r z r' → x ≤ a → s < t → Before t r → Rises x s r → Rises x s r'
 takes_rises x s ends l e b h = (l, e, tt)
-takes_rises x s {a = a} (replaces {x = y} {s = u} {cs = cs} k) l e b h = (l, h.1, rises-lower a y u cs (omega arith) h.2)
+takes_rises {a = a} x s (replaces {x = y} {s = u} {cs = cs} k) l e b h = (l, h.1, rises-lower a y u cs (omega arith) h.2)
 takes_rises x s (passes {x = y} {s = u} k tk) l e b h = (h.0, h.1, takes_rises y u tk k b.0 b.1 h.2)
 
 -- and its entries are at most the new one.

@@ -128,7 +128,7 @@ pub insert_young_result : (n used a : ℕ) (f : Flat) (h : YoungAt n (used_flat 
     → used < length f.letters → used < length f.standard
     → insert_young_run n used a f ≡ (gives (suc used ∷ []), written_flat (flat_of (young_of (h.word ++ (a ∷ [])))) f)
 unfolding insert_young_run insert_young_says
-insert_young_result n used a f h i few in_letters_lem in_standard =
+insert_young_result n used a f h i few in_letters in_standard =
     let size : length (take used f.letters) ≡ used = length-take-le used f.letters (omega arith) in
     let many : length h.word ≡ used = at_length h ∙ size in
     let rows : insert (suc used) (rows_in (used_flat used f)) (some a) ≡ young_of (h.word ++ (a ∷ [])) =
@@ -141,7 +141,7 @@ insert_young_result n used a f h i few in_letters_lem in_standard =
     (ran_answer (insert_young_judgements n used a f)
     (full_judged used ∷ young_rooms (suc used) (length f.letters) (length f.standard) (length f.lengths)) _ _ _
     (rank, (rw size at short, (held, (lengths, (rw size at sum, (all, (rw size at young, tt)))))))
-    ((full_judged_lem used).1 few, ((room_judged_lem _ _).1 in_letters_lem, ((room_judged_lem _ _).1 in_standard, ((room_judged_lem _ _).1 (omega arith), tt)))))
+    ((full_judged_lem used).1 few, ((room_judged_lem _ _).1 in_letters, ((room_judged_lem _ _).1 in_standard, ((room_judged_lem _ _).1 (omega arith), tt)))))
 
 -- The word without its last letter is accepted, and has one letter less.
 accepted_front : (n a : ℕ) (w : List ℕ) → Accepted n (w ++ (a ∷ [])) → Accepted n w × Inside n a × (length w < 1024)
@@ -177,7 +177,7 @@ insert_after n a w f acc room whole =
     let many : length (w ++ (a ∷ [])) ≡ suc (length w) = omega (arith, length-append w (a ∷ [])) in
     let rows : Rows = young_of w in
     let h : YoungAt n (used_flat (length w) (written_flat (flat_of rows) f)) = record { word = w; accepted = front; flat = sym (used_written w f whole) } in
-    let in_letters_lem : length w < length (written (young_letters rows) f.letters) =
+    let in_letters : length w < length (written (young_letters rows) f.letters) =
     omega (arith, room.letters, young_length w, written-length (young_letters rows) f.letters (omega (arith, room.letters, young_length w))) in
     let in_standard : length w < length (written (young_entries rows) f.standard) =
     omega (arith, room.standard, young_entries_lem w, written-length (young_entries rows) f.standard (omega (arith, room.standard, young_entries_lem w))) in
@@ -185,5 +185,5 @@ insert_after n a w f acc room whole =
       young_result n w f front (record { letters = omega (arith, room.letters); standard = omega (arith, room.standard); lengths = room.lengths }),
       young_result n (w ++ (a ∷ [])) f acc (rw many room),
     )
-    (insert_young_result n (length w) a (written_flat (flat_of rows) f) h i few in_letters_lem in_standard
+    (insert_young_result n (length w) a (written_flat (flat_of rows) f) h i few in_letters in_standard
     ∙ ap {B = Said × Flat} (λ (k : Flat). (gives (suc (length w) ∷ []), k)) (over_shorter (w ++ (a ∷ [])) w f (omega arith)))

@@ -1,4 +1,4 @@
--- What the product holds: the letters of both factors, each as often as in both together. Its down steps stand in ProductSteps.
+-- What the product holds: the letters of both factors, each as often as in both together. Its down steps stand in ProductSteps and ProductDowns.
 --     reading_count       each letter stands in a column reading as often as in the tableau
 --     product_count       each letter stands in the product word as often as in both factors; product_letters-count: so in the product's letters
 --     product_entry       its letter counts are the sums of true letter counts of both; product_counts: they are those of the product's letters

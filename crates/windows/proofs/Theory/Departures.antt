@@ -109,14 +109,14 @@ module _ (n used : ℕ) (p : Pair) (cs : List ℕ) where
           let xs : List ℕ = take used p.letters in
           let ms : List ℕ = take used p.marks in
           let rs : List ℕ = take used p.recording in
-          let (in_letters_lem, (in_marks, (in_recording, t))) = (used_judged_lem used (length p.letters ∷ length p.marks ∷ length p.recording ∷ [])).0 held in
-          let as_letters : length xs ≡ used = length-take-le used p.letters in_letters_lem in
+          let (in_letters, (in_marks, (in_recording, t))) = (used_judged_lem used (length p.letters ∷ length p.marks ∷ length p.recording ∷ [])).0 held in
+          let as_letters : length xs ≡ used = length-take-le used p.letters in_letters in
           let as_marks : length ms ≡ used = length-take-le used p.marks in_marks in
           let as_recording : length rs ≡ used = length-take-le used p.recording in_recording in
           let alike = (alike-judged (length xs) (length ms ∷ length rs ∷ [])).1 (as_marks ∙ sym as_letters, (as_recording ∙ sym as_letters, tt)) in
           let (cells, right) = (counted_pair_passing n xs ms rs cs).0
           (rank, (rw as_letters short, (alike, (letters, (rising, (marks, (counts, (rw as_letters entries, (recording, tt))))))))) in
-          record { cells = cells; counts = right; in_letters_lem = in_letters_lem; in_marks = in_marks; in_recording = in_recording }
+          record { cells = cells; counts = right; in_letters = in_letters; in_marks = in_marks; in_recording = in_recording }
 
       back : WindowAt n used p cs → Passing (window_judgements n used p cs)
       back h =

@@ -43,7 +43,7 @@ use Rattle.windows.proofs.Theory.Departures.{window_passing}
 -- An accepted word, and room for its pair.
 pub record Fits (n : ℕ) (w : List ℕ) (p : Pair) : Type 0 where
   pub word : Accepted n w
-  pub in_letters_lem : length w ≤ length p.letters
+  pub in_letters : length w ≤ length p.letters
   pub in_marks : length w ≤ length p.marks
   pub in_recording : length w ≤ length p.recording
 
@@ -51,7 +51,7 @@ pub record Fits (n : ℕ) (w : List ℕ) (p : Pair) : Type 0 where
 pub fits_rest : {n a : ℕ} {w : List ℕ} {p : Pair} → Fits n (a ∷ w) p → Fits n w p
 fits_rest f = record {
   word = record { rank_low = f.word.rank_low; rank_high = f.word.rank_high; short = omega (arith, f.word.short); letters = f.word.letters.2 };
-  in_letters_lem = omega (arith, f.in_letters);
+  in_letters = omega (arith, f.in_letters);
   in_marks = omega (arith, f.in_marks);
   in_recording = omega (arith, f.in_recording);
 }
@@ -65,7 +65,7 @@ module _ (n : ℕ) (w : List ℕ) (p : Pair) (cs : List ℕ) where
       let (rank, (short, (letters, (x, (y, (z, t)))))) = passing_first (word_judgements n w ++ rooms) (length w ∷ []) h in
       record {
         word = (word_passing n w).0 (rank, (short, (letters, tt)));
-        in_letters_lem = (room_judged_lem _ _).0 x;
+        in_letters = (room_judged_lem _ _).0 x;
         in_marks = (room_judged_lem _ _).0 y;
         in_recording = (room_judged_lem _ _).0 z;
       }
@@ -113,7 +113,7 @@ pub written_holds : (n : ℕ) (w : List ℕ) (p : Pair) → Accepted n w
 written_holds n w p a = (holds_stored n (record { used = length w; pair = written_pair (pair_of w) p; counts = counts_of w }) w).1 (record {
   fits = record {
     word = a;
-    in_letters_lem = written_room (length w) (letters_of w) p.letters (length-letters w);
+    in_letters = written_room (length w) (letters_of w) p.letters (length-letters w);
     in_marks = written_room (length w) (marks_of w) p.marks (length-marks w);
     in_recording = written_room (length w) (recording_of w) p.recording (length_recording w);
   };
@@ -153,7 +153,7 @@ module _ (n : ℕ) (v : Window) (w : List ℕ) (h : Holds n v w) where
   holds_at = record {
     cells = subst (λ (p : Pair). PairAt n p.letters p.marks p.recording) (sym holds_cells) (word_pair_at stored.fits.word);
     counts = subst (λ (p : Pair). TrueCounts p.letters v.counts) (sym holds_cells) (rw (← stored.counts) (letters-true w));
-    in_letters_lem = rw stored.size stored.fits.in_letters;
+    in_letters = rw stored.size stored.fits.in_letters;
     in_marks = rw stored.size stored.fits.in_marks;
     in_recording = rw stored.size stored.fits.in_recording;
   }

@@ -24,15 +24,15 @@ use Rattle.windows.specs.Gaps.{closed, joint, lowered, without}
 -- ---- a letter before a word
 
 -- Of two lists of cells one has one cell more; a letter is inserted into both.
-pub placed_insert : (b d k : ℕ) {a e : ℕ} {xs rs ys ss : List ℕ} → Placed a e xs rs ys ss → Rising k xs → Rising k ys
+pub placed_insert : {a e : ℕ} {xs rs ys ss : List ℕ} (b d k : ℕ) → Placed a e xs rs ys ss → Rising k xs → Rising k ys
     → Placed a e (put_at (seat b xs) b xs) (put_at (seat b xs) d rs) (put_at (seat b ys) b ys) (put_at (seat b ys) d ss)
-placed_insert b d k {a} {e} (here {xs = xs} {rs = rs}) r s = go (le-or-lt a b)
+placed_insert {a} {e} b d k (here {xs = xs} {rs = rs}) r s = go (le-or-lt a b)
   where
     go : (a ≤ b) ⊎ (b < a)
         → Placed a e (put_at (seat b xs) b xs) (put_at (seat b xs) d rs) (put_at (seat b (a ∷ xs)) b (a ∷ xs)) (put_at (seat b (a ∷ xs)) d (e ∷ rs))
     go (inl l) = rw (seat_low b a xs l) here
     go (inr l) = rw (seat_high b a (a ∷ xs) l (omega arith, s.1), seat_high b a xs l s.1) (later here)
-placed_insert b d k {a} {e} (later {x = x} {r = t} {xs = xs} {rs = rs} {ys = ys} {ss = ss} p) r s = go (le-or-lt x b) (placed_insert b d x p r.1 s.1)
+placed_insert {a} {e} b d k (later {x = x} {r = t} {xs = xs} {rs = rs} {ys = ys} {ss = ss} p) r s = go (le-or-lt x b) (placed_insert b d x p r.1 s.1)
   where
     go : (x ≤ b) ⊎ (b < x)
         → Placed a e (put_at (seat b xs) b xs) (put_at (seat b xs) d rs) (put_at (seat b ys) b ys) (put_at (seat b ys) d ss)
@@ -64,7 +64,8 @@ pub placed_drop : (k : ℕ) {a e : ℕ} {xs rs ys ss : List ℕ} → Placed a e 
 placed_drop zero here n l q = (refl, refl, refl)
 placed_drop (suc k) {e = e} (here {rs = rs}) n l q =
     let c : 1 ≤ count e rs = rw q at (count_at rs k (omega arith)) in let z : ⊥ = omega arith in absurd z
-placed_drop zero {e = e} (later {r = r} {rs = rs} p) n l q = let z : ⊥ = omega (arith, count_head r rs, rw (← q) at n) in absurd z
+placed_drop zero {e = e} (later {r = r} {rs = rs} p) n l q =
+    let none : count r (r ∷ rs) ≡ 0 = ap (λ (z : ℕ). count z (r ∷ rs)) q ∙ n in let z : ⊥ = omega (arith, count_head r rs, none) in absurd z
 placed_drop (suc k) {e = e} (later {x = x} {r = r} {rs = rs} p) n l q =
     let rest = placed_drop k p (omega (arith, count_tail e r rs)) (omega arith) q in
     (ap (λ (zs : List ℕ). x ∷ zs) rest.0, ap (λ (zs : List ℕ). r ∷ zs) rest.1, rest.2)

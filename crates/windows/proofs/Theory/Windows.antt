@@ -78,13 +78,13 @@ full_until_left n v a w b h e i =
     let rest : Fits n w v.pair = fits_rest f in
     let u : Window = record { used = length w; pair = written_pair (pair_of w) v.pair; counts = counts_of w } in
     let gone = departure_afresh n v a w h in
-    let in_letters_lem = room (letters_of w) v.pair.letters (length-letters w) f.in_letters in
+    let in_letters = room (letters_of w) v.pair.letters (length-letters w) f.in_letters in
     let in_marks = room (marks_of w) v.pair.marks (length-marks w) f.in_marks in
     let in_recording = room (recording_of w) v.pair.recording (length_recording w) f.in_recording in
     let again : (call_run n (arrive b) u).0 ≡ gives (1024 ∷ []) =
     arrival_said n u w (written_holds n w v.pair rest.word) b
     ∙ first_answer (arrival_judgements n w b u.pair) (gives (suc (length w) ∷ []))
-    (rw (inside-passes n b i) tt, ((full_judged_lem (length w)).1 (omega arith), (in_letters_lem, (in_marks, (in_recording, tt)))))
+    (rw (inside-passes n b i) tt, ((full_judged_lem (length w)).1 (omega arith), (in_letters, (in_marks, (in_recording, tt)))))
     ∙ ap (λ (k : ℕ). gives (suc k ∷ [])) e in
     (arrival_full n v (a ∷ w) h b (omega arith) i, gone, subst Takes (sym (gone ∙ pair_written n w v.pair v.counts rest)) again)
   where

@@ -1,0 +1,36 @@
+-- `notation::lists::bytes` meets its contract, by the laws of specs/Bounds. Assumes nothing.
+use Rattle.notation.specs.Bounds.{filling}
+use Rattle.notation.proofs.lists.bytes.Goals as goal
+
+pub loop-i-init : goal.loop-i-init
+loop-i-init c = search filling
+
+pub in_either-value-requires : goal.in_either-value-requires
+in_either-value-requires c = search filling
+
+pub shape_of-out-then-value-gt65535 : goal.shape_of-out-then-value-gt65535
+shape_of-out-then-value-gt65535 c = search filling
+
+pub returns-then-value-gt65535 : goal.returns-then-value-gt65535
+returns-then-value-gt65535 c = search filling
+
+pub overflow_cast-out : goal.overflow_cast-out
+overflow_cast-out c = search filling
+
+pub bounds-out-i : goal.bounds-out-i
+bounds-out-i c = search filling
+
+pub overflow_add-i : goal.overflow_add-i
+overflow_add-i c = search filling
+
+pub loop-i-smaller : goal.loop-i-smaller
+loop-i-smaller c = search filling
+
+pub loop-i-preserved : goal.loop-i-preserved
+loop-i-preserved c = search filling
+
+pub shape_of-out : goal.shape_of-out
+shape_of-out c = search filling
+
+pub returns : goal.returns
+returns c = search filling
