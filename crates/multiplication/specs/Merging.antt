@@ -18,7 +18,7 @@ use Rattle.std.proofs.Math.Dec.{ltb}
 use Rattle.outcomes.specs.Counts.{TrueCounts}
 use Rattle.hypoplactic.specs.Junctions.{down_out, junction, junction_set, next_larger, number}
 use Rattle.hypoplactic.specs.Ribbons.{TableauAt}
-use Rattle.hypoplactic.specs.Words.{count, occurs, tick}
+use Rattle.hypoplactic.specs.Words.{count, tick}
 use Rattle.hypoplactic.proofs.Theory.Bits.{number-below}
 use Rattle.hypoplactic.proofs.Theory.Limits.{count-outside}
 use Rattle.hypoplactic.proofs.Theory.NextLarger.{next_is}
