@@ -1,0 +1,42 @@
+-- `closings::lists::close_marks` meets its contract, by the laws of specs/Closings. Assumes nothing.
+use Rattle.closings.specs.Closings.{closing}
+use Rattle.closings.proofs.lists.close_marks.Goals as goal
+
+pub least-end-requires : goal.least-end-requires
+least-end-requires c = search closing
+
+pub least-from-requires : goal.least-from-requires
+least-from-requires c = search closing
+
+pub slice_bounds-pull_bytes-count : goal.slice_bounds-pull_bytes-count
+slice_bounds-pull_bytes-count c = search closing
+
+pub slice_bounds-pull_bytes-start : goal.slice_bounds-pull_bytes-start
+slice_bounds-pull_bytes-start c = search closing
+
+pub slice_bounds-pull_bytes-end : goal.slice_bounds-pull_bytes-end
+slice_bounds-pull_bytes-end c = search closing
+
+pub pull_bytes-requires : goal.pull_bytes-requires
+pull_bytes-requires c = search closing
+
+pub overflow_sub-end : goal.overflow_sub-end
+overflow_sub-end c = search closing
+
+pub joint_mark-requires : goal.joint_mark-requires
+joint_mark-requires c = search closing
+
+pub bounds-marks-at : goal.bounds-marks-at
+bounds-marks-at c = search closing
+
+pub shape_of-marks-then-end-from-gt1 : goal.shape_of-marks-then-end-from-gt1
+shape_of-marks-then-end-from-gt1 c = search closing
+
+pub returns-then-end-from-gt1 : goal.returns-then-end-from-gt1
+returns-then-end-from-gt1 c = search closing
+
+pub shape_of-marks-else-end-from-gt1 : goal.shape_of-marks-else-end-from-gt1
+shape_of-marks-else-end-from-gt1 c = search closing
+
+pub returns-else-end-from-gt1 : goal.returns-else-end-from-gt1
+returns-else-end-from-gt1 c = search closing
