@@ -1,7 +1,7 @@
--- `tableaux::counts::count_taken` meets its contract, by the laws of specs/Counts. Assumes nothing.
+-- `tableaux::changed_counts::count_taken` meets its contract, by the laws of specs/Counts. Assumes nothing.
 use Rattle.tableaux.specs.Counts.{counting}
 use borrow.Author.Rules.{rules}
-use Rattle.tableaux.proofs.counts.count_taken.Goals as goal
+use Rattle.tableaux.proofs.changed_counts.count_taken.Goals as goal
 
 pub slot_taken-from-requires : goal.slot_taken-from-requires
 slot_taken-from-requires c = search rules
