@@ -57,7 +57,7 @@ pub record Sized (n used letters marks entries : ℕ) : Type 0 where
   pub low : 1 ≤ n
   pub high : n ≤ 64
   pub few : used ≤ 1024
-  pub in_letters_lem : used ≤ letters
+  pub in_letters : used ≤ letters
   pub in_marks : used ≤ marks
   pub in_entries : used ≤ entries
 
@@ -113,7 +113,7 @@ sizes_sized n used x y z e q =
       low = ((rank_judged_lem n).0 rank).0;
       high = ((rank_judged_lem n).0 rank).1;
       few = (length-judged used).0 short;
-      in_letters_lem = all.0;
+      in_letters = all.0;
       in_marks = all.1.0;
       in_entries = all.1.1.0;
     }
