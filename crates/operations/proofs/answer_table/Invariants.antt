@@ -1,19 +1,6 @@
 -- `operations::answer_table` is safe and ends. Assumes nothing.
-use Prim.Native.Nat.{◌-◌}
-use lib.ListN.{length}
-use borrow.Author.Rules.{rules}
-use Rattle.operations.proofs.answer_table.Statement.{statement}
-use Rattle.operations.proofs.answer_table.Tie as tie
+use Rattle.std.proofs.Common.{◌-◌, length}
+use Rattle.operations.proofs.answer_table.Given as goal
 
-abbrev invariant-loop : tie.invariant-loop
-invariant-loop table from₀ from = Unit {0}
-
-abbrev decreases-loop : tie.decreases-loop
-decreases-loop table from₀ from = length table - from
-
-pub answer_table_spec : {M : Type 1} → statement M
-answer_table_spec =
-    tie.close
-    (tie.spec invariant-loop decreases-loop (λ c. search rules) (λ c κs. search rules) (λ c. search rules) (λ c. search rules)
-    (λ c. search rules) (λ c κs. search rules) (λ c. search rules) (λ c. search rules) (λ c. search rules)
-    (λ c. search rules))
+abbrev pub decreases-loop-from : goal.decreases-loop-from
+decreases-loop-from g l = length l.table - l.from
