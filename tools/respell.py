@@ -17,7 +17,7 @@ KIT = os.path.dirname(KIT)
 NAME = re.compile(r"[^\W\d][\w'₀-₉]*(?:-[\w'₀-₉]+)*")
 MADE = {"invariant-loop", "decreases-loop"}
 # Lemmas that port.py brought to a function's name, since a library had their spelling.
-FALLEN = ("entries_from", "first_cell", "first_run", "in_letters", "one_more", "row_from", "same_class", "same_from")
+FALLEN = ("entries_from", "first_cell", "first_run", "one_more", "row_from", "same_class", "same_from")
 # Fields that would have a function's name.
 CHOSEN = {"left-of": "left_over", "read-pair": "reads_pair", "read-runs": "reads_runs"}
 # Words of the library's functions and constructors that a lemma's name can end in.
@@ -144,10 +144,10 @@ def main():
     def turn(text, outside, made, dashed=True):
         def one(m):
             w = m.group()
-            if w in outside or w in MADE or w not in new or ("-" in w and not dashed):
+            if w[0] == '"' or w in outside or w in MADE or w not in new or ("-" in w and not dashed):
                 return w
             return new[w]
-        return NAME.sub(one, text)
+        return re.sub(r'"(?:[^"\\\n]|\\.)*"|' + NAME.pattern, one, text)
 
     for p in files(".antt", "crates"):
         text = read(p)

@@ -1,5 +1,5 @@
 // Moves and repeat counts on one tableau. Every public function takes whatever it is given; an operation answers a result or the exact refusal.
 #![tactic(auto)]
 
-mod counts;
+mod changed_counts;
 pub mod moves;

@@ -10,7 +10,7 @@ ghost use Rattle.refusals.specs.Said.{said_move, said_repeat, said_verdict};
 ghost use Rattle.operators.specs.Targets.{move_by};
 ghost use Rattle.tableaux.specs.Moves.{move_cells_run};
 
-use crate::counts::{change_counts, count_taken};
+use crate::changed_counts::{change_counts, count_taken};
 use inversions::scan::has_below;
 use operators::changes::{Side, move_letters};
 use refusals::answers::{Move, Repeat, Verdict};

@@ -32,8 +32,7 @@ pub bounds-marks-0 : goal.bounds-marks-0
 bounds-marks-0 c = search telling
 
 pub number_in-requires : goal.number_in-requires
-number_in-requires c =
-    number_placed _ _ c.check_short.ensures c.in_default.is _ _ _ _ _ _ _ _ _ refl refl refl c.pair_of_word.ensures
+number_in-requires c = number_placed _ _ c.check_short.ensures c.in_default.is _ _ _ _ _ _ _ _ _ refl refl refl c.pair_of_word.ensures
 
 pub returns : goal.returns
 returns c =

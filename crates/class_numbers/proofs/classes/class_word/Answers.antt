@@ -47,5 +47,5 @@ shape_of-word c = search wording
 
 pub returns : goal.returns
 returns c =
-    word_told _ _ _ _ c.check_class.ensures _ c.in_default.is _ _ _ c.orders_of-size.ensures c.check_asked.ensures _ _ _ c.in_default-check_asked.is
-    c.held.ensures c.held-open.ensures c.write_word.ensures
+    word_told _ _ _ _ c.check_class.ensures _ c.in_default.is _ _ _ c.orders_of-size.ensures c.check_asked.ensures _ _ _
+    c.in_default-check_asked.is c.held.ensures c.held-open.ensures c.write_word.ensures

@@ -1,9 +1,0 @@
--- `capi::on_classes::luchtrav_class_number` meets its contract, by the laws of structs' specs/Handing. Assumes nothing.
-use Rattle.structs.specs.Handing.{replying}
-use Rattle.capi.proofs.on_classes.luchtrav_class_number.Statement.{statement}
-use Rattle.capi.proofs.on_classes.luchtrav_class_number.Tie as tie
-
-pub luchtrav_class_number_spec : {M : Type 1} → statement M
-luchtrav_class_number_spec =
-    tie.close
-    (tie.spec (λ c κs. search replying) (λ c κs. search replying) (λ c. search replying))

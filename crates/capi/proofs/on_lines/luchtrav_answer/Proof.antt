@@ -1,9 +1,0 @@
--- `capi::on_lines::luchtrav_answer` meets its contract, by the laws of structs' specs/Handing. Assumes nothing.
-use Rattle.structs.specs.Handing.{replying}
-use Rattle.capi.proofs.on_lines.luchtrav_answer.Statement.{statement}
-use Rattle.capi.proofs.on_lines.luchtrav_answer.Tie as tie
-
-pub luchtrav_answer_spec : {M : Type 1} → statement M
-luchtrav_answer_spec =
-    tie.close
-    (tie.spec (λ c κs. search replying) (λ c κs. search replying) (λ c. search replying) (λ c. search replying))

@@ -1,9 +1,0 @@
--- `capi::on_runs::luchtrav_write_run_line` meets its contract, by the laws of structs' specs/Handing. Assumes nothing.
-use Rattle.structs.specs.Handing.{replying}
-use Rattle.capi.proofs.on_runs.luchtrav_write_run_line.Statement.{statement}
-use Rattle.capi.proofs.on_runs.luchtrav_write_run_line.Tie as tie
-
-pub luchtrav_write_run_line_spec : {M : Type 1} → statement M
-luchtrav_write_run_line_spec =
-    tie.close
-    (tie.spec (λ c κs. search replying) (λ c κs. search replying) (λ c. search replying) (λ c. search replying))
