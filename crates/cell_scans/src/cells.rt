@@ -6,7 +6,7 @@ ghost use Rattle.cell_scans.specs.Cells.{Celled, mark_of, read_item, read_marked
 use numerals::numbers::{Number, field_at, stands, within};
 
 // A cell and the place after it, or the place of the byte that breaks the grammar.
-#[derive(Drop)]
+#[derive(Clone, Copy)]
 pub enum Cell {
     Read(u16, u8, usize),
     Broken(usize),

@@ -5,7 +5,7 @@ ghost use Rattle.numerals.specs.Bytes.{Digit, starts_with};
 ghost use Rattle.numerals.specs.Numbers.{Numbered};
 
 // A number and the place after it, or the place of the byte that breaks the grammar.
-#[derive(Drop)]
+#[derive(Clone, Copy)]
 pub enum Number {
     Read(u16, usize),
     Broken(usize),

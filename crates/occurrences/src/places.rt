@@ -4,7 +4,7 @@ ghost use Rattle.quasi_crystal.specs.Moves.{leftmost as leftmostOf, rightmost as
 ghost use Rattle.occurrences.specs.Places.{Stopped, found_place, stands_left};
 
 // The place of a letter, if it stands in the word.
-#[derive(Drop)]
+#[derive(Clone, Copy)]
 pub enum Found {
     At(usize),
     Nothing,

@@ -23,7 +23,7 @@ pub enum Side {
 }
 
 // The place that a move changes, or why there is none: an inversion, or no letter to change.
-#[derive(Drop)]
+#[derive(Clone, Copy)]
 enum Target {
     At(usize),
     Inverted,

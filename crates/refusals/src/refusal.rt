@@ -4,7 +4,7 @@ ghost use Rattle.std.specs.Prelude.{◌≡◌};
 ghost use Rattle.refusals.specs.Said.{number, place};
 
 // One case for each row of the tables, with the place or the need where the row has one.
-#[derive(Drop)]
+#[derive(Clone, Copy)]
 pub enum Refusal {
     // 1: the rank is not 1 to 64.
     Rank,
@@ -49,7 +49,7 @@ pub enum Refusal {
 }
 
 // A refusal as number and place, as the documents fix them.
-#[derive(Drop)]
+#[derive(Clone, Copy)]
 pub struct Returned {
     pub number: usize,
     pub place: usize,

@@ -7,7 +7,7 @@ use run_tallies::tables::{keep_mark, keep_times};
 use run_tallies::tally::{Tally, add_item, no_items};
 
 // The place of the line feed and the tally of the items before it, or the place of the byte that breaks the grammar.
-#[derive(Drop)]
+#[derive(Clone, Copy)]
 pub enum Items {
     Read(usize, Tally),
     Broken(usize),

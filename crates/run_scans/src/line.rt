@@ -9,7 +9,7 @@ use run_tallies::tally::Tally;
 use scans::line::{Line, head_at};
 
 // Rank, number of cells and the tally of the items, or the place of the byte that breaks the grammar.
-#[derive(Drop)]
+#[derive(Clone, Copy)]
 pub enum RunLine {
     Read(usize, usize, Tally),
     Broken(usize),

@@ -6,7 +6,7 @@ use cell_scans::cells::{Cell, letter_at, mark_at};
 use numerals::numbers::{Number, field_at, stands, within};
 
 // Letter, count, mark and the place after the item, or the place of the byte that breaks the grammar.
-#[derive(Drop)]
+#[derive(Clone, Copy)]
 pub enum Run {
     Read(u16, u16, u8, usize),
     Broken(usize),

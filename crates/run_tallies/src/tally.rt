@@ -7,7 +7,7 @@ use refusals::numbers::{either, least};
 
 // How many items there are; how many before the first whose letter is outside the rank; how many before the first whose letter is not above the one before it
 // or whose count is 0; the last letter, 0 before the first item; the sum of the counts, 1,025 where it is larger.
-#[derive(Drop)]
+#[derive(Clone, Copy)]
 pub struct Tally {
     pub items: usize,
     pub inside: usize,

@@ -5,7 +5,7 @@ ghost use Rattle.scans.specs.Items.{Gathered};
 use cell_scans::cells::{Cell, item_at, letter_at};
 
 // The place after all cells, or the place of the byte that breaks the grammar.
-#[derive(Drop)]
+#[derive(Clone, Copy)]
 pub enum Items {
     Read(usize),
     Broken(usize),

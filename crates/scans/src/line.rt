@@ -9,7 +9,7 @@ use crate::cells::{Items, cells_at};
 use numerals::numbers::{Number, field_at, stands};
 
 // Rank, number of items and the next place, or the place of the byte that breaks the grammar.
-#[derive(Drop)]
+#[derive(Clone, Copy)]
 pub enum Line {
     Read(usize, usize, usize),
     Broken(usize),

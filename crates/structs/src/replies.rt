@@ -3,7 +3,7 @@
 
 // A check that passed.
 #[repr(C)]
-#[derive(Drop)]
+#[derive(Clone, Copy)]
 pub struct DoneReply {
     pub number: usize,
     pub place: usize,
@@ -11,7 +11,7 @@ pub struct DoneReply {
 
 // A move: `changed` is the place that it changed, 0 after a refusal; `place` is the refusal's, 0 where the move was made.
 #[repr(C)]
-#[derive(Drop)]
+#[derive(Clone, Copy)]
 pub struct MoveReply {
     pub number: usize,
     pub place: usize,
@@ -20,7 +20,7 @@ pub struct MoveReply {
 
 // Elements written, letters used, times a move can be repeated.
 #[repr(C)]
-#[derive(Drop)]
+#[derive(Clone, Copy)]
 pub struct CountReply {
     pub number: usize,
     pub place: usize,
@@ -29,7 +29,7 @@ pub struct CountReply {
 
 // 1 for one class, 0 for two.
 #[repr(C)]
-#[derive(Drop)]
+#[derive(Clone, Copy)]
 pub struct ClassReply {
     pub number: usize,
     pub place: usize,
@@ -38,7 +38,7 @@ pub struct ClassReply {
 
 // 0 equal, 1 lower, 2 higher, 3 neither.
 #[repr(C)]
-#[derive(Drop)]
+#[derive(Clone, Copy)]
 pub struct OrderReply {
     pub number: usize,
     pub place: usize,
@@ -47,7 +47,7 @@ pub struct OrderReply {
 
 // The junction set, and the rows.
 #[repr(C)]
-#[derive(Drop)]
+#[derive(Clone, Copy)]
 pub struct JunctionReply {
     pub number: usize,
     pub place: usize,
@@ -57,7 +57,7 @@ pub struct JunctionReply {
 
 // The size of a class, or the number of a word in it.
 #[repr(C)]
-#[derive(Drop)]
+#[derive(Clone, Copy)]
 pub struct ValueReply {
     pub number: usize,
     pub place: usize,
@@ -66,7 +66,7 @@ pub struct ValueReply {
 
 // What a line says: its rank, and the number of its letters or cells.
 #[repr(C)]
-#[derive(Drop)]
+#[derive(Clone, Copy)]
 pub struct LineReply {
     pub number: usize,
     pub place: usize,
@@ -76,7 +76,7 @@ pub struct LineReply {
 
 // A cell, or 0 for found where there is no such cell.
 #[repr(C)]
-#[derive(Drop)]
+#[derive(Clone, Copy)]
 pub struct CellReply {
     pub number: usize,
     pub place: usize,

@@ -35,7 +35,7 @@ fn orders_left(marks: [u8; 20], cells: usize, place: usize) -> u64
 }
 
 // The place of a cell that goes first, and a number beside it: what is left of a number, or how many words come before.
-#[derive(Drop)]
+#[derive(Clone, Copy)]
 pub struct First {
     pub cell: usize,
     pub number: u64,

@@ -8,7 +8,7 @@ use refusals::answers::{Cell, Verdict};
 use validity::tableau::check_tableau;
 
 // Letters and marks may be lent for different times.
-#[derive(Drop)]
+#[derive(Clone, Copy)]
 pub struct Viewer<'a, 'b> {
     pub letters: &'a [u8],
     pub marks: &'b [u8],
