@@ -143,9 +143,10 @@ def check_functions():
 
 
 def check_promise_pages():
-    """docs/PROMISES.md leads to each page, and no line is too long."""
+    """docs/PROMISES.md leads to each page, and no line is too long, but one that is quoted."""
     for page in promises():
         lines = page.read_text().splitlines()
+        quoted = {line for block in re.findall(r"^```\S* \S+\n(.*?)^```$", page.read_text(), re.M | re.S) for line in block.split("\n")}
         if page != PROMISES and f"](promises/{page.name})" not in prose(PROMISES):
             yield PROMISES, "a page without a link: " + page.name
-        yield from ((page, f"line {place} is longer than 140 characters") for place, line in enumerate(lines, 1) if len(line) > 140)
+        yield from ((page, f"line {place} is longer than 140 characters") for place, line in enumerate(lines, 1) if len(line) > 140 and line not in quoted)
