@@ -117,6 +117,7 @@ FIGURES = [
     ("# of former lines", cases("conversion_cases"), [README, TESTS]),
     ("# of windows", cases("departure_cases", "departure_refusals", "stream_cases"), [README, TESTS]),
     ("# of C lines", cases("writing_cases", "reading_cases", "refusal_cases", "conversion_cases", crates=["run_lines"]), [README, TESTS]),
+    ("# of Young tableaux", cases("young_cases", "way_back_cases", "insert_young_cases", "young_refusals", crates=["plactic_outcomes"]), [README, TESTS]),
     ("# (?:more )?(?:cases|fix)", cases("order_cases", "value_cases", "count_cases", "line_cases", "shared_cases"), [README, TESTS]),
 ]
 
