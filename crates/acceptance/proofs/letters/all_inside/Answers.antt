@@ -1,5 +1,4 @@
 -- `acceptance::letters::all_inside` meets its contract, by the laws of specs/Letters. Assumes nothing.
-use Prim.Native.Nat.{◌-◌}
 use Rattle.acceptance.specs.Letters.{bounding}
 use Rattle.acceptance.proofs.letters.all_inside.Goals as goal
 

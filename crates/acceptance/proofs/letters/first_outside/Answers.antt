@@ -1,5 +1,4 @@
 -- `acceptance::letters::first_outside` meets its contract, by the laws of specs/Letters and refusals' specs/Scanning. Assumes nothing.
-use Prim.Native.Nat.{◌-◌}
 use Rattle.acceptance.specs.Letters.{scanning}
 use Rattle.acceptance.proofs.letters.first_outside.Goals as goal
 

@@ -1,5 +1,4 @@
 -- `buffers::copies::copy_bytes` meets its contract, by the laws of specs/Copies. Assumes nothing.
-use Prim.Native.Nat.{◌-◌}
 use Rattle.buffers.specs.Copies.{copying}
 use Rattle.buffers.proofs.copies.copy_bytes.Goals as goal
 

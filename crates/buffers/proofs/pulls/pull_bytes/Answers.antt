@@ -1,5 +1,4 @@
 -- `buffers::pulls::pull_bytes` meets its contract, by the laws of specs/Pulls. Assumes nothing.
-use Prim.Native.Nat.{◌-◌}
 use Rattle.buffers.specs.Pulls.{pulling}
 use Rattle.buffers.proofs.pulls.pull_bytes.Goals as goal
 

@@ -1,5 +1,4 @@
 -- `buffers::shifts::shift_entries` meets its contract, by the laws of specs/Shifts. Assumes nothing.
-use Prim.Native.Nat.{◌-◌}
 use Rattle.buffers.specs.Shifts.{shifting}
 use Rattle.buffers.proofs.shifts.shift_entries.Goals as goal
 

@@ -1,5 +1,4 @@
 -- `occurrences::places::place_of` meets its contract. The invariant: the letter is not before place i. Assumes nothing.
-use Prim.Native.Nat.{◌-◌}
 use Rattle.occurrences.specs.Places.{seeking}
 use Rattle.occurrences.proofs.places.place_of.Goals as goal
 

@@ -1,5 +1,4 @@
 -- `shapes::marks::mark_fault` meets its contract, by the laws of specs/Faults and Clear, and refusals' specs/Scanning. Assumes nothing.
-use Prim.Native.Nat.{◌-◌}
 use Rattle.shapes.specs.Faults.{scanning}
 use Rattle.shapes.proofs.marks.mark_fault.Goals as goal
 

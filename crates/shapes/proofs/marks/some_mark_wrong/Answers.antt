@@ -1,5 +1,4 @@
 -- `shapes::marks::some_mark_wrong` meets its contract, by the laws of specs/Faults and Clear. Assumes nothing.
-use Prim.Native.Nat.{◌-◌}
 use Rattle.shapes.specs.Faults.{scanning}
 use Rattle.shapes.proofs.marks.some_mark_wrong.Goals as goal
 

@@ -1,5 +1,4 @@
 -- `shapes::rising::rising_fault` meets its contract, by the laws of specs/Faults and Clear, and refusals' specs/Scanning. Assumes nothing.
-use Prim.Native.Nat.{◌-◌}
 use Rattle.shapes.specs.Faults.{scanning}
 use Rattle.shapes.proofs.rising.rising_fault.Goals as goal
 

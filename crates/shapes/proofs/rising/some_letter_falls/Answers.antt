@@ -1,5 +1,4 @@
 -- `shapes::rising::some_letter_falls` meets its contract, by the laws of specs/Faults and Clear. Assumes nothing.
-use Prim.Native.Nat.{◌-◌}
 use Rattle.shapes.specs.Faults.{scanning}
 use Rattle.shapes.proofs.rising.some_letter_falls.Goals as goal
 
