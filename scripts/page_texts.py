@@ -12,13 +12,19 @@ CRATES = ROOT / "crates"
 README, CHANGES = ROOT / "README.md", ROOT / "CHANGELOG.md"
 PROMISES, REQUESTS, SCOPE, TESTS = (ROOT / "docs" / name for name in ("PROMISES.md", "REQUESTS.md", "SCOPE.md", "TESTS.md"))
 SUFFIXES = (".antt", ".rt", ".py", ".md", ".h", ".txt")
-MADE = r"target/|PREFIX/|luchtrav/native/"  # built or installed
+MADE = r"target/|crates/\w+/out/|PREFIX/|luchtrav/native/"  # built or installed
 
 
 def pages():
     """All pages but the notes, which say what was."""
     names = "README.md", "CHANGELOG.md", "docs/*.md", "docs/decisions/*.md", "docs/promises/*.md", "bindings/python/*.md"
     return [page for name in names for page in sorted(ROOT.glob(name))]
+
+
+def tree(*tops):
+    """The files below some directories, but what is made there."""
+    found = [file for top in tops for file in sorted((ROOT / top).rglob("*"))]
+    return [file for file in found if file.is_file() and not re.match(MADE, file.relative_to(ROOT).as_posix())]
 
 
 def promises():

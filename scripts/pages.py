@@ -15,7 +15,7 @@ sys.dont_write_bytecode = True
 
 import header
 import promises
-from page_texts import CHANGES, CRATES, README, REQUESTS, ROOT, SCOPE, SUFFIXES, TESTS, code, find, notes, pages, paths, prose, rows, sections, titles
+from page_texts import CHANGES, CRATES, README, REQUESTS, ROOT, SCOPE, SUFFIXES, TESTS, code, find, notes, pages, paths, prose, rows, sections, titles, tree
 
 SOURCES = (".antt", ".rt", ".py", ".h", ".c", ".rs", "")
 ABSENT = {"memcpy", "memset", "popleft", "LUCHTRAV_RANK", "tableau_of_word", "recording_of_word"}  # of C and Python, and what is said not to be here
@@ -35,11 +35,11 @@ def check_paths():
 
 def check_names():
     """A name in code stands in the tree, but in CHANGELOG.md, which says what was."""
-    files = [file for top in ("crates", "include", "scripts", "bindings", "bench") for file in (ROOT / top).rglob("*") if file.suffix in SOURCES]
-    text = "\n".join(file.read_text(errors="replace") for file in files if file.is_file())
-    known = {file.name for file in CRATES.iterdir()} | {name for form in (r"\w+", r"[\w′-]+") for name in re.findall(form, text)} | ABSENT
+    files = [file for file in tree("crates", "include", "scripts", "bindings", "bench") if file.suffix in SOURCES]
+    text = "\n".join(file.read_text(errors="replace") for file in files)
+    known = {file.name for file in CRATES.iterdir()} | {name for form in (r"\w+", r"[\w'-]+") for name in re.findall(form, text)} | ABSENT
     for page in [page for page in pages() if page != CHANGES]:
-        yield from ((page, "no such name: " + span) for span in code(prose(page)) if re.fullmatch(r"[\w′-]+", span) and span not in known)
+        yield from ((page, "no such name: " + span) for span in code(prose(page)) if re.fullmatch(r"[\w'-]+", span) and span not in known)
 
 
 def check_old_texts():
@@ -57,7 +57,7 @@ def check_structs():
     """The fields of each reply stand in the header in the order of the code, which no contract fixes."""
     told = header.fields_of(re.sub(r"/\*.*?\*/", "", Path(header.HEADER).read_text(), flags=re.S))
     text = (CRATES / "structs/src/replies.rt").read_text()
-    for name, body in re.findall(r"^#\[repr\(C\)\]\npub struct (\w+)Reply \{\n(.*?)^\}", text, re.M | re.S):
+    for name, body in re.findall(r"^#\[repr\(C\)\]\n#\[derive\(Drop\)\]\npub struct (\w+)Reply \{\n(.*?)^\}", text, re.M | re.S):
         fields = re.findall(r"^    pub (\w+): (?:usize|u64),$", body, re.M)
         if told.pop("luchtrav_" + name.lower(), None) != fields:
             yield Path(header.HEADER), f"fields other than those of {name}Reply, {fields}"
@@ -106,18 +106,19 @@ FIGURES = [
     ("# (?:C )?functions", len(promises.EXPORTED), None),
     ("# files", len(list(CRATES.glob("cases/data/*"))), [README, TESTS]),
     ("# calls", sum(len(table.read_text().splitlines()) for table in CRATES.glob("*/data/table")), [README, TESTS]),
-    ("# starred cases", cases("starredCases"), None),
-    ("# worked examples", cases("workedCases"), None),
-    ("# checked words", cases("refusalCases"), None),
-    ("# of products", cases("productCases", "productRefusals", "productLimits"), [README, TESTS]),
-    ("# of changed places", cases("placeCases"), [README, TESTS]),
-    ("# of two ranks", cases("rankCases"), [README, TESTS]),
-    ("# of sizes and numbers", cases("numberCases"), [README, TESTS]),
-    ("# of two tableaux", cases("tableauxCases"), [README, TESTS]),
-    ("# of former lines", cases("conversionCases"), [README, TESTS]),
-    ("# of windows", cases("departureCases", "departureRefusals", "streamCases"), [README, TESTS]),
-    ("# of C lines", cases("writingCases", "readingCases", "refusalCases", "conversionCases", crates=["run_lines"]), [README, TESTS]),
-    ("# (?:more )?(?:cases|fix)", cases("orderCases", "valueCases", "countCases", "lineCases", "sharedCases"), [README, TESTS]),
+    ("# starred cases", cases("starred_cases"), None),
+    ("# worked examples", cases("worked_cases"), None),
+    ("# checked words", cases("refusal_cases"), None),
+    ("# of products", cases("product_cases", "product_refusals", "product_limits"), [README, TESTS]),
+    ("# of changed places", cases("place_cases"), [README, TESTS]),
+    ("# of two ranks", cases("rank_cases"), [README, TESTS]),
+    ("# of sizes and numbers", cases("number_cases"), [README, TESTS]),
+    ("# of two tableaux", cases("tableaux_cases"), [README, TESTS]),
+    ("# of former lines", cases("conversion_cases"), [README, TESTS]),
+    ("# of windows", cases("departure_cases", "departure_refusals", "stream_cases"), [README, TESTS]),
+    ("# of C lines", cases("writing_cases", "reading_cases", "refusal_cases", "conversion_cases", crates=["run_lines"]), [README, TESTS]),
+    ("# of Young tableaux", cases("young_cases", "way_back_cases", "insert_young_cases", "young_refusals", crates=["plactic_outcomes"]), [README, TESTS]),
+    ("# (?:more )?(?:cases|fix)", cases("order_cases", "value_cases", "count_cases", "line_cases", "shared_cases"), [README, TESTS]),
 ]
 
 
@@ -132,7 +133,7 @@ def check_figures():
 
 def check_citations():
     """A part of document 01 that the tree cites is a heading of docs/SCOPE.md (more than five words are a sentence, not a heading), a request one of docs/REQUESTS.md."""
-    files = [file for top in ("crates", "include", "scripts", "bindings") for file in (ROOT / top).rglob("*.*") if file.suffix in SUFFIXES]
+    files = [file for file in tree("crates", "include", "scripts", "bindings") if file.suffix in SUFFIXES]
     texts = [re.sub(r"\s+(?:--|//|#|\*)?\s*", " ", file.read_text()) for file in files]
     cited = {title for text in texts for quoted in CITATION.findall(text) for title in re.findall('"([^"]+)"', quoted)}
     yield from ((SCOPE, f'cited, and no heading: "{title}"') for title in sorted(cited - set(titles(SCOPE))) if len(title.split()) <= 5)

@@ -35,7 +35,7 @@ def prices(crate):
     """Seconds of each function and file of a crate, checked from nothing."""
     folder = CRATES / crate / "out" / "incremental"
     shutil.rmtree(folder, ignore_errors=True)
-    checked = subprocess.run(["rt", "check", crate, "--jobs", "1"], cwd=ROOT, capture_output=True, text=True)
+    checked = subprocess.run(["rt", "check", "--jobs", "1"], cwd=CRATES / crate, capture_output=True, text=True)
     if checked.returncode:
         sys.exit(checked.stdout[-2000:] + checked.stderr[-2000:])
     done = sorted((file.stat().st_mtime_ns, file.stem) for file in folder.glob("*/*.oantt"))

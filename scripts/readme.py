@@ -27,7 +27,7 @@ EXAMPLE = os.path.join(ROOT, "bindings", "c", "example.c")
 
 # Lines that begin so are not run, and why.
 SKIPPED = {
-    ".ci/run": "the gate, which removes target/ and is run by itself",
+    ".ci/run": "the gate, which takes long and is run by itself",
     "scripts/packages": "it runs this script",
     "bench/run.py": "it needs rustc and valgrind, and takes long",
     "python3 bench/": "it needs rustc and valgrind, and takes long",

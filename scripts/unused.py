@@ -20,6 +20,7 @@ EXPLAINED = {
     "viewer_of": "the making of a viewer, an operation of the scope: C takes making and look in one call, `look_once`",
     "look": "a look through a viewer, likewise",
 }
+PROOFS = ("Invariants.antt", "Answers.antt", "Proof.antt")  # of a function
 NAME = r"[^\s(){}\[\],;:.=«»⌜⌝]+"
 WORDS = r"((?:(?:abbrev|unfoldable|pub|record|data|ruleset) )*)"
 SIGNATURE = re.compile(rf"{WORDS}({NAME}(?: {NAME})*) :(?= |$)")
@@ -55,7 +56,18 @@ class Declaration:
 
     def has(self, name):
         """Whether a name stands in the text, an operator by its parts too."""
-        return name in self.tokens() or "_" in (name[0], name[-1]) and self.tokens().issuperset(filter(None, name.split("_")))
+        return name in self.tokens() or "◌" in (name[0], name[-1]) and self.tokens().issuperset(filter(None, name.split("◌")))
+
+
+def leaves(module, text):
+    """What `use` brings in by a path with braces: each name with its module, and its other name, if it has one."""
+    head, braced, inside = text.strip().partition("{")
+    if braced:
+        parts = re.split(r",(?![^{]*\})", inside.rpartition("}")[0])
+        return [leaf for part in parts if part.strip() for leaf in leaves(module + head, part)]
+    path, _, alias = (module + head).partition(" as ")
+    module, _, name = path.rpartition("::")
+    return [(module, name, alias)] if name != "self" else [(*module.rpartition("::")[::2], alias)]
 
 
 class File:
@@ -106,8 +118,9 @@ class File:
         for number, line in enumerate(text.splitlines(), 1):
             if line.startswith("ghost use "):
                 self.take(line[len("ghost ") : -1], number)
-            elif match := re.match(r"use ([\w:]+)::(\w+);", line):
-                self.imports[match[2]] = (match[1], match[2], number)
+        for match in re.finditer(r"^use ([^;]+);", text, re.M):
+            for module, name, alias in leaves("", "".join(match[1].split("\n"))):
+                self.imports[alias or name] = (module, name, text.count("\n", 0, match.start()) + 1)
         starts = list(ITEM.finditer(text))
         for match, end in zip(starts, [*(after.start() for after in starts[1:]), len(text)]):
             kind = {"fn": "function"}.get(match[2], match[2])
@@ -125,7 +138,7 @@ ON_PAGES = {name for page in PAGES for name in re.findall(r"(?<!`)`([^`\s]+)`(?!
 @lru_cache(maxsize=None)
 def file_of(module, crate):
     """The file of a module that a file of the crate names; None where it is the toolchain's or a generated one."""
-    if match := re.match(r"Rattle·(\w+?)(?:·\w+)?\.(.*)", module):
+    if match := re.match(r"Rattle\.(\w+)\.(.*)", module):
         path = CRATES / match[1] / (match[2].replace(".", "/") + ".antt")
     else:
         first, *parts = module.split("::")
@@ -138,8 +151,9 @@ def file_of(module, crate):
 def proofs_of(item):
     """What the proof of a function declares."""
     inner = [part for part in item.path.relative_to(CRATES / item.crate / "src").with_suffix("").parts if part not in ("lib", "main")]
-    for path in (CRATES / item.crate / "proofs").joinpath(*inner).glob(f"**/{item.names[0]}/Proof.antt"):
-        yield from (proof for proof in FILES[path].items if "pub" in proof.words)
+    for path in (CRATES / item.crate / "proofs").joinpath(*inner).glob(f"**/{item.names[0]}/*.antt"):
+        if path.name in PROOFS:
+            yield from (proof for proof in FILES[path].items if "pub" in proof.words)
 
 
 @lru_cache(maxsize=None)
