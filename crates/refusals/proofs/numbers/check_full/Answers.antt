@@ -1,0 +1,10 @@
+-- `refusals::numbers::check_full` meets its contract, by the laws of specs/Numbers. Assumes nothing.
+use Rattle.refusals.specs.Numbers.{checking}
+use borrow.Author.Rules.{rules}
+use Rattle.refusals.proofs.numbers.check_full.Goals as goal
+
+pub refuse_if-requires : goal.refuse_if-requires
+refuse_if-requires c = search rules
+
+pub returns : goal.returns
+returns c = search checking
