@@ -57,7 +57,7 @@ def check_structs():
     """The fields of each reply stand in the header in the order of the code, which no contract fixes."""
     told = header.fields_of(re.sub(r"/\*.*?\*/", "", Path(header.HEADER).read_text(), flags=re.S))
     text = (CRATES / "structs/src/replies.rt").read_text()
-    for name, body in re.findall(r"^#\[repr\(C\)\]\n#\[derive\(Drop\)\]\npub struct (\w+)Reply \{\n(.*?)^\}", text, re.M | re.S):
+    for name, body in re.findall(r"^#\[repr\(C\)\]\n#\[derive\([\w, ]+\)\]\npub struct (\w+)Reply \{\n(.*?)^\}", text, re.M | re.S):
         fields = re.findall(r"^    pub (\w+): (?:usize|u64),$", body, re.M)
         if told.pop("luchtrav_" + name.lower(), None) != fields:
             yield Path(header.HEADER), f"fields other than those of {name}Reply, {fields}"
