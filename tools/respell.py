@@ -9,11 +9,8 @@ inputs and outputs keep their spelling, as do the names of today's library. Prin
 """
 import os
 import re
-import sys
 
 HERE = os.path.dirname(os.path.dirname(os.path.realpath(__file__)))
-KIT = os.path.dirname(os.path.realpath(os.popen("command -v rt").read().strip() or "/opt/rattle/bin/rt"))
-KIT = os.path.dirname(KIT)
 NAME = re.compile(r"[^\W\d][\w'₀-₉]*(?:-[\w'₀-₉]+)*")
 MADE = {"invariant-loop", "decreases-loop"}
 # Lemmas that port.py brought to a function's name, since a library had their spelling.
