@@ -2,6 +2,7 @@
 --     answer_held      an answer's bytes at the front of the memory lent for it are the output
 --     answer_never     and it is no refusal where there is room for 16,384
 --     whole_read       at most 4,097 bytes that have come, and all where fewer have, have the output of all that was left
+--     few_taken        of a reader no more than the bytes that have come are taken
 --     never            for the first bytes of a buffer an answer is written,
 --     streamed         which is the output for all that was left
 -- Assumes nothing.
@@ -56,6 +57,16 @@ whole_read (Some text) (Some rest) got buffer size within c end = ⊎_elim full 
         let came : length (take got buffer) ≡ 4097 = length-take-le got buffer within ∙ e ∙ size in
         let more : length text ≡ length (take got buffer) + length rest = ap length c ∙ length-append (take got buffer) rest in
         long_output (take got buffer) (omega (arith, came)) ∙ sym (long_output text (omega (arith, came, more)))
+
+-- Of a reader no more than the bytes that have come are taken.
+pub few_taken : (was left : Option (List ℕ)) (got : ℕ) (buffer : List ℕ) → length buffer ≡ 4097 → got ≤ length buffer → Consumes was left (take got buffer)
+    → IfSome was (λ text. IfSome left (λ rest. length text ≤ length rest + 4097))
+few_taken None left got buffer size within c = tt
+few_taken (Some text) None got buffer size within c = tt
+few_taken (Some text) (Some rest) got buffer size within c =
+    let came : length (take got buffer) ≡ got = length-take-le got buffer within in
+    let more : length text ≡ length (take got buffer) + length rest = ap length c ∙ length-append (take got buffer) rest in
+    omega arith
 
 -- The output for the bytes that have come is written: it is that for all that was left.
 answered : (was before after : Option (List ℕ)) (bytes line : List ℕ) → IfSome was (λ text. line ≡ output text) → bytes ≡ line → Appends before after bytes
