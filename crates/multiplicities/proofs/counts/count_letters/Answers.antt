@@ -1,33 +1,7 @@
--- `multiplicities::counts::count_letters` meets its contract, by the laws of specs/Parts. Assumes nothing.
-use Rattle.multiplicities.specs.Parts.{parting}
+-- What passes the test `x == letter` is the letter, so the count of those that pass is its count.
+use Rattle.std.proofs.Common.{rules, sym, ◌∙◌, eqb}
+use Rattle.multiplicities.proofs.Remaining.{count_told}
 use Rattle.multiplicities.proofs.counts.count_letters.Goals as goal
 
-pub loop-i-init : goal.loop-i-init
-loop-i-init c = search parting
-
-pub part_end-end-requires : goal.part_end-end-requires
-part_end-end-requires c = search parting
-
-pub slice_bounds-count_few-count : goal.slice_bounds-count_few-count
-slice_bounds-count_few-count c = search parting
-
-pub slice_bounds-count_few-start : goal.slice_bounds-count_few-start
-slice_bounds-count_few-start c = search parting
-
-pub slice_bounds-count_few-end : goal.slice_bounds-count_few-end
-slice_bounds-count_few-end c = search parting
-
-pub count_few-found-requires : goal.count_few-found-requires
-count_few-found-requires c = search parting
-
-pub overflow_add-found : goal.overflow_add-found
-overflow_add-found c = search parting
-
-pub loop-i-smaller : goal.loop-i-smaller
-loop-i-smaller c = search parting
-
-pub loop-i-preserved : goal.loop-i-preserved
-loop-i-preserved c = search parting
-
 pub returns : goal.returns
-returns c = search parting
+returns c = c.count_passing.ensures.all (λ x. eqb x c.args.letter) (λ x b p. search rules) ∙ sym (count_told c.args.letter c.args.letters.now)
