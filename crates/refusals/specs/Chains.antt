@@ -7,33 +7,39 @@
 --     chaining            the ruleset of chains
 --     stopping            the ruleset of chains that stop where a group at their front refuses
 -- Assumes nothing.
-use Rattle.std.specs.Prelude.{◌≡◌, refl}
+use Rattle.std.specs.Prelude.{◌≡◌, refl, [], Result, Ok, Err}
 use Rattle.std.proofs.Common.{ap, ◌∙◌, rules}
 use Rattle.outcomes.specs.Replies.{Said, gives, refused, passed, or_else}
 use Rattle.refusals.specs.declared.refusal.Refusal.{Refusal}
-use Rattle.refusals.specs.declared.answers.Verdict.{Verdict}
-use Rattle.refusals.specs.declared.answers.Verdict.TheVariants.{Passed, Refused}
 use Rattle.refusals.specs.Said.{said_refusal, said_verdict}
 
-pub stops : {v : Verdict} (r : Refusal) (j s : Said) → said_verdict v ≡ j → v ≡ Refused r → said_refusal r ≡ or_else j s
+pub stops : {v : Result (Unit {0}) Refusal} (r : Refusal) (j s : Said) → said_verdict v ≡ j → v ≡ Err r → said_refusal r ≡ or_else j s
 stops {v} r j s e q = rw (← e, q)
 
-pub goes_on : {v : Verdict} {r : Said} (j s : Said) → said_verdict v ≡ j → v ≡ Passed → r ≡ s → r ≡ or_else j s
+pub goes_on : {v : Result (Unit {0}) Refusal} {r : Said} (j s : Said) → said_verdict v ≡ j → v ≡ Ok tt → r ≡ s → r ≡ or_else j s
 goes_on {v} j s e q h = rw (← e, q) h
 
-last : (v : Verdict) → said_verdict v ≡ or_else (said_verdict v) passed
-last Passed = refl
-last (Refused r) = refl
+-- ---- checks passed on one by one: a refusal is that of the chain, and past a check that passes the others decide
 
-pub ends : (v : Verdict) (j : Said) → said_verdict v ≡ j → said_verdict v ≡ or_else j passed
+pub halts : {j : Said} (r : Refusal) (s : Said) → said_refusal r ≡ j → said_refusal r ≡ or_else j s
+halts r s e = rw (← e)
+
+pub proceeds : {j t s : Said} → gives [] ≡ j → t ≡ s → t ≡ or_else j s
+proceeds e h = rw (← e) h
+
+last : (v : Result (Unit {0}) Refusal) → said_verdict v ≡ or_else (said_verdict v) passed
+last (Ok u) = refl
+last (Err r) = refl
+
+pub ends : (v : Result (Unit {0}) Refusal) (j : Said) → said_verdict v ≡ j → said_verdict v ≡ or_else j passed
 ends v j e = last v ∙ ap (λ (s : Said). or_else s passed) e
 
 -- ---- chains of verdicts
 
-pub refuses : {v : Verdict} {r : Refusal} (w : Verdict) → v ≡ Refused r → said_refusal r ≡ or_else (said_verdict v) (said_verdict w)
+pub refuses : {v : Result (Unit {0}) Refusal} {r : Refusal} (w : Result (Unit {0}) Refusal) → v ≡ Err r → said_refusal r ≡ or_else (said_verdict v) (said_verdict w)
 refuses w e = rw e
 
-pub passes : {v : Verdict} (w : Verdict) → v ≡ Passed → said_verdict w ≡ or_else (said_verdict v) (said_verdict w)
+pub passes : {v : Result (Unit {0}) Refusal} (w : Result (Unit {0}) Refusal) → v ≡ Ok tt → said_verdict w ≡ or_else (said_verdict v) (said_verdict w)
 passes w e = rw e
 
 joins_two : (j k s : Said) → or_else (or_else j (or_else k passed)) s ≡ or_else j (or_else k s)
@@ -51,7 +57,7 @@ joins_four (gives vs) i j k s = joins_three i j k s
 joins_four (refused n p) i j k s = refl
 
 -- The verdict t is that of u or else that of v.
-module _ (t u v : Verdict) (e : said_verdict t ≡ or_else (said_verdict u) (said_verdict v)) where
+module _ (t u v : Result (Unit {0}) Refusal) (e : said_verdict t ≡ or_else (said_verdict u) (said_verdict v)) where
   pub chained : (j s : Said) → said_verdict u ≡ j → said_verdict v ≡ s → said_verdict t ≡ or_else j s
   chained j s f g = rw (← f, ← g) e
 
@@ -66,29 +72,29 @@ module _ (t u v : Verdict) (e : said_verdict t ≡ or_else (said_verdict u) (sai
       → said_verdict t ≡ or_else h (or_else i (or_else j (or_else k s)))
   chained_four h i j k s f g = chained (or_else h (or_else i (or_else j (or_else k passed)))) s f g ∙ joins_four h i j k s
 
-pub ruleset chaining = (refuses, passes, ends, chained, chained_two, chained_three, rules)
+pub ruleset chaining = (halts, proceeds, refuses, passes, ends, chained, chained_two, chained_three, rules)
 
 -- ---- chains that stop where a group of checks at their front refuses: the verdict of the group is v
 
-module _ {v : Verdict} (j k : Said) (e : said_verdict v ≡ or_else j (or_else k passed)) where
-  pub stops_two : (r : Refusal) (s : Said) → v ≡ Refused r → said_refusal r ≡ or_else j (or_else k s)
+module _ {v : Result (Unit {0}) Refusal} (j k : Said) (e : said_verdict v ≡ or_else j (or_else k passed)) where
+  pub stops_two : (r : Refusal) (s : Said) → v ≡ Err r → said_refusal r ≡ or_else j (or_else k s)
   stops_two r s q = stops r (or_else j (or_else k passed)) s e q ∙ joins_two j k s
 
-  pub goes_on_two : {t : Said} (s : Said) → v ≡ Passed → t ≡ s → t ≡ or_else j (or_else k s)
+  pub goes_on_two : {t : Said} (s : Said) → v ≡ Ok tt → t ≡ s → t ≡ or_else j (or_else k s)
   goes_on_two s q h = goes_on (or_else j (or_else k passed)) s e q h ∙ joins_two j k s
 
-module _ {v : Verdict} (i j k : Said) (e : said_verdict v ≡ or_else i (or_else j (or_else k passed))) where
-  pub stops_three : (r : Refusal) (s : Said) → v ≡ Refused r → said_refusal r ≡ or_else i (or_else j (or_else k s))
+module _ {v : Result (Unit {0}) Refusal} (i j k : Said) (e : said_verdict v ≡ or_else i (or_else j (or_else k passed))) where
+  pub stops_three : (r : Refusal) (s : Said) → v ≡ Err r → said_refusal r ≡ or_else i (or_else j (or_else k s))
   stops_three r s q = stops r (or_else i (or_else j (or_else k passed))) s e q ∙ joins_three i j k s
 
-  pub goes_on_three : {t : Said} (s : Said) → v ≡ Passed → t ≡ s → t ≡ or_else i (or_else j (or_else k s))
+  pub goes_on_three : {t : Said} (s : Said) → v ≡ Ok tt → t ≡ s → t ≡ or_else i (or_else j (or_else k s))
   goes_on_three s q h = goes_on (or_else i (or_else j (or_else k passed))) s e q h ∙ joins_three i j k s
 
-module _ {v : Verdict} (h i j k : Said) (e : said_verdict v ≡ or_else h (or_else i (or_else j (or_else k passed)))) where
-  pub stops_four : (r : Refusal) (s : Said) → v ≡ Refused r → said_refusal r ≡ or_else h (or_else i (or_else j (or_else k s)))
+module _ {v : Result (Unit {0}) Refusal} (h i j k : Said) (e : said_verdict v ≡ or_else h (or_else i (or_else j (or_else k passed)))) where
+  pub stops_four : (r : Refusal) (s : Said) → v ≡ Err r → said_refusal r ≡ or_else h (or_else i (or_else j (or_else k s)))
   stops_four r s q = stops r (or_else h (or_else i (or_else j (or_else k passed)))) s e q ∙ joins_four h i j k s
 
-  pub goes_on_four : {t : Said} (s : Said) → v ≡ Passed → t ≡ s → t ≡ or_else h (or_else i (or_else j (or_else k s)))
+  pub goes_on_four : {t : Said} (s : Said) → v ≡ Ok tt → t ≡ s → t ≡ or_else h (or_else i (or_else j (or_else k s)))
   goes_on_four s q g = goes_on (or_else h (or_else i (or_else j (or_else k passed)))) s e q g ∙ joins_four h i j k s
 
 pub ruleset stopping = (stops, goes_on, stops_two, goes_on_two, stops_three, goes_on_three, stops_four, goes_on_four, ends, chained, chained_three, rules)

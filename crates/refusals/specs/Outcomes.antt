@@ -4,17 +4,15 @@
 --     not_both, same_values, same_refusal             replies that are equal
 --     wrote_memory, wrote_elements, wrote_refused     an answer that says what a run says, where the run gives values
 -- Assumes nothing.
-use Rattle.std.specs.Prelude.{ℕ, ◌≡◌, refl, List, [], ◌∷◌, ◌++◌, ◌⊎◌, get_or}
+use Rattle.std.specs.Prelude.{ℕ, ◌≡◌, refl, List, [], ◌∷◌, ◌++◌, ◌⊎◌, get_or, Result, Ok, Err}
 use Rattle.std.proofs.Common.{sym, ap, ◌∙◌, ⊎_elim, inl, inr, arith}
 use Rattle.hypoplactic.specs.Words.{Accepted}
 use Rattle.outcomes.specs.Replies.{Said, gives, refused, first}
 use Rattle.outcomes.specs.Judgements.{word_judgements}
 use Rattle.outcomes.proofs.Theory.Judged.{word_passing}
 use Rattle.outcomes.proofs.Theory.Passing.{Passing, first-both}
-use Rattle.refusals.specs.Said.{said_written}
+use Rattle.refusals.specs.Said.{said_value}
 use Rattle.refusals.specs.declared.refusal.Refusal.{Refusal}
-use Rattle.refusals.specs.declared.answers.Written.{Written}
-use Rattle.refusals.specs.declared.answers.Written.TheVariants.{Elements, Refused}
 
 -- ---- words
 
@@ -53,15 +51,15 @@ pub same_refusal : {k p j q : ℕ} → refused k p ≡ refused j q → (k ≡ j)
 same_refusal e = (ap (λ (s : Said). get_or (values s) 0 0) e, ap (λ (s : Said). get_or (values s) 1 0) e)
 
 -- An answer r, beside memory that is now so, says what a run says that gives k elements and new memory.
-module _ {A : Type 0} (r : Written) {now new : A} {k : ℕ} (e : ◌≡◌ {A = Said × A} (said_written r, now) (gives (k ∷ []), new)) where
-  said : said_written r ≡ gives (k ∷ [])
+module _ {A : Type 0} (r : Result ℕ Refusal) {now new : A} {k : ℕ} (e : ◌≡◌ {A = Said × A} (said_value r, now) (gives (k ∷ []), new)) where
+  said : said_value r ≡ gives (k ∷ [])
   said = ap (λ (o : Said × A). o.0) e
 
   pub wrote_memory : now ≡ new
   wrote_memory = ap (λ (o : Said × A). o.1) e
 
-  pub wrote_elements : (m : ℕ) → r ≡ Elements m → m ≡ k
-  wrote_elements m q = ap (λ (vs : List ℕ). get_or vs 0 0) (same_values (sym (ap said_written q) ∙ said))
+  pub wrote_elements : (m : ℕ) → r ≡ Ok m → m ≡ k
+  wrote_elements m q = ap (λ (vs : List ℕ). get_or vs 0 0) (same_values (sym (ap said_value q) ∙ said))
 
-  pub wrote_refused : (q : Refusal) → r ≡ Refused q → ⊥
-  wrote_refused q h = not_both (sym said ∙ ap said_written h)
+  pub wrote_refused : (q : Refusal) → r ≡ Err q → ⊥
+  wrote_refused q h = not_both (sym said ∙ ap said_value h)

@@ -9,7 +9,7 @@
 --     written_part                 a list that holds values at its beginning, and then more values in the part straight after them
 --     written_element              the same with one value more
 -- Assumes nothing.
-use Rattle.std.specs.Prelude.{ℕ, suc, ◌+◌, ◌<◌, ◌≡◌, List, [], ◌∷◌, ◌++◌, length, drop, set}
+use Rattle.std.specs.Prelude.{ℕ, suc, ◌+◌, ◌<◌, ◌≡◌, List, [], ◌∷◌, ◌++◌, length, drop, set, Result, Ok, Err}
 use Rattle.std.proofs.Math.Path.{sym}
 use Rattle.std.proofs.Common.{ap, ◌∙◌, append_assoc, arith, length-append, drop-drop, drop-cons}
 use Rattle.std.proofs.Math.Seq.{take-append_seam, drop-append_seam, set-append_seam, append_snoc}
@@ -19,15 +19,13 @@ use Rattle.outcomes.proofs.Theory.Passing.{Passing, first-append, first_else, fi
 use Rattle.refusals.specs.Chains.{chained, chaining, ends, goes_on, stops}
 use Rattle.refusals.specs.Said.{said_refusal, said_verdict}
 use Rattle.refusals.specs.declared.refusal.Refusal.{Refusal}
-use Rattle.refusals.specs.declared.answers.Verdict.{Verdict}
-use Rattle.refusals.specs.declared.answers.Verdict.TheVariants.{Passed, Refused}
 
 -- What the checks js of an input say, and then the checks ks of what it is for.
 unfoldable pub checks_then : List Said → List Said → Said
 checks_then js ks = first (js ++ ks) passed
 
 -- The verdict t is that of u or else that of v.
-module _ (t u v : Verdict) (js : List Said) (e : said_verdict t ≡ or_else (said_verdict u) (said_verdict v)) (f : said_verdict u ≡ first js passed) where
+module _ (t u v : Result (Unit {0}) Refusal) (js : List Said) (e : said_verdict t ≡ or_else (said_verdict u) (said_verdict v)) (f : said_verdict u ≡ first js passed) where
   pub checked_then : (ks : List Said) → said_verdict v ≡ first ks passed → said_verdict t ≡ checks_then js ks
   unfolding checks_then
   checked_then ks g = chained t u v e (first js passed) (first ks passed) f g ∙ sym (first-append js ks passed)
@@ -38,21 +36,21 @@ module _ (t u v : Verdict) (js : List Said) (e : said_verdict t ≡ or_else (sai
 pub ruleset following = (checked_then, checked_last, chaining)
 
 -- By the verdict of the first checks alone: it refuses, or the others decide.
-module _ {v : Verdict} (js : List Said) (e : said_verdict v ≡ first js passed) where
-  pub stops_there : (ks : List Said) (r : Refusal) → v ≡ Refused r → said_refusal r ≡ checks_then js ks
+module _ {v : Result (Unit {0}) Refusal} (js : List Said) (e : said_verdict v ≡ first js passed) where
+  pub stops_there : (ks : List Said) (r : Refusal) → v ≡ Err r → said_refusal r ≡ checks_then js ks
   unfolding checks_then
   stops_there ks r q = stops r (first js passed) (first ks passed) e q ∙ sym (first-append js ks passed)
 
-  pub goes_further : {s : Said} (ks ls : List Said) → v ≡ Passed → s ≡ checks_then ks ls → s ≡ checks_then js (ks ++ ls)
+  pub goes_further : {s : Said} (ks ls : List Said) → v ≡ Ok tt → s ≡ checks_then ks ls → s ≡ checks_then js (ks ++ ls)
   unfolding checks_then
   goes_further ks ls q h = goes_on (first js passed) (first (ks ++ ls) passed) e q h ∙ sym (first-append js (ks ++ ls) passed)
 
 -- Checks whose verdict passes refuse nothing.
-pub all_passing : {v : Verdict} (js : List Said) → said_verdict v ≡ first js passed → v ≡ Passed → Passing js
+pub all_passing : {v : Result (Unit {0}) Refusal} (js : List Said) → said_verdict v ≡ first js passed → v ≡ Ok tt → Passing js
 all_passing js e q = (first-passed js).0 (sym e ∙ ap said_verdict q)
 
 -- Where they refuse, memory is as it was, whatever checks follow.
-pub run-stopped : {A : Type 0} {v : Verdict} (js ks : List Said) (vs : List ℕ) (new old : A) (r : Refusal) → said_verdict v ≡ first js passed → v ≡ Refused r
+pub run-stopped : {A : Type 0} {v : Result (Unit {0}) Refusal} (js ks : List Said) (vs : List ℕ) (new old : A) (r : Refusal) → said_verdict v ≡ first js passed → v ≡ Err r
     → (said_refusal r, old) ≡ ran_to (first (js ++ ks) (gives vs)) new old
 run-stopped js ks vs new old r e q = rw (first-append js ks (gives vs), ← e, q)
 
@@ -62,24 +60,24 @@ both_passing [] ks p = (tt, p)
 both_passing (j ∷ js) ks p = let rest : Passing js × Passing ks = both_passing js ks p.1 in ((p.0, rest.0), rest.1)
 
 -- What is said and done past a verdict.
-run_by : {A : Type 0} (v : Verdict) (js : List Said) (vs : List ℕ) (new old : A) → said_verdict v ≡ first js passed
+run_by : {A : Type 0} (v : Result (Unit {0}) Refusal) (js : List Said) (vs : List ℕ) (new old : A) → said_verdict v ≡ first js passed
     → ran_to (first js (gives vs)) new old ≡ ran_to (or_else (said_verdict v) (gives vs)) new old
 run_by v js vs new old e = ap (λ (s : Said). ran_to s new old) (sym (first_else js (gives vs)) ∙ ap (λ (s : Said). or_else s (gives vs)) (sym e))
 
 -- The verdict of all checks is v.
-module _ {v : Verdict} (js ks : List Said) (e : said_verdict v ≡ checks_then js ks) where
+module _ {v : Result (Unit {0}) Refusal} (js ks : List Said) (e : said_verdict v ≡ checks_then js ks) where
   -- Where it is no refusal, none of them refuses.
-  pub then_passing : v ≡ Passed → Passing js × Passing ks
+  pub then_passing : v ≡ Ok tt → Passing js × Passing ks
   unfolding checks_then
   then_passing q = both_passing js ks (all_passing (js ++ ks) e q)
 
   -- Without a refusal the values vs are given, and memory is new; else it is as it was.
   module _ {A : Type 0} (vs : List ℕ) (new old : A) where
-    pub run_refused : (r : Refusal) → v ≡ Refused r → (said_refusal r, old) ≡ ran_to (first (js ++ ks) (gives vs)) new old
+    pub run_refused : (r : Refusal) → v ≡ Err r → (said_refusal r, old) ≡ ran_to (first (js ++ ks) (gives vs)) new old
     unfolding checks_then
     run_refused r q = sym (run_by v (js ++ ks) vs new old e ∙ rw q)
 
-    pub run_passed : (now : A) → v ≡ Passed → now ≡ new → (gives vs, now) ≡ ran_to (first (js ++ ks) (gives vs)) new old
+    pub run_passed : (now : A) → v ≡ Ok tt → now ≡ new → (gives vs, now) ≡ ran_to (first (js ++ ks) (gives vs)) new old
     unfolding checks_then
     run_passed now q h = sym (run_by v (js ++ ks) vs new old e ∙ rw (q, ← h))
 

@@ -1,39 +1,22 @@
--- What each case of each answer says in the documents' own numbers: the values that an operation gives, or a refusal's number and place. Every promise of
--- the kernel equates what these definitions give for a reply with the written meaning's reply to the input.
+-- What each answer says in the documents' own numbers: the values that an operation gives, or a refusal's number and place. Every promise of the kernel
+-- equates what these definitions give for a reply with the written meaning's reply to the input.
 --     number, place      of a refusal, as the tables of documents 01 and 02 fix them
---     said_refusal        a refusal
---     said_fault k        the first fault that a scan for refusal k finds
---     said_verdict, said_move, said_repeat, said_junctions, said_numbered, said_class, said_weights, said_written, said_used, said_cell, said_read_line
---                        the answers
+--     said_refusal       a refusal
+--     said_fault k       the first fault that a scan for refusal k finds, if it finds one
+--     said_verdict       the answer of a check, which gives no value
+--     said_value         an answer of one number: the place that a move changed, how often it can be repeated, the elements written, the new used count,
+--                        the size of a class or the number of a word in it
+--     said_junctions, said_class, said_weights, said_cell, said_sizes      the other answers
 -- That each of them tells all cases apart is proofs/Theory/Apart. Assumes nothing.
-use Rattle.std.specs.Prelude.{ℕ, [], ◌∷◌}
+use Rattle.std.specs.Prelude.{ℕ, Bool, true, false, Option, Some, None, Result, Ok, Err, [], ◌∷◌}
+use Rattle.std.specs.declared.cmp.Ordering.{Ordering}
+use Rattle.std.specs.declared.cmp.Ordering.TheVariants.{Less, Equal, Greater}
 use Rattle.outcomes.specs.Replies.{Said, gives, refused}
 use Rattle.refusals.specs.declared.refusal.Refusal.{Refusal}
 use Rattle.refusals.specs.declared.refusal.Refusal.TheVariants.{Rank, Length, Parts, Letter, Falling, Mark, Entry, Step, Index, Inversion, NoLetter, Full, Room, Line, Large, PastLast, Count, Empty, Item, Sum}
-use Rattle.refusals.specs.declared.answers.Verdict.{Verdict}
-use Rattle.refusals.specs.declared.answers.Verdict.TheVariants as verdict
-use Rattle.refusals.specs.declared.answers.Fault.{Fault}
-use Rattle.refusals.specs.declared.answers.Fault.TheVariants as fault
-use Rattle.refusals.specs.declared.answers.Move.{Move}
-use Rattle.refusals.specs.declared.answers.Move.TheVariants as move
-use Rattle.refusals.specs.declared.answers.Repeat.{Repeat}
-use Rattle.refusals.specs.declared.answers.Repeat.TheVariants as repeat
 use Rattle.refusals.specs.declared.answers.Junctions.{Junctions}
-use Rattle.refusals.specs.declared.answers.Junctions.TheVariants as junctions
-use Rattle.refusals.specs.declared.answers.Numbered.{Numbered}
-use Rattle.refusals.specs.declared.answers.Numbered.TheVariants as numbered
-use Rattle.refusals.specs.declared.answers.Class.{Class}
-use Rattle.refusals.specs.declared.answers.Class.TheVariants as class
-use Rattle.refusals.specs.declared.answers.Weights.{Weights}
-use Rattle.refusals.specs.declared.answers.Weights.TheVariants as weights
-use Rattle.refusals.specs.declared.answers.Written.{Written}
-use Rattle.refusals.specs.declared.answers.Written.TheVariants as written
-use Rattle.refusals.specs.declared.answers.Used.{Used}
-use Rattle.refusals.specs.declared.answers.Used.TheVariants as used
 use Rattle.refusals.specs.declared.answers.Cell.{Cell}
-use Rattle.refusals.specs.declared.answers.Cell.TheVariants as cell
-use Rattle.refusals.specs.declared.answers.ReadLine.{ReadLine}
-use Rattle.refusals.specs.declared.answers.ReadLine.TheVariants as read_line
+use Rattle.refusals.specs.declared.answers.Sizes.{Sizes}
 
 abbrev pub number : Refusal → ℕ
 number Rank = 1
@@ -82,64 +65,44 @@ place Sum = 0
 abbrev pub said_refusal : Refusal → Said
 said_refusal r = refused (number r) (place r)
 
-abbrev pub said_verdict : Verdict → Said
-said_verdict verdict.Passed = gives []
-said_verdict (verdict.Refused r) = said_refusal r
+abbrev pub said_fault : ℕ → Option ℕ → Said
+said_fault k (Some p) = refused k p
+said_fault k None = gives []
 
-abbrev pub said_fault : ℕ → Fault → Said
-said_fault k (fault.At p) = refused k p
-said_fault k fault.Nowhere = gives []
+abbrev pub said_verdict : Result (Unit {0}) Refusal → Said
+said_verdict (Ok u) = gives []
+said_verdict (Err r) = said_refusal r
 
--- The changed place.
-abbrev pub said_move : Move → Said
-said_move (move.Made p) = gives (p ∷ [])
-said_move (move.Refused r) = said_refusal r
-
-abbrev pub said_repeat : Repeat → Said
-said_repeat (repeat.Times n) = gives (n ∷ [])
-said_repeat (repeat.Refused r) = said_refusal r
+abbrev pub said_value : Result ℕ Refusal → Said
+said_value (Ok n) = gives (n ∷ [])
+said_value (Err r) = said_refusal r
 
 -- The set, then the rows.
-abbrev pub said_junctions : Junctions → Said
-said_junctions (junctions.Found set rows) = gives (set ∷ rows ∷ [])
-said_junctions (junctions.Refused r) = said_refusal r
-
--- The size of a class, or the number of a word in it.
-abbrev pub said_numbered : Numbered → Said
-said_numbered (numbered.Number k) = gives (k ∷ [])
-said_numbered (numbered.Refused r) = said_refusal r
+abbrev pub said_junctions : Result Junctions Refusal → Said
+said_junctions (Ok j) = gives (j.set ∷ j.rows ∷ [])
+said_junctions (Err r) = said_refusal r
 
 -- Yes is 1, no is 0.
-abbrev pub said_class : Class → Said
-said_class class.Same = gives (1 ∷ [])
-said_class class.Different = gives (0 ∷ [])
-said_class (class.Refused r) = said_refusal r
+abbrev pub said_class : Result Bool Refusal → Said
+said_class (Ok true) = gives (1 ∷ [])
+said_class (Ok false) = gives (0 ∷ [])
+said_class (Err r) = said_refusal r
 
--- 0 equal, 1 lower, 2 higher, 3 neither.
-abbrev pub said_weights : Weights → Said
-said_weights weights.Equal = gives (0 ∷ [])
-said_weights weights.Lower = gives (1 ∷ [])
-said_weights weights.Higher = gives (2 ∷ [])
-said_weights weights.Neither = gives (3 ∷ [])
-said_weights (weights.Refused r) = said_refusal r
-
--- The elements written.
-abbrev pub said_written : Written → Said
-said_written (written.Elements n) = gives (n ∷ [])
-said_written (written.Refused r) = said_refusal r
-
--- The new used count.
-abbrev pub said_used : Used → Said
-said_used (used.Cells n) = gives (n ∷ [])
-said_used (used.Refused r) = said_refusal r
+-- The first weight against the second: 0 equal, 1 lower, 2 higher, 3 neither.
+abbrev pub said_weights : Result (Option Ordering) Refusal → Said
+said_weights (Ok (Some Equal)) = gives (0 ∷ [])
+said_weights (Ok (Some Less)) = gives (1 ∷ [])
+said_weights (Ok (Some Greater)) = gives (2 ∷ [])
+said_weights (Ok None) = gives (3 ∷ [])
+said_weights (Err r) = said_refusal r
 
 -- Letter, row and column; no value for "no such cell".
-abbrev pub said_cell : Cell → Said
-said_cell (cell.Found letter row column) = gives (letter ∷ row ∷ column ∷ [])
-said_cell cell.NoSuchCell = gives []
-said_cell (cell.Refused r) = said_refusal r
+abbrev pub said_cell : Result (Option Cell) Refusal → Said
+said_cell (Ok (Some c)) = gives (c.letter ∷ c.row ∷ c.column ∷ [])
+said_cell (Ok None) = gives []
+said_cell (Err r) = said_refusal r
 
 -- Rank and number of letters or cells.
-abbrev pub said_read_line : ReadLine → Said
-said_read_line (read_line.Values n l) = gives (n ∷ l ∷ [])
-said_read_line (read_line.Refused r) = said_refusal r
+abbrev pub said_sizes : Result Sizes Refusal → Said
+said_sizes (Ok s) = gives (s.rank ∷ s.count ∷ [])
+said_sizes (Err r) = said_refusal r

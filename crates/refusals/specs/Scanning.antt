@@ -5,15 +5,13 @@
 --     fault_said, fault_decides    the verdict from the fault that was found
 -- Assumes nothing.
 use Prim.Native.Nat.{ℕ, zero, suc, ◌+◌, ◌-◌, ◌<◌, ◌≤◌}
-use Rattle.std.specs.Prelude.{◌≡◌, refl, Bool, true, false, []}
+use Rattle.std.specs.Prelude.{◌≡◌, refl, Bool, true, false, [], Result, Option, Some}
 use Rattle.std.proofs.Math.Path.{sym}
 use Rattle.std.proofs.Common.{ap, ap₂, ◌∙◌, add-one}
 use native.Mathlib.Omega.{arith}
 use Rattle.outcomes.specs.Replies.{Said, gives, refused, passed, refuse_if}
 use Rattle.outcomes.specs.FirstPlaces.{scan}
-use Rattle.refusals.specs.declared.answers.Verdict.{Verdict}
-use Rattle.refusals.specs.declared.answers.Fault.{Fault}
-use Rattle.refusals.specs.declared.answers.Fault.TheVariants.{At}
+use Rattle.refusals.specs.declared.refusal.Refusal.{Refusal}
 use Rattle.refusals.specs.Said.{said_fault, said_verdict}
 
 unfoldable pub scan_from : ℕ → (ℕ → Bool) → ℕ → ℕ → Said
@@ -61,9 +59,9 @@ module _ {k : ℕ} {fault : ℕ → Bool} {size : ℕ} {whole : Said} {i : ℕ} 
 -- ---- the verdict from the fault that was found
 
 -- A fault at a place says so.
-pub fault_said : {f : Fault} (k p : ℕ) → f ≡ At p → refused k p ≡ said_fault k f
+pub fault_said : {f : Option ℕ} (k p : ℕ) → f ≡ Some p → refused k p ≡ said_fault k f
 fault_said k p e = rw e
 
 -- The verdict of the fault that a check looks for is that of the check.
-pub fault_decides : (v : Verdict) (f : Fault) (k : ℕ) (s : Said) → said_verdict v ≡ said_fault k f → said_fault k f ≡ s → said_verdict v ≡ s
+pub fault_decides : (v : Result (Unit {0}) Refusal) (f : Option ℕ) (k : ℕ) (s : Said) → said_verdict v ≡ said_fault k f → said_fault k f ≡ s → said_verdict v ≡ s
 fault_decides v f k s e h = e ∙ h

@@ -1,10 +1,10 @@
-// The refusals of document 01's table ("Returned instead of a result") and those that document 02 adds, and the one function that turns a refusal into number
-// and place.
+// The refusals of document 01's table ("Returned instead of a result") and those that document 02 adds, and the one conversion of a refusal to number and
+// place.
 ghost use Rattle.std.specs.Prelude.{◌≡◌};
 ghost use Rattle.refusals.specs.Said.{number, place};
 
 // One case for each row of the tables, with the place or the need where the row has one.
-#[derive(Clone, Copy)]
+#[derive(Clone, Copy, Debug, PartialEq, Eq)]
 pub enum Refusal {
     // 1: the rank is not 1 to 64.
     Rank,
@@ -49,75 +49,77 @@ pub enum Refusal {
 }
 
 // A refusal as number and place, as the documents fix them.
-#[derive(Clone, Copy)]
+#[derive(Clone, Copy, Debug, PartialEq, Eq)]
 pub struct Returned {
     pub number: usize,
     pub place: usize,
 }
 
 // The only place in code where a refusal becomes a number.
-pub fn number_and_place(refusal: Refusal) -> Returned
-    ensures { (result.number ≡ number refusal) × (result.place ≡ place refusal) }
-{
-    match refusal {
-        Refusal::Rank => Returned {
-            number: 1,
-            place: 0,
-        },
-        Refusal::Length => Returned {
-            number: 2,
-            place: 0,
-        },
-        Refusal::Parts => Returned {
-            number: 3,
-            place: 0,
-        },
-        Refusal::Letter(place) => Returned { number: 4, place },
-        Refusal::Falling(place) => Returned { number: 5, place },
-        Refusal::Mark(place) => Returned { number: 6, place },
-        Refusal::Entry(place) => Returned { number: 7, place },
-        Refusal::Step(place) => Returned { number: 8, place },
-        Refusal::Index => Returned {
-            number: 9,
-            place: 0,
-        },
-        Refusal::Inversion => Returned {
-            number: 10,
-            place: 0,
-        },
-        Refusal::NoLetter => Returned {
-            number: 11,
-            place: 0,
-        },
-        Refusal::Full => Returned {
-            number: 12,
-            place: 1024,
-        },
-        Refusal::Room(need) => Returned {
-            number: 13,
-            place: need,
-        },
-        Refusal::Line(place) => Returned { number: 14, place },
-        Refusal::Large => Returned {
-            number: 15,
-            place: 0,
-        },
-        Refusal::PastLast => Returned {
-            number: 16,
-            place: 0,
-        },
-        Refusal::Count(place) => Returned { number: 17, place },
-        Refusal::Empty => Returned {
-            number: 18,
-            place: 0,
-        },
-        Refusal::Item(index) => Returned {
-            number: 19,
-            place: index,
-        },
-        Refusal::Sum => Returned {
-            number: 20,
-            place: 0,
-        },
+impl From<Refusal> for Returned {
+    ghost from_gives = { λ r told. (told.number ≡ number r) × (told.place ≡ place r) };
+
+    fn from(refusal: Refusal) -> Returned {
+        match refusal {
+            Refusal::Rank => Returned {
+                number: 1,
+                place: 0,
+            },
+            Refusal::Length => Returned {
+                number: 2,
+                place: 0,
+            },
+            Refusal::Parts => Returned {
+                number: 3,
+                place: 0,
+            },
+            Refusal::Letter(place) => Returned { number: 4, place },
+            Refusal::Falling(place) => Returned { number: 5, place },
+            Refusal::Mark(place) => Returned { number: 6, place },
+            Refusal::Entry(place) => Returned { number: 7, place },
+            Refusal::Step(place) => Returned { number: 8, place },
+            Refusal::Index => Returned {
+                number: 9,
+                place: 0,
+            },
+            Refusal::Inversion => Returned {
+                number: 10,
+                place: 0,
+            },
+            Refusal::NoLetter => Returned {
+                number: 11,
+                place: 0,
+            },
+            Refusal::Full => Returned {
+                number: 12,
+                place: 1024,
+            },
+            Refusal::Room(need) => Returned {
+                number: 13,
+                place: need,
+            },
+            Refusal::Line(place) => Returned { number: 14, place },
+            Refusal::Large => Returned {
+                number: 15,
+                place: 0,
+            },
+            Refusal::PastLast => Returned {
+                number: 16,
+                place: 0,
+            },
+            Refusal::Count(place) => Returned { number: 17, place },
+            Refusal::Empty => Returned {
+                number: 18,
+                place: 0,
+            },
+            Refusal::Item(index) => Returned {
+                number: 19,
+                place: index,
+            },
+            Refusal::Sum => Returned {
+                number: 20,
+                place: 0,
+            },
+        }
     }
 }

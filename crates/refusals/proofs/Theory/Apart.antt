@@ -1,42 +1,23 @@
--- What an answer says fixes the answer: no two cases of an enum say the same in the documents' numbers. So a promise that fixes what is said fixes the reply.
--- Each answer is found again from what it says.
+-- What an answer says fixes the answer: no two answers say the same in the documents' numbers. So a promise that fixes what is said fixes the reply. Each
+-- answer is found again from what it says.
 --     refusal_apart                                                     refusals by number and place
 --     fault_apart                                                       the faults that a scan for one refusal finds
---     verdict_apart, move_apart, repeat_apart, junctions_apart, numbered_apart, class_apart, weights_apart, written_apart,
---     used_apart, cell_apart, read_line_apart     the answers
+--     verdict_apart, value_apart, junctions_apart, class_apart, weights_apart, cell_apart, sizes_apart     the answers
 -- Assumes nothing.
 use Prim.Native.Nat.{ℕ, ◌-◌}
 use mathlib.Core.Path.{◌≡◌, refl, sym, ap, ◌∙◌}
 use mathlib.Core.List.{List, [], ◌∷◌}
 use lib.ListN.{get_or}
+use Rattle.std.specs.Prelude.{Bool, true, false, Option, Some, None, Result, Ok, Err}
+use Rattle.std.specs.declared.cmp.Ordering.{Ordering}
+use Rattle.std.specs.declared.cmp.Ordering.TheVariants.{Less, Equal, Greater}
 use Rattle.outcomes.specs.Replies.{Said, gives, refused}
 use Rattle.refusals.specs.declared.refusal.Refusal.{Refusal}
 use Rattle.refusals.specs.declared.refusal.Refusal.TheVariants.{Rank, Length, Parts, Letter, Falling, Mark, Entry, Step, Index, Inversion, NoLetter, Full, Room, Line, Large, PastLast, Count, Empty, Item, Sum}
-use Rattle.refusals.specs.declared.answers.Verdict.{Verdict}
-use Rattle.refusals.specs.declared.answers.Verdict.TheVariants as verdict
-use Rattle.refusals.specs.declared.answers.Fault.{Fault}
-use Rattle.refusals.specs.declared.answers.Fault.TheVariants as fault
-use Rattle.refusals.specs.declared.answers.Move.{Move}
-use Rattle.refusals.specs.declared.answers.Move.TheVariants as move
-use Rattle.refusals.specs.declared.answers.Repeat.{Repeat}
-use Rattle.refusals.specs.declared.answers.Repeat.TheVariants as repeat
 use Rattle.refusals.specs.declared.answers.Junctions.{Junctions}
-use Rattle.refusals.specs.declared.answers.Junctions.TheVariants as junctions
-use Rattle.refusals.specs.declared.answers.Numbered.{Numbered}
-use Rattle.refusals.specs.declared.answers.Numbered.TheVariants as numbered
-use Rattle.refusals.specs.declared.answers.Class.{Class}
-use Rattle.refusals.specs.declared.answers.Class.TheVariants as class
-use Rattle.refusals.specs.declared.answers.Weights.{Weights}
-use Rattle.refusals.specs.declared.answers.Weights.TheVariants as weights
-use Rattle.refusals.specs.declared.answers.Written.{Written}
-use Rattle.refusals.specs.declared.answers.Written.TheVariants as written
-use Rattle.refusals.specs.declared.answers.Used.{Used}
-use Rattle.refusals.specs.declared.answers.Used.TheVariants as used
 use Rattle.refusals.specs.declared.answers.Cell.{Cell}
-use Rattle.refusals.specs.declared.answers.Cell.TheVariants as cell
-use Rattle.refusals.specs.declared.answers.ReadLine.{ReadLine}
-use Rattle.refusals.specs.declared.answers.ReadLine.TheVariants as read_line
-use Rattle.refusals.specs.Said.{number, place, said_refusal, said_fault, said_verdict, said_move, said_repeat, said_junctions, said_numbered, said_class, said_weights, said_written, said_used, said_cell, said_read_line}
+use Rattle.refusals.specs.declared.answers.Sizes.{Sizes}
+use Rattle.refusals.specs.Said.{number, place, said_refusal, said_fault, said_verdict, said_value, said_junctions, said_class, said_weights, said_cell, said_sizes}
 
 -- What can be found again is told apart.
 apart : {A : Type 0} (said : A → Said) (back : Said → A) → ((a : A) → back (said a) ≡ a) → (a b : A) → said a ≡ said b → a ≡ b
@@ -86,113 +67,99 @@ unfolding answer
 refusal_apart = apart said_refusal (answer (λ vs. Rank) (λ r. r)) row_of
 
 -- A fault from what it says.
-fault_of : Said → Fault
-fault_of (gives vs) = fault.Nowhere
-fault_of (refused k p) = fault.At p
+fault_of : Said → Option ℕ
+fault_of (gives vs) = None
+fault_of (refused k p) = Some p
 
-fault_again : (k : ℕ) (f : Fault) → fault_of (said_fault k f) ≡ f
+fault_again : (k : ℕ) (f : Option ℕ) → fault_of (said_fault k f) ≡ f
 unfolding fault_of
-fault_again k (fault.At p) = refl
-fault_again k fault.Nowhere = refl
+fault_again k (Some p) = refl
+fault_again k None = refl
 
-pub fault_apart : (k : ℕ) (f g : Fault) → said_fault k f ≡ said_fault k g → f ≡ g
+pub fault_apart : (k : ℕ) (f g : Option ℕ) → said_fault k f ≡ said_fault k g → f ≡ g
 fault_apart k = apart (said_fault k) fault_of (fault_again k)
 
--- ---- answers: each is found again from its values or from the refusal that it passes on
+-- ---- answers: each is found again from its values or from its refusal
 
-verdict_again : (a : Verdict) → answer (λ vs. verdict.Passed) verdict.Refused (said_verdict a) ≡ a
-unfolding answer
-verdict_again verdict.Passed = refl
-verdict_again (verdict.Refused r) = ap verdict.Refused (row_of r)
+answer_of : {A : Type 0} → (List ℕ → A) → Said → Result A Refusal
+answer_of value = answer (λ vs. Ok (value vs)) Err
 
-pub verdict_apart : (a b : Verdict) → said_verdict a ≡ said_verdict b → a ≡ b
-verdict_apart = apart said_verdict (answer (λ vs. verdict.Passed) verdict.Refused) verdict_again
+verdict_again : (a : Result (Unit {0}) Refusal) → answer_of (λ vs. tt) (said_verdict a) ≡ a
+unfolding answer answer_of
+verdict_again (Ok u) = refl
+verdict_again (Err r) = ap Err (row_of r)
 
-move_again : (a : Move) → answer (λ vs. move.Made (get_or vs 0 0)) move.Refused (said_move a) ≡ a
-unfolding answer
-move_again (move.Made p) = refl
-move_again (move.Refused r) = ap move.Refused (row_of r)
+pub verdict_apart : (a b : Result (Unit {0}) Refusal) → said_verdict a ≡ said_verdict b → a ≡ b
+verdict_apart = apart said_verdict (answer_of (λ vs. tt)) verdict_again
 
-pub move_apart : (a b : Move) → said_move a ≡ said_move b → a ≡ b
-move_apart = apart said_move (answer (λ vs. move.Made (get_or vs 0 0)) move.Refused) move_again
+value_of : List ℕ → ℕ
+value_of vs = get_or vs 0 0
 
-repeat_again : (a : Repeat) → answer (λ vs. repeat.Times (get_or vs 0 0)) repeat.Refused (said_repeat a) ≡ a
-unfolding answer
-repeat_again (repeat.Times n) = refl
-repeat_again (repeat.Refused r) = ap repeat.Refused (row_of r)
+value_again : (a : Result ℕ Refusal) → answer_of value_of (said_value a) ≡ a
+unfolding answer answer_of value_of
+value_again (Ok n) = refl
+value_again (Err r) = ap Err (row_of r)
 
-pub repeat_apart : (a b : Repeat) → said_repeat a ≡ said_repeat b → a ≡ b
-repeat_apart = apart said_repeat (answer (λ vs. repeat.Times (get_or vs 0 0)) repeat.Refused) repeat_again
+pub value_apart : (a b : Result ℕ Refusal) → said_value a ≡ said_value b → a ≡ b
+value_apart = apart said_value (answer_of value_of) value_again
 
-junctions_again : (a : Junctions) → answer (λ vs. junctions.Found (get_or vs 0 0) (get_or vs 1 0)) junctions.Refused (said_junctions a) ≡ a
-unfolding answer
-junctions_again (junctions.Found set rows) = refl
-junctions_again (junctions.Refused r) = ap junctions.Refused (row_of r)
+junctions_of : List ℕ → Junctions
+junctions_of vs = record { set = get_or vs 0 0; rows = get_or vs 1 0 }
 
-pub junctions_apart : (a b : Junctions) → said_junctions a ≡ said_junctions b → a ≡ b
-junctions_apart = apart said_junctions (answer (λ vs. junctions.Found (get_or vs 0 0) (get_or vs 1 0)) junctions.Refused) junctions_again
+junctions_again : (a : Result Junctions Refusal) → answer_of junctions_of (said_junctions a) ≡ a
+unfolding answer answer_of junctions_of
+junctions_again (Ok j) = refl
+junctions_again (Err r) = ap Err (row_of r)
 
-numbered-again : (a : Numbered) → answer (λ vs. numbered.Number (get_or vs 0 0)) numbered.Refused (said_numbered a) ≡ a
-unfolding answer
-numbered-again (numbered.Number k) = refl
-numbered-again (numbered.Refused r) = ap numbered.Refused (row_of r)
+pub junctions_apart : (a b : Result Junctions Refusal) → said_junctions a ≡ said_junctions b → a ≡ b
+junctions_apart = apart said_junctions (answer_of junctions_of) junctions_again
 
-pub numbered_apart : (a b : Numbered) → said_numbered a ≡ said_numbered b → a ≡ b
-numbered_apart = apart said_numbered (answer (λ vs. numbered.Number (get_or vs 0 0)) numbered.Refused) numbered-again
+class_of : List ℕ → Bool
+class_of vs = get_or (false ∷ true ∷ []) (get_or vs 0 0) false
 
-class_again : (a : Class) → answer (λ vs. get_or (class.Different ∷ class.Same ∷ []) (get_or vs 0 0) class.Same) class.Refused (said_class a) ≡ a
-unfolding answer
-class_again class.Same = refl
-class_again class.Different = refl
-class_again (class.Refused r) = ap class.Refused (row_of r)
+class_again : (a : Result Bool Refusal) → answer_of class_of (said_class a) ≡ a
+unfolding answer answer_of class_of
+class_again (Ok true) = refl
+class_again (Ok false) = refl
+class_again (Err r) = ap Err (row_of r)
 
-pub class_apart : (a b : Class) → said_class a ≡ said_class b → a ≡ b
-class_apart = apart said_class (answer (λ vs. get_or (class.Different ∷ class.Same ∷ []) (get_or vs 0 0) class.Same) class.Refused) class_again
+pub class_apart : (a b : Result Bool Refusal) → said_class a ≡ said_class b → a ≡ b
+class_apart = apart said_class (answer_of class_of) class_again
 
-weights_again : (a : Weights) → answer (λ vs. get_or (weights.Equal ∷ weights.Lower ∷ weights.Higher ∷ weights.Neither ∷ []) (get_or vs 0 0) weights.Equal) weights.Refused (said_weights a) ≡ a
-unfolding answer
-weights_again weights.Equal = refl
-weights_again weights.Lower = refl
-weights_again weights.Higher = refl
-weights_again weights.Neither = refl
-weights_again (weights.Refused r) = ap weights.Refused (row_of r)
+weights_of : List ℕ → Option Ordering
+weights_of vs = get_or (Some Equal ∷ Some Less ∷ Some Greater ∷ None ∷ []) (get_or vs 0 0) None
 
-pub weights_apart : (a b : Weights) → said_weights a ≡ said_weights b → a ≡ b
-weights_apart = apart said_weights (answer (λ vs. get_or (weights.Equal ∷ weights.Lower ∷ weights.Higher ∷ weights.Neither ∷ []) (get_or vs 0 0) weights.Equal) weights.Refused) weights_again
+weights_again : (a : Result (Option Ordering) Refusal) → answer_of weights_of (said_weights a) ≡ a
+unfolding answer answer_of weights_of
+weights_again (Ok (Some Equal)) = refl
+weights_again (Ok (Some Less)) = refl
+weights_again (Ok (Some Greater)) = refl
+weights_again (Ok None) = refl
+weights_again (Err r) = ap Err (row_of r)
 
-written-again : (a : Written) → answer (λ vs. written.Elements (get_or vs 0 0)) written.Refused (said_written a) ≡ a
-unfolding answer
-written-again (written.Elements n) = refl
-written-again (written.Refused r) = ap written.Refused (row_of r)
+pub weights_apart : (a b : Result (Option Ordering) Refusal) → said_weights a ≡ said_weights b → a ≡ b
+weights_apart = apart said_weights (answer_of weights_of) weights_again
 
-pub written_apart : (a b : Written) → said_written a ≡ said_written b → a ≡ b
-written_apart = apart said_written (answer (λ vs. written.Elements (get_or vs 0 0)) written.Refused) written-again
+cell_of : List ℕ → Option Cell
+cell_of [] = None
+cell_of (letter ∷ vs) = Some (record { letter = letter; row = get_or vs 0 0; column = get_or vs 1 0 })
 
-used_again : (a : Used) → answer (λ vs. used.Cells (get_or vs 0 0)) used.Refused (said_used a) ≡ a
-unfolding answer
-used_again (used.Cells n) = refl
-used_again (used.Refused r) = ap used.Refused (row_of r)
+cell_again : (a : Result (Option Cell) Refusal) → answer_of cell_of (said_cell a) ≡ a
+unfolding answer answer_of cell_of
+cell_again (Ok (Some c)) = refl
+cell_again (Ok None) = refl
+cell_again (Err r) = ap Err (row_of r)
 
-pub used_apart : (a b : Used) → said_used a ≡ said_used b → a ≡ b
-used_apart = apart said_used (answer (λ vs. used.Cells (get_or vs 0 0)) used.Refused) used_again
+pub cell_apart : (a b : Result (Option Cell) Refusal) → said_cell a ≡ said_cell b → a ≡ b
+cell_apart = apart said_cell (answer_of cell_of) cell_again
 
-cell_of : List ℕ → Cell
-cell_of [] = cell.NoSuchCell
-cell_of (letter ∷ vs) = cell.Found letter (get_or vs 0 0) (get_or vs 1 0)
+sizes_of : List ℕ → Sizes
+sizes_of vs = record { rank = get_or vs 0 0; count = get_or vs 1 0 }
 
-cell-again : (a : Cell) → answer cell_of cell.Refused (said_cell a) ≡ a
-unfolding answer cell_of
-cell-again (cell.Found letter row column) = refl
-cell-again cell.NoSuchCell = refl
-cell-again (cell.Refused r) = ap cell.Refused (row_of r)
+sizes_again : (a : Result Sizes Refusal) → answer_of sizes_of (said_sizes a) ≡ a
+unfolding answer answer_of sizes_of
+sizes_again (Ok s) = refl
+sizes_again (Err r) = ap Err (row_of r)
 
-pub cell_apart : (a b : Cell) → said_cell a ≡ said_cell b → a ≡ b
-cell_apart = apart said_cell (answer cell_of cell.Refused) cell-again
-
-read_line-again : (a : ReadLine) → answer (λ vs. read_line.Values (get_or vs 0 0) (get_or vs 1 0)) read_line.Refused (said_read_line a) ≡ a
-unfolding answer
-read_line-again (read_line.Values n l) = refl
-read_line-again (read_line.Refused r) = ap read_line.Refused (row_of r)
-
-pub read_line_apart : (a b : ReadLine) → said_read_line a ≡ said_read_line b → a ≡ b
-read_line_apart = apart said_read_line (answer (λ vs. read_line.Values (get_or vs 0 0) (get_or vs 1 0)) read_line.Refused) read_line-again
+pub sizes_apart : (a b : Result Sizes Refusal) → said_sizes a ≡ said_sizes b → a ≡ b
+sizes_apart = apart said_sizes (answer_of sizes_of) sizes_again
