@@ -1,19 +1,15 @@
 -- Single bytes at a place of the text: what is left there is the text without the bytes before it.
 --     le-or-lt                       order is decided
 --     starts_with k t                 the byte k stands first in t
---     digit_of t                      the digit that stands first in t, 10 where none does
---     Digit t d                      d tells the digit that stands first in t, or that none does; digit_told: a remainder does
+--     digit_of t                      the digit that stands first in t, if one does
 --     starts_inside, digit_inside    where a byte or a digit stands is in the text
 --     left_there                     what is left there begins with the byte at that place
 --     after_there, after_none        a byte that the grammar asks for, and what follows
 --     starts_within, next_fits       the place after it is in the text, and fits 64 bits
---     seeking                        the ruleset of single bytes
 -- Assumes nothing.
-use Rattle.std.specs.Prelude.{ℕ, ◌+◌, ◌-◌, ◌%◌, ◌^◌, ◌≤◌, ◌<◌, min, ◌≡◌, refl, Bool, true, false, cond, ◌⊎◌, List, [], ◌∷◌, eqb, leb, length, get_or, drop}
-use Rattle.std.proofs.Common.{sym, ◌∙◌, true≢false, inl, inr, ⊎_elim, add-one, arith, drop_of_length-le, drop-cons, Fits, rules, le-leb, leb-false, leb-true}
-use Rattle.std.proofs.Math.Nat.{min-eq_left, min-eq_right}
-use Rattle.std.specs.Int.{w8, w64}
-use Rattle.std.proofs.lemmas.Bool.{lt-leb}
+use Rattle.std.specs.Prelude.{ℕ, ◌+◌, ◌-◌, ◌^◌, ◌≤◌, ◌<◌, ◌≡◌, refl, Bool, true, false, cond, ◌⊎◌, List, [], ◌∷◌, Option, Some, None, eqb, leb, length, get_or, drop}
+use Rattle.std.proofs.Common.{sym, ◌∙◌, true≢false, inl, inr, ⊎_elim, add-one, arith, drop_of_length-le, drop-cons, Fits, leb-false, leb-true}
+use Rattle.std.specs.Int.{w64}
 use Rattle.grammar.specs.Reading.{Read, after, broken, digit}
 
 -- Order is decided.
@@ -29,14 +25,10 @@ abbrev pub starts_with : ℕ → List ℕ → Bool
 starts_with k [] = false
 starts_with k (b ∷ t) = eqb b k
 
--- The digit that stands first, 10 for none.
-abbrev pub digit_of : List ℕ → ℕ
-digit_of [] = 10
-digit_of (b ∷ t) = cond (digit b) (b - 48) 10
-
--- A number tells the digit that stands first by itself, and by one above 9 that none does.
-pub record Digit (t : List ℕ) (d : ℕ) : Type 0 where
-  pub is : min d 10 ≡ digit_of t
+-- The digit that stands first.
+abbrev pub digit_of : List ℕ → Option ℕ
+digit_of [] = None
+digit_of (b ∷ t) = cond (digit b) (Some (b - 48)) None
 
 module _ (text : List ℕ) (at : ℕ) where
   -- No byte stands beyond the text,
@@ -47,32 +39,8 @@ module _ (text : List ℕ) (at : ℕ) where
   pub stands_byte : (k : ℕ) → at < length text → eqb (get_or text at 0) k ≡ starts_with k (drop at text)
   stands_byte k l = rw (drop-cons text at 0 l)
 
-  none_there : length text ≤ at → 10 ≡ digit_of (drop at text)
-  none_there l = rw (drop_of_length-le text l)
-
-  pub digit_none : length text ≤ at → Digit (drop at text) 10
-  digit_none l = record { is = none_there l }
-
-  pub digit_byte : {d : ℕ} → at < length text → Digit (get_or text at 0 ∷ []) d → Digit (drop at text) d
-  digit_byte l e = record { is = e.is ∙ rw (drop-cons text at 0 l) }
-
--- A remainder tells whether a byte is a digit, and which.
-pub digit_told : (b : ℕ) → Fits w8 b → Digit (b ∷ []) ((b + 208) % 256)
-digit_told b f = record { is = ⊎_elim (λ l. above (le-or-lt b 57) l) below (le-or-lt 48 b) }
-  where
-    above : (b ≤ 57) ⊎ (57 < b) → 48 ≤ b → min ((b + 208) % 256) 10 ≡ digit_of (b ∷ [])
-    above (inl h) l =
-        let is : (b + 208) % 256 ≡ b - 48 = omega (arith, f.fits) in
-        let few : b - 48 ≤ 10 = omega arith in
-        rw (le-leb 48 b l, le-leb b 57 h, is) (min-eq_left few)
-    above (inr h) l =
-        let many : 10 ≤ (b + 208) % 256 = omega (arith, f.fits) in
-        rw (le-leb 48 b l, lt-leb b 57 h) (min-eq_right many)
-
-    below : b < 48 → min ((b + 208) % 256) 10 ≡ digit_of (b ∷ [])
-    below h = let many : 10 ≤ (b + 208) % 256 = omega (arith, f.fits) in rw (lt-leb 48 b h) (min-eq_right many)
-
-pub ruleset seeking = (stands_none, stands_byte, digit_none, digit_byte, digit_told, rules)
+  pub digit_none : length text ≤ at → None ≡ digit_of (drop at text)
+  digit_none l = rw (drop_of_length-le text l)
 
 -- Where a byte or a digit stands is in the text.
 module _ (text : List ℕ) (at : ℕ) where
@@ -80,8 +48,8 @@ module _ (text : List ℕ) (at : ℕ) where
   starts_inside k e =
       ⊎_elim (λ l. let z : false ≡ true = stands_none text at k l ∙ e in absurd (true≢false (sym z))) (λ l. l) (le-or-lt (length text) at)
 
-  pub digit_inside : digit_of (drop at text) ≤ 9 → at < length text
-  digit_inside h = ⊎_elim (λ l. let e : 10 ≡ digit_of (drop at text) = none_there text at l in let z : ⊥ = omega arith in absurd z) (λ l. l) (le-or-lt (length text) at)
+  pub digit_inside : {d : ℕ} → Some d ≡ digit_of (drop at text) → at < length text
+  digit_inside e = ⊎_elim (λ l. let z : ⊥ = cc (digit_none text at l) in absurd z) (λ l. l) (le-or-lt (length text) at)
 
   -- What is left there begins with the byte at that place.
   pub left_there : at < length text → drop at text ≡ get_or text at 0 ∷ drop (at + 1) text

@@ -2,21 +2,19 @@
 --     Told text x s p          the reading x is what s says, at the place p of the text
 --     said_number, number_place  what a number that was read, or a break, says in the grammar's terms, and its place
 --     Numbered text x r        r says the reading x
---     number_got, number_not   what it says by its cases
 --     left_within              past the end of the text no more is left than at its end
 --     Digiting                 the loop over further digits: what is left of them gives the whole
---     numbering                the ruleset of numbers
 -- Single bytes are in Bytes. Assumes nothing.
-use Rattle.std.specs.Prelude.{ℕ, zero, suc, ◌+◌, ◌-◌, ◌*◌, ◌^◌, ◌≤◌, ◌<◌, min, ◌≡◌, refl, Bool, true, false, cond, List, [], ◌∷◌, length, get_or, drop}
-use Rattle.std.proofs.Common.{sym, ap, ◌∙◌, true≢false, arith, drop_of_length-le, Fits, rules, eq-eqb, ne_eqb}
+use Rattle.std.specs.Prelude.{ℕ, zero, suc, ◌+◌, ◌-◌, ◌*◌, ◌^◌, ◌≤◌, ◌<◌, min, ◌≡◌, refl, Bool, true, false, cond, List, [], ◌∷◌, Some, None, Result, Ok, Err, length, get_or, drop}
+use Rattle.std.proofs.Common.{sym, ap, ◌∙◌, true≢false, arith, drop_of_length-le, Fits, eq-eqb, ne_eqb}
 use Rattle.std.proofs.Math.Decide.{dec_le}
 use Rattle.std.proofs.Math.Nat.{min-eq_left, min-eq_right}
 use Rattle.std.specs.Int.{w16}
 use Rattle.grammar.specs.Reading.{Read, broken, digit, further_digits, got, more_digits, read_field, read_number}
 use Rattle.grammar.proofs.Theory.NumbersExact.{digit_range}
-use Rattle.numerals.specs.Bytes.{Digit, after_none, after_there, digit_inside, digit_of, left_there, next_fits, starts_within, starts_with}
+use Rattle.numerals.specs.Bytes.{after_none, after_there, digit_inside, digit_of, left_there, starts_with}
+use Rattle.numerals.specs.declared.numbers.Broken.{Broken}
 use Rattle.numerals.specs.declared.numbers.Number.{Number}
-use Rattle.numerals.specs.declared.numbers.Number.TheVariants as number
 
 -- ---- what was read
 
@@ -26,78 +24,60 @@ pub record Told {A : Type 0} (text : List ℕ) (reading said : Read A) (place : 
   pub within : place ≤ length text
 
 -- A number that was read, or a break, in the grammar's terms.
-abbrev pub said_number : List ℕ → Number → Read ℕ
-said_number text (number.Read v next) = got v (drop next text)
-said_number text (number.Broken p) = broken (drop p text)
+abbrev pub said_number : List ℕ → Result Number Broken → Read ℕ
+said_number text (Ok n) = got n.value (drop n.next text)
+said_number text (Err b) = broken (drop b.place text)
 
 -- The place after it, or of the break.
-abbrev pub number_place : Number → ℕ
-number_place (number.Read v next) = next
-number_place (number.Broken p) = p
+abbrev pub number_place : Result Number Broken → ℕ
+number_place (Ok n) = n.next
+number_place (Err b) = b.place
 
 -- It says a reading.
-abbrev pub Numbered : List ℕ → Read ℕ → Number → Type 0
+abbrev pub Numbered : List ℕ → Read ℕ → Result Number Broken → Type 0
 Numbered text reading r = Told text reading (said_number text r) (number_place r)
-
-module _ (text : List ℕ) (reading : Read ℕ) {r : Number} (h : Numbered text reading r) where
-  pub number_got : {v next : ℕ} → r ≡ number.Read v next → Told text reading (got v (drop next text)) next
-  number_got e = rw e at h
-
-  pub number_not : {p : ℕ} → r ≡ number.Broken p → Told text reading (broken (drop p text)) p
-  number_not e = rw e at h
 
 -- ---- digits
 
-digit_is : (b : ℕ) (t : List ℕ) → digit_of (b ∷ t) ≤ 9 → digit b ≡ true
-digit_is b t h = go (digit b) h
-  where
-    go : (d : Bool) → cond d (b - 48) 10 ≤ 9 → d ≡ true
-    go true h = refl
-    go false h = let z : ⊥ = omega arith in absurd z
-
-digit_not : (b : ℕ) (t : List ℕ) → 9 < digit_of (b ∷ t) → digit b ≡ false
-digit_not b t h = go (digit b) refl h
-  where
-    go : (d : Bool) → digit b ≡ d → 9 < cond d (b - 48) 10 → d ≡ false
-    go true e h = let (low, high) = digit_range b e in let z : ⊥ = omega arith in absurd z
-    go false e h = refl
-
--- What a number up to 9 tells, and one above 9.
-digit_small : (t : List ℕ) {d : ℕ} → Digit t d → d ≤ 9 → d ≡ digit_of t
-digit_small t {d} told h = let l : d ≤ 10 = omega arith in sym (min-eq_left l) ∙ told.is
-
-digit_large : (t : List ℕ) {d : ℕ} → Digit t d → 9 < d → 9 < digit_of t
-digit_large t {d} told h = let l : 10 ≤ d = omega arith in let e : 10 ≡ digit_of t = sym (min-eq_right l) ∙ told.is in omega arith
-
 -- A digit that stands first.
-module _ (b d : ℕ) (t : List ℕ) (is : d ≡ digit_of (b ∷ t)) (h : d ≤ 9) where
-  digit_value : b ≡ 48 + d
-  digit_value =
-      let e : digit b ≡ true = digit_is b t (rw is at h) in
-      let (low, high) = digit_range b e in
-      let v : d ≡ b - 48 = rw e at is in
-      omega arith
+module _ (b d : ℕ) (t : List ℕ) (is : Some d ≡ digit_of (b ∷ t)) where
+  digit_here : (digit b ≡ true) × (b ≡ 48 + d)
+  digit_here = go (digit b) refl is
+    where
+      go : (r : Bool) → digit b ≡ r → Some d ≡ cond r (Some (b - 48)) None → (digit b ≡ true) × (b ≡ 48 + d)
+      go true e h = let (low, high) = digit_range b e in let v : d ≡ b - 48 = cc in (e, omega arith)
+      go false e h = cc
+
+  digit_under : d < 10
+  digit_under = let (low, high) = digit_range b digit_here.0 in omega (arith, digit_here.1)
 
   zero_read : d ≡ 0 → read_number (b ∷ t) ≡ got 0 t
-  zero_read z = rw (eq-eqb b 48 (omega (arith, digit_value)))
+  zero_read z = rw (eq-eqb b 48 (omega (arith, digit_here.1)))
 
   begun_read : (d ≡ 0 → ⊥) → read_number (b ∷ t) ≡ more_digits further_digits d t
   begun_read z =
-      let v : b - 48 ≡ d = omega (arith, digit_value) in
-      rw (ne_eqb b 48 (λ e. z (omega (arith, digit_value))), digit_is b t (rw is at h)) (ap (λ (n : ℕ). more_digits further_digits n t) v)
+      let v : b - 48 ≡ d = omega (arith, digit_here.1) in
+      rw (ne_eqb b 48 (λ e. z (omega (arith, digit_here.1))), digit_here.0) (ap (λ (n : ℕ). more_digits further_digits n t) v)
 
   next_read : (k n : ℕ) → more_digits (suc k) n (b ∷ t) ≡ more_digits k (n * 10 + d) t
-  next_read k n = let v : b - 48 ≡ d = omega (arith, digit_value) in rw (digit_is b t (rw is at h), v)
+  next_read k n = let v : b - 48 ≡ d = omega (arith, digit_here.1) in rw (digit_here.0, v)
 
 -- No digit stands first.
-none_read : (t : List ℕ) → 9 < digit_of t → read_number t ≡ broken t
+digit_not : (b : ℕ) (t : List ℕ) → None ≡ digit_of (b ∷ t) → digit b ≡ false
+digit_not b t h = go (digit b) h
+  where
+    go : (r : Bool) → None ≡ cond r (Some (b - 48)) None → r ≡ false
+    go true h = cc
+    go false h = refl
+
+none_read : (t : List ℕ) → None ≡ digit_of t → read_number t ≡ broken t
 none_read [] h = refl
 none_read (b ∷ t) h =
     let e : digit b ≡ false = digit_not b t h in
     let apart : b ≡ 48 → ⊥ = λ q. true≢false (rw q at e) in
     rw (ne_eqb b 48 apart, e)
 
-last_read : (k n : ℕ) (t : List ℕ) → 9 < digit_of t → more_digits k n t ≡ got n t
+last_read : (k n : ℕ) (t : List ℕ) → None ≡ digit_of t → more_digits k n t ≡ got n t
 last_read zero n t h = refl
 last_read (suc k) n [] h = refl
 last_read (suc k) n (b ∷ t) h = rw (digit_not b t h)
@@ -127,28 +107,34 @@ module _ {text : List ℕ} {whole : Read ℕ} {left n at : ℕ} (g : Digiting te
   pub tenfold_fits : 0 < left → Fits w16 (n * 10)
   tenfold_fits l = let h : n < 1000 = few_digits left n l g.few g.short in omega arith
 
-  pub digit_fits : {d : ℕ} → 0 < left → d ≤ 9 → Fits w16 (n * 10 + d)
-  digit_fits l s = let h : n < 1000 = few_digits left n l g.few g.short in omega arith
-
   -- One digit more,
-  pub digits_turn : {d : ℕ} → 0 < left → Digit (drop at text) d → d ≤ 9 → Digiting text whole (left - 1) (n * 10 + d) (at + 1)
-  digits_turn {d} l told s =
-      let is : d ≡ digit_of (drop at text) = digit_small (drop at text) told s in
-      let inside : at < length text = digit_inside text at (rw is at s) in
-      let here : drop at text ≡ get_or text at 0 ∷ drop (at + 1) text = left_there text at inside in
-      let one : left ≡ suc (left - 1) = omega arith in
-      let more : 4 - (left - 1) ≡ suc (4 - left) = omega arith in
-      let whole_is : whole ≡ more_digits (suc (left - 1)) n (get_or text at 0 ∷ drop (at + 1) text) = rw (one, here) at g.left_over in
-      record {
-        left_over = whole_is ∙ next_read (get_or text at 0) d (drop (at + 1) text) (rw here at is) s (left - 1) n;
-        within = omega arith;
-        few = omega arith;
-        short = rw more (omega arith);
-      }
+  module _ {d : ℕ} (is : Some d ≡ digit_of (drop at text)) where
+    inside : at < length text
+    inside = digit_inside text at is
+
+    here : drop at text ≡ get_or text at 0 ∷ drop (at + 1) text
+    here = left_there text at inside
+
+    small : d < 10
+    small = digit_under (get_or text at 0) d (drop (at + 1) text) (rw here at is)
+
+    pub digit_fits : 0 < left → Fits w16 (n * 10 + d)
+    digit_fits l = let h : n < 1000 = few_digits left n l g.few g.short in omega (arith, small)
+
+    pub digits_turn : {less : ℕ} → left ≡ suc less → Digiting text whole less (n * 10 + d) (at + 1)
+    digits_turn {less} one =
+        let more : 4 - less ≡ suc (4 - left) = omega (arith, g.few) in
+        let whole_is : whole ≡ more_digits (suc less) n (get_or text at 0 ∷ drop (at + 1) text) = rw (one, here) at g.left_over in
+        record {
+          left_over = whole_is ∙ next_read (get_or text at 0) d (drop (at + 1) text) (rw here at is) less n;
+          within = omega (arith, inside);
+          few = omega (arith, g.few);
+          short = rw more (omega (arith, small, g.short));
+        }
 
   -- or none,
-  pub digits_stop : {d : ℕ} → Digit (drop at text) d → 9 < d → Told text whole (got n (drop at text)) at
-  digits_stop is h = record { says = g.left_over ∙ last_read left n (drop at text) (digit_large (drop at text) is h); within = g.within }
+  pub digits_stop : None ≡ digit_of (drop at text) → Told text whole (got n (drop at text)) at
+  digits_stop is = record { says = g.left_over ∙ last_read left n (drop at text) is; within = g.within }
 
   -- or as many as there may be.
   pub digits_end : left ≤ 0 → Told text whole (got n (drop at text)) at
@@ -156,33 +142,27 @@ module _ {text : List ℕ} {whole : Read ℕ} {left n at : ℕ} (g : Digiting te
 
 -- ---- numbers and fields
 
-pub digit_under : {d : ℕ} → d ≤ 9 → d < 10
-digit_under h = omega arith
+module _ (text : List ℕ) (at : ℕ) where
+  pub number_broken : None ≡ digit_of (drop at text) → at ≤ length text → Told text (read_number (drop at text)) (broken (drop at text)) at
+  number_broken is l = record { says = none_read (drop at text) is; within = l }
 
-module _ (text : List ℕ) (at : ℕ) {d : ℕ} (told : Digit (drop at text) d) where
-  pub number_broken : 9 < d → at ≤ length text → Told text (read_number (drop at text)) (broken (drop at text)) at
-  number_broken h l = record { says = none_read (drop at text) (digit_large (drop at text) told h); within = l }
+  module _ {d : ℕ} (is : Some d ≡ digit_of (drop at text)) where
+    -- A first digit stands in the text.
+    pub number_begun : at + 1 ≤ length text
+    number_begun = let l : at < length text = digit_inside text at is in omega arith
 
-  number_digit : d ≤ 9 → d ≡ digit_of (drop at text)
-  number_digit h = digit_small (drop at text) told h
+    number_left : drop at text ≡ get_or text at 0 ∷ drop (at + 1) text
+    number_left = left_there text at (digit_inside text at is)
 
-  -- A first digit stands in the text.
-  pub number_begun : d ≤ 9 → at + 1 ≤ length text
-  number_begun h = let l : at < length text = digit_inside text at (rw (number_digit h) at h) in omega arith
+    pub digit_small : d < 10
+    digit_small = digit_under (get_or text at 0) d (drop (at + 1) text) (rw number_left at is)
 
-  number_left : d ≤ 9 → drop at text ≡ get_or text at 0 ∷ drop (at + 1) text
-  number_left h = left_there text at (digit_inside text at (rw (number_digit h) at h))
+    pub number_zero : d ≡ 0 → Told text (read_number (drop at text)) (got 0 (drop (at + 1) text)) (at + 1)
+    number_zero z = record { says = rw number_left (zero_read (get_or text at 0) d (drop (at + 1) text) (rw number_left at is) z); within = number_begun }
 
-  pub number_zero : d ≤ 9 → d ≡ 0 → Told text (read_number (drop at text)) (got 0 (drop (at + 1) text)) (at + 1)
-  number_zero h z =
-      let here : drop at text ≡ get_or text at 0 ∷ drop (at + 1) text = number_left h in
-      record { says = rw here (zero_read (get_or text at 0) d (drop (at + 1) text) (rw here at (number_digit h)) h z); within = number_begun h }
-
-  pub number_more : {s : Read ℕ} {p : ℕ} → d ≤ 9 → (d ≡ 0 → ⊥) → Told text (more_digits further_digits d (drop (at + 1) text)) s p
-      → Told text (read_number (drop at text)) s p
-  number_more h z t =
-      let here : drop at text ≡ get_or text at 0 ∷ drop (at + 1) text = number_left h in
-      record { says = rw here (begun_read (get_or text at 0) d (drop (at + 1) text) (rw here at (number_digit h)) h z) ∙ t.says; within = t.within }
+    pub number_more : {s : Read ℕ} {p : ℕ} → (d ≡ 0 → ⊥) → Told text (more_digits further_digits d (drop (at + 1) text)) s p
+        → Told text (read_number (drop at text)) s p
+    number_more z t = record { says = rw number_left (begun_read (get_or text at 0) d (drop (at + 1) text) (rw number_left at is) z) ∙ t.says; within = t.within }
 
 -- Past the end of the text no more is left than at its end.
 pub left_within : (at : ℕ) (text : List ℕ) → drop at text ≡ drop (min at (length text)) text
@@ -204,22 +184,3 @@ module _ (text : List ℕ) (at : ℕ) {b : Bool} (is : b ≡ starts_with 44 (dro
     says = after_none 44 read_number (drop at text) (sym is ∙ e) ∙ ap broken (rw q (left_within at text));
     within = omega arith;
   }
-
-pub ruleset numbering = (
-  digits_start,
-  tenfold_fits,
-  digit_fits,
-  digits_turn,
-  digits_stop,
-  digits_end,
-  number_broken,
-  digit_under,
-  number_begun,
-  number_zero,
-  number_more,
-  starts_within,
-  next_fits,
-  field_number,
-  field_broken,
-  rules,
-)

@@ -1,33 +1,19 @@
--- `numerals::numbers::further_digits` meets its contract, by the laws of specs/Numbers. The invariant: what is left of the digits gives the whole. Assumes nothing.
-use Rattle.numerals.specs.Numbers.{numbering}
+-- One digit more, none, or as many as there may be: by the laws of specs/Numbers.
+use Rattle.std.proofs.Common.{arith}
+use Rattle.numerals.specs.Numbers.{digit_fits, digits_end, digits_stop, digits_turn, tenfold_fits}
 use Rattle.numerals.proofs.numbers.further_digits.Goals as goal
 
-pub loop-left-init : goal.loop-left-init
-loop-left-init c = search numbering
-
-pub digit_at-digit-requires : goal.digit_at-digit-requires
-digit_at-digit-requires c = search numbering
-
-pub returns-then-digit-gt9 : goal.returns-then-digit-gt9
-returns-then-digit-gt9 c = search numbering
-
 pub overflow_mul-value : goal.overflow_mul-value
-overflow_mul-value c = search numbering
+overflow_mul-value c = tenfold_fits c.loop.invariant (omega arith)
 
 pub overflow_add-value : goal.overflow_add-value
-overflow_add-value c = search numbering
+overflow_add-value c = digit_fits c.loop.invariant c.in-Some.ensures (omega arith)
 
-pub overflow_add-at : goal.overflow_add-at
-overflow_add-at c = search numbering
+pub loop-preserved : goal.loop-preserved
+loop-preserved c = digits_turn c.loop.invariant c.in-Some.ensures (omega arith)
 
-pub overflow_sub-left : goal.overflow_sub-left
-overflow_sub-left c = search numbering
-
-pub loop-left-smaller : goal.loop-left-smaller
-loop-left-smaller c = search numbering
-
-pub loop-left-preserved : goal.loop-left-preserved
-loop-left-preserved c = search numbering
+pub returns-in_default : goal.returns-in_default
+returns-in_default c = digits_stop c.loop.invariant c.in_default.ensures
 
 pub returns : goal.returns
-returns c = search numbering
+returns c = digits_end c.loop.invariant (omega arith)
