@@ -1,70 +1,43 @@
 // The words that document 01 names, each with its rank.
-ghost use Rattle.std.specs.Prelude.{◌≡◌, ◌≤◌};
+ghost use Rattle.std.specs.Prelude.{◌≤◌, length};
 
 use crate::Word;
+use arrayvec::ArrayVec;
 
 // How many words there are.
 pub(crate) const KNOWN: usize = 18;
 
-// A rank and then the letters, as the digits of one number: document 01, "Checked words", in its order, then those of "Strength of the contracts" and
-// "Where implementers stumble".
-fn named(k: usize) -> u64 {
+// A rank and letters: document 01, "Checked words", in its order, then those of "Strength of the contracts" and "Where implementers stumble".
+fn named(k: usize) -> (usize, &'static [u8])
+    ensures { length result.1.now ≤ 1024 }
+{
     match k {
-        0 => 4_4323,
-        1 => 7_12446553275,
-        // the empty word
-        2 => 4,
-        3 => 4_433,
-        4 => 4_343,
-        5 => 6_243245565,
-        6 => 3_3113,
-        7 => 3_3123,
-        8 => 3_3131,
-        9 => 3_2131,
-        10 => 3_31,
-        11 => 3_21,
-        12 => 4_3243,
-        13 => 4_2334,
-        14 => 6_542164325224,
-        15 => 6_432143212111,
-        16 => 2_12,
-        _ => 3_33,
+        0 => (4, &[4, 3, 2, 3]),
+        1 => (7, &[1, 2, 4, 4, 6, 5, 5, 3, 2, 7, 5]),
+        2 => (4, &[]),
+        3 => (4, &[4, 3, 3]),
+        4 => (4, &[3, 4, 3]),
+        5 => (6, &[2, 4, 3, 2, 4, 5, 5, 6, 5]),
+        6 => (3, &[3, 1, 1, 3]),
+        7 => (3, &[3, 1, 2, 3]),
+        8 => (3, &[3, 1, 3, 1]),
+        9 => (3, &[2, 1, 3, 1]),
+        10 => (3, &[3, 1]),
+        11 => (3, &[2, 1]),
+        12 => (4, &[3, 2, 4, 3]),
+        13 => (4, &[2, 3, 3, 4]),
+        14 => (6, &[5, 4, 2, 1, 6, 4, 3, 2, 5, 2, 2, 4]),
+        15 => (6, &[4, 3, 2, 1, 4, 3, 2, 1, 2, 1, 1, 1]),
+        16 => (2, &[1, 2]),
+        _ => (3, &[3, 3]),
     }
 }
 
-// How many digits follow the first.
-fn letters_in(number: u64) -> usize
-    ensures { result ≤ 1024 }
-{
-    let mut count = 0;
-    let mut rest = number;
-    while count < 20 {
-        if rest < 10 {
-            return count;
-        }
-        rest = rest / 10;
-        count += 1;
-    }
-    count
-}
-
-// The word of such a number: its letters from the last digit back, and what is left is the rank. The generator's state stays.
-pub(crate) fn known_word(k: usize, state: u64) -> Word
-    ensures { (result.length ≤ 1024) × (result.state ≡ state) }
-{
-    let mut rest = named(k);
-    let length = letters_in(rest);
-    let mut letters = [0u8; 1024];
-    let mut i = length;
-    while 0 < i {
-        i -= 1;
-        letters[i] = (rest % 10) as u8;
-        rest = rest / 10;
-    }
+// The word of a number.
+pub(crate) fn known_word(k: usize) -> Word {
+    let (rank, letters) = named(k);
     Word {
-        rank: rest as usize,
-        length,
-        letters,
-        state,
+        rank,
+        letters: ArrayVec::try_from(letters).unwrap(),
     }
 }

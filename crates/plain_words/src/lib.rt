@@ -2,42 +2,28 @@
 // of the kernel, and no contract says what a word or a pair is: that is compared by running. Contracts give what callers must know to be safe.
 #![tactic(auto)]
 
-pub mod answer;
 pub mod drawn;
 pub mod insertion;
 mod known;
 
-ghost use Rattle.std.specs.Prelude.{◌<◌, ◌≤◌};
-
-use crate::drawn::{DRAWN, drawn_word};
+use crate::drawn::{DRAWN, Generator, drawn_word};
 use crate::known::{KNOWN, known_word};
+use arrayvec::ArrayVec;
 
 // How many words there are.
 pub const WORDS: usize = KNOWN + DRAWN;
 
-// A word with its rank, and the state of the generator after it.
-#[derive(Clone, Copy)]
+// A word with its rank.
+#[derive(Clone, Debug, PartialEq, Eq, Drop)]
 pub struct Word {
     pub rank: usize,
-    pub length: usize,
-    pub letters: [u8; 1024],
-    pub state: u64,
+    pub letters: ArrayVec<u8, 1024>,
 }
 
-// The words of document 01, and then drawn ones, by the state of the generator.
-pub fn word_of(k: usize, state: u64) -> Word
-    ensures { (result.length ≤ 1024) × (result.state < 2147483647) }
-{
-    let now = state % 2147483647;
+// The words of document 01, and then drawn ones, by the generator.
+pub fn word_of(k: usize, generator: &mut Generator) -> Word {
     if k < KNOWN {
-        return known_word(k, now);
+        return known_word(k);
     }
-    drawn_word(k - KNOWN, now)
-}
-
-// 1 where a test passes, else 0.
-pub fn one_if(test: bool) -> usize
-    ensures { result ≤ 1 }
-{
-    if test { 1 } else { 0 }
+    drawn_word(k - KNOWN, generator)
 }

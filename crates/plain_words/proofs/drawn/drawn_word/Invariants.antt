@@ -1,9 +1,7 @@
--- `plain_words::drawn::drawn_word` meets its contract. The invariant: the stream's state is below the modulus. Assumes nothing.
-use Rattle.std.proofs.Common.{◌-◌, ◌<◌}
+-- `plain_words::drawn::drawn_word` is safe. The invariant: as many letters are drawn as counted. Assumes nothing.
+use Rattle.std.proofs.Common.{◌≡◌}
+use Rattle.arrayvec.specs.ArrayVec.{array_vec_len}
 use Rattle.plain_words.proofs.drawn.drawn_word.Given as goal
 
-abbrev pub invariant-loop-i : goal.invariant-loop-i
-invariant-loop-i l = l.stream.state < 2147483647
-
-abbrev pub decreases-loop-i : goal.decreases-loop-i
-decreases-loop-i l = l.length - l.i
+abbrev pub invariant-loop : goal.invariant-loop
+invariant-loop l = array_vec_len l.letters ≡ l.counter
