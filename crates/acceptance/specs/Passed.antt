@@ -2,6 +2,8 @@
 --     accepted_word     a word that its check lets pass is accepted
 --     judging           the ruleset of operations past their check
 -- Assumes nothing.
+use Rattle.std.specs.Prelude.{Option, Some, None, Result, Ok, Err}
+use Rattle.refusals.specs.declared.refusal.Refusal.{Refusal}
 use Rattle.std.specs.Prelude.{ℕ, ◌≡◌, List}
 use Rattle.std.proofs.Common.{sym, ap, ◌∙◌, rules}
 use Rattle.hypoplactic.specs.Words.{Accepted}
@@ -10,11 +12,9 @@ use Rattle.outcomes.specs.Judgements.{word_judgements}
 use Rattle.outcomes.proofs.Theory.Judged.{word_judged}
 use Rattle.refusals.specs.Chains.{stops, goes_on}
 use Rattle.refusals.specs.Said.{said_verdict}
-use Rattle.refusals.specs.declared.answers.Verdict.{Verdict}
-use Rattle.refusals.specs.declared.answers.Verdict.TheVariants.{Passed}
 
 -- A word that its check lets pass is accepted.
-pub accepted_word : {v : Verdict} (n : ℕ) (w : List ℕ) → said_verdict v ≡ first (word_judgements n w) passed → v ≡ Passed → Accepted n w
+pub accepted_word : {v : Result (Unit {0}) Refusal} (n : ℕ) (w : List ℕ) → said_verdict v ≡ first (word_judgements n w) passed → v ≡ Ok tt → Accepted n w
 accepted_word n w e q = (word_judged n w).0 (sym e ∙ ap said_verdict q)
 
 pub ruleset judging = (stops, goes_on, accepted_word, rules)

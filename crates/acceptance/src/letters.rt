@@ -4,8 +4,6 @@ ghost use Rattle.outcomes.specs.Judgements.{letters_judged};
 ghost use Rattle.acceptance.specs.Letters.{Confirmed, letter_fault};
 ghost use Rattle.refusals.specs.Said.{said_fault, said_verdict};
 
-use refusals::answers::{Fault, Verdict};
-use refusals::numbers::either;
 use refusals::refusal::Refusal;
 
 // A byte as a number that is compared with a rank.
@@ -21,7 +19,7 @@ fn letter_outside(rank: usize, letters: &[u8], place: usize) -> bool
     ensures { result ≡ letter_fault rank letters.now place }
 {
     let x = wide(letters[place]);
-    either(x < 1, rank < x)
+    (x < 1) | (rank < x)
 }
 
 // The smaller of two bytes.
@@ -59,41 +57,41 @@ fn all_inside(rank: usize, letters: &[u8]) -> bool
 }
 
 // The scan for the first letter outside 1 to rank.
-fn first_outside(rank: usize, letters: &[u8]) -> Fault
+fn first_outside(rank: usize, letters: &[u8]) -> Option<usize>
     ensures { said_fault 4 result ≡ letters_judged rank letters.now }
 {
     let mut i = 0;
     while i < letters.len() {
         if letter_outside(rank, letters, i) {
-            return Fault::At(i);
+            return Some(i);
         }
         i += 1;
     }
-    Fault::Nowhere
+    None
 }
 
 // Where the first letter outside 1 to rank stands, if there is one.
-pub fn letter_fault(rank: usize, letters: &[u8]) -> Fault
+pub fn letter_fault(rank: usize, letters: &[u8]) -> Option<usize>
     ensures { said_fault 4 result ≡ letters_judged rank letters.now }
 {
     if all_inside(rank, letters) {
-        return Fault::Nowhere;
+        return None;
     }
     first_outside(rank, letters)
 }
 
 // The verdict of 4 from that place.
-pub fn letters_verdict(fault: Fault) -> Verdict
+pub fn letters_verdict(fault: Option<usize>) -> Result<(), Refusal>
     ensures { said_verdict result ≡ said_fault 4 fault }
 {
     match fault {
-        Fault::At(place) => Verdict::Refused(Refusal::Letter(place)),
-        Fault::Nowhere => Verdict::Passed,
+        Some(place) => Err(Refusal::Letter(place)),
+        None => Ok(()),
     }
 }
 
 // 4: each letter is 1 to rank.
-pub fn check_letters(rank: usize, letters: &[u8]) -> Verdict
+pub fn check_letters(rank: usize, letters: &[u8]) -> Result<(), Refusal>
     ensures { said_verdict result ≡ letters_judged rank letters.now }
 {
     letters_verdict(letter_fault(rank, letters))

@@ -5,15 +5,13 @@ ghost use Rattle.outcomes.specs.Judgements.{word_judgements};
 ghost use Rattle.refusals.specs.Said.{said_verdict};
 
 use crate::letters::check_letters;
-use refusals::answers::Verdict;
 use refusals::chains::check_limits;
+use refusals::refusal::Refusal;
 
 // 1, 2 and 4 of a word.
-pub fn check_word(rank: usize, word: &[u8]) -> Verdict
+pub fn check_word(rank: usize, word: &[u8]) -> Result<(), Refusal>
     ensures { said_verdict result ≡ first (word_judgements rank word.now) passed }
 {
-    if let Verdict::Refused(refusal) = check_limits(rank, word.len()) {
-        return Verdict::Refused(refusal);
-    }
+    check_limits(rank, word.len())?;
     check_letters(rank, word)
 }

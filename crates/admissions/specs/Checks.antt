@@ -8,6 +8,7 @@
 --     sizes_refused, sizes_passed, sizes_sized     what follows from the verdict on 1, 2 and 3
 --     checking                       the ruleset of the checks
 -- Assumes nothing.
+use Rattle.std.specs.Prelude.{Option, Some, None, Result, Ok, Err}
 use Rattle.std.specs.Prelude.{ℕ, suc, ◌+◌, ◌-◌, ◌≤◌, ◌≡◌, refl, List, [], ◌∷◌, ◌++◌, Bool, true, false, length, take}
 use Rattle.std.proofs.Math.Nat.{sub-zero}
 use Rattle.std.proofs.Common.{arith, add-one, sym, ◌∙◌, rules}
@@ -20,8 +21,6 @@ use Rattle.refusals.specs.Chains.{chained}
 use Rattle.refusals.specs.Running.{checks_then, checked_then, stops_there, goes_further, all_passing}
 use Rattle.refusals.specs.Said.{said_refusal, said_verdict}
 use Rattle.refusals.specs.declared.refusal.Refusal.{Refusal}
-use Rattle.refusals.specs.declared.answers.Verdict.{Verdict}
-use Rattle.refusals.specs.declared.answers.Verdict.TheVariants.{Passed, Refused}
 
 -- 1, 2 and 3, from the lengths of the three lists.
 abbrev pub size_judgements : ℕ → ℕ → ℕ → ℕ → ℕ → List Said
@@ -76,7 +75,7 @@ letters_from_snoc n a i (x ∷ xs) =
     go false s t = refl
 
 -- 4 of the used letters, or else of the new one, whose place is their number.
-pub all_letters : {b : Bool} (t u v : Verdict) (n a : ℕ) (xs : List ℕ) → said_verdict t ≡ or_else (said_verdict u) (said_verdict v)
+pub all_letters : {b : Bool} (t u v : Result (Unit {0}) Refusal) (n a : ℕ) (xs : List ℕ) → said_verdict t ≡ or_else (said_verdict u) (said_verdict v)
     → said_verdict u ≡ letters_judged n xs → said_verdict v ≡ refuse_if b 4 (length xs) passed → b ≡ outside n a
     → said_verdict t ≡ letters_judged n (xs ++ a ∷ [])
 unfolding letters_judged
@@ -87,25 +86,25 @@ all_letters t u v n a xs e f g h =
 -- ---- the checks
 
 -- The cells, then the rooms.
-pub used_checked : (t u v : Verdict) (n used a : ℕ) (xs ms rs cs : List ℕ) → said_verdict t ≡ or_else (said_verdict u) (said_verdict v)
+pub used_checked : (t u v : Result (Unit {0}) Refusal) (n used a : ℕ) (xs ms rs cs : List ℕ) → said_verdict t ≡ or_else (said_verdict u) (said_verdict v)
     → said_verdict u ≡ first (cell_judgements n used a (take (used - 0) xs) (take (used - 0) ms) (take (used - 0) rs) cs) passed
     → said_verdict v ≡ first (room_judgements used (used + 1) (length xs) (length ms) (length rs)) passed
     → said_verdict t ≡ used_checks n used a (pair_with xs ms rs) cs
 used_checked t u v n used a xs ms rs cs e f g = checked_then t u v _ e (rw sub-zero at f) _ (rw add-one at g)
 
 -- The verdict on the sizes,
-module _ {v : Verdict} (n used a : ℕ) (xs ms rs cs : List ℕ)
+module _ {v : Result (Unit {0}) Refusal} (n used a : ℕ) (xs ms rs cs : List ℕ)
     (e : said_verdict v ≡ first (size_judgements n used (length xs) (length ms) (length rs)) passed) where
   -- which refuses,
-  pub sizes_refused : (r : Refusal) → v ≡ Refused r → said_refusal r ≡ insert_checks n used a (pair_with xs ms rs) cs
+  pub sizes_refused : (r : Refusal) → v ≡ Err r → said_refusal r ≡ insert_checks n used a (pair_with xs ms rs) cs
   sizes_refused r q = stops_there _ e _ r q
 
   -- or passes, and the other checks decide,
-  pub sizes_passed : {s : Said} → v ≡ Passed → s ≡ used_checks n used a (pair_with xs ms rs) cs → s ≡ insert_checks n used a (pair_with xs ms rs) cs
+  pub sizes_passed : {s : Said} → v ≡ Ok tt → s ≡ used_checks n used a (pair_with xs ms rs) cs → s ≡ insert_checks n used a (pair_with xs ms rs) cs
   sizes_passed q h = goes_further _ e _ _ q h
 
 -- the rank being one, and the used cells being there.
-pub sizes_sized : {v : Verdict} (n used x y z : ℕ) → said_verdict v ≡ first (size_judgements n used x y z) passed → v ≡ Passed → Sized n used x y z
+pub sizes_sized : {v : Result (Unit {0}) Refusal} (n used x y z : ℕ) → said_verdict v ≡ first (size_judgements n used x y z) passed → v ≡ Ok tt → Sized n used x y z
 sizes_sized n used x y z e q =
     let (rank, (short, (held, t))) = all_passing (size_judgements n used x y z) e q in
     let all = (used_judged_lem used (x ∷ y ∷ z ∷ [])).0 held in

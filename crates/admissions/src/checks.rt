@@ -9,9 +9,8 @@ ghost use Rattle.admissions.specs.Checks.{Sized, cell_judgements, insert_checks,
 
 use acceptance::letters::check_letters;
 use counts::shape::check_counted_shape;
-use refusals::answers::Verdict;
-use refusals::chains::{check_limits, check_pair_rooms, or_else};
-use refusals::numbers::{check_full, check_used, either, refuse_if};
+use refusals::chains::{check_limits, check_pair_rooms};
+use refusals::numbers::{check_full, check_used};
 use refusals::refusal::Refusal;
 use validity::tableau::check_ribbon;
 
@@ -22,24 +21,23 @@ pub fn check_sizes(
     letters: usize,
     marks: usize,
     entries: usize,
-) -> Verdict
+) -> Result<(), Refusal>
     ensures { said_verdict result ≡ first (size_judgements rank used letters marks entries) passed }
 {
-    or_else(
-        check_limits(rank, used),
-        check_used(used, letters, marks, entries),
-    )
+    check_limits(rank, used)?;
+    check_used(used, letters, marks, entries)
 }
 
 // 4 of the used letters and then of the new one, whose place is their number.
-fn check_all_letters(rank: usize, letter: usize, letters: &[u8]) -> Verdict
+fn check_all_letters(rank: usize, letter: usize, letters: &[u8]) -> Result<(), Refusal>
     ensures { said_verdict result ≡ letters_judged rank (letters.now ++ letter ∷ []) }
 {
-    let outside = either(letter < 1, rank < letter);
-    or_else(
-        check_letters(rank, letters),
-        refuse_if(outside, Refusal::Letter(letters.len())),
-    )
+    let outside = (letter < 1) | (rank < letter);
+    check_letters(rank, letters)?;
+    if outside {
+        return Err(Refusal::Letter(letters.len()));
+    }
+    Ok(())
 }
 
 // 4 to 8 of the used cells, of which there are so many, and of the new letter, and 17 of the counts of the used letters.
@@ -51,26 +49,25 @@ fn check_cells(
     marks: &[u8],
     entries: &[u16],
     counts: &[u16; 64],
-) -> Verdict
+) -> Result<(), Refusal>
     ensures { said_verdict result
         ≡ first
         (cell_judgements rank used letter letters.now marks.now entries.now counts.now)
         passed }
 {
-    let inside = check_all_letters(rank, letter, letters);
-    let shaped = check_counted_shape(letters, marks, counts);
-    let rest = or_else(shaped, check_ribbon(used, entries, marks));
-    or_else(inside, rest)
+    check_all_letters(rank, letter, letters)?;
+    check_counted_shape(letters, marks, counts)?;
+    check_ribbon(used, entries, marks)
 }
 
 // 12 and 13: a free cell, and room for it in each of the three lists.
-fn check_rooms(used: usize, letters: usize, marks: usize, entries: usize) -> Verdict
+fn check_rooms(used: usize, letters: usize, marks: usize, entries: usize) -> Result<(), Refusal>
     requires { used ≤ 1024 }
     ensures { said_verdict result ≡ first (room_judgements used (used + 1) letters marks entries) passed }
 {
     let need = used + 1;
-    let rooms = check_pair_rooms(need, letters, marks, entries);
-    or_else(check_full(used), rooms)
+    check_full(used)?;
+    check_pair_rooms(need, letters, marks, entries)
 }
 
 // 4 to 8 and 17, 12 and 13, once the used count is above none of the lengths.
@@ -82,13 +79,12 @@ fn check_used_cells(
     marks: &[u8],
     entries: &[u16],
     counts: &[u16; 64],
-) -> Verdict
+) -> Result<(), Refusal>
     requires { Sized rank used (length letters.now) (length marks.now) (length entries.now) }
     ensures { said_verdict result
         ≡ used_checks rank used letter (pair_with letters.now marks.now entries.now) counts.now }
 {
-    let rooms = check_rooms(used, letters.len(), marks.len(), entries.len());
-    let cells = check_cells(
+    check_cells(
         rank,
         used,
         letter,
@@ -96,8 +92,8 @@ fn check_used_cells(
         &marks[0..used],
         &entries[0..used],
         counts,
-    );
-    or_else(cells, rooms)
+    )?;
+    check_rooms(used, letters.len(), marks.len(), entries.len())
 }
 
 // All checks of insertion: 1 to 6, 17, 7, 8, 12 and 13.
@@ -109,18 +105,16 @@ pub fn check_insertion(
     marks: &[u8],
     entries: &[u16],
     counts: &[u16; 64],
-) -> Verdict
+) -> Result<(), Refusal>
     ensures { said_verdict result
         ≡ insert_checks rank used letter (pair_with letters.now marks.now entries.now) counts.now }
 {
-    if let Verdict::Refused(refusal) = check_sizes(
+    check_sizes(
         rank,
         used,
         letters.len(),
         marks.len(),
         entries.len(),
-    ) {
-        return Verdict::Refused(refusal);
-    }
+    )?;
     check_used_cells(rank, used, letter, letters, marks, entries, counts)
 }

@@ -4,6 +4,7 @@
 --     number_refused, number_told      the number of a word
 --     sizing, wording, telling         the rulesets of the three operations
 -- Assumes nothing.
+use Rattle.std.specs.Prelude.{Option, Some, None, Result, Ok, Err}
 use Rattle.std.specs.Prelude.{ℕ, ◌≤◌, ◌≡◌, length, set}
 use Rattle.std.proofs.Math.Path.{refl, sym, ap}
 use Rattle.std.proofs.Common.{ap₂, ◌∙◌, rules}
@@ -33,8 +34,6 @@ use Rattle.refusals.specs.Chains.{goes_on, stops}
 use Rattle.refusals.specs.Running.{all_passing, checks_then, run-stopped, then_passing}
 use Rattle.refusals.specs.Said.{said_refusal, said_verdict}
 use Rattle.refusals.specs.declared.refusal.Refusal.{Refusal}
-use Rattle.refusals.specs.declared.answers.Verdict.{Verdict}
-use Rattle.refusals.specs.declared.answers.Verdict.TheVariants.{Passed, Refused}
 use Rattle.numbering.proofs.Theory.Bounds.{orders_20}
 use Rattle.ribbon_orders.specs.Rows.{orders-some, orders_given}
 use Rattle.class_numbers.specs.Held.{Holds, take_freed}
@@ -47,9 +46,9 @@ abbrev asked : ℕ → List ℕ → List ℕ → ℕ → List ℕ → List Said
 asked n xs ms k old = number_judged k (class_size n xs ms) ∷ room_judged (length xs) (length old) ∷ []
 
 -- The verdict of 1 to 6 on the tableau, of 17 on its letter counts and of 15.
-module _ {v : Verdict} (n : ℕ) (xs ms cs : List ℕ) (e : said_verdict v ≡ checks_then (counted_judgements n xs ms cs) (small_judged (length xs) ∷ [])) where
+module _ {v : Result (Unit {0}) Refusal} (n : ℕ) (xs ms cs : List ℕ) (e : said_verdict v ≡ checks_then (counted_judgements n xs ms cs) (small_judged (length xs) ∷ [])) where
   -- Where it passes, the tableau is one of at most 20 cells.
-  module _ (q : v ≡ Passed) where
+  module _ (q : v ≡ Ok tt) where
     checks : Passing (counted_judgements n xs ms cs) × Passing (small_judged (length xs) ∷ [])
     checks = then_passing _ _ e q
 
@@ -84,30 +83,30 @@ module _ {v : Verdict} (n : ℕ) (xs ms cs : List ℕ) (e : said_verdict v ≡ c
     unfolding checks_then
     all = all_passing (class_judgements n xs ms cs) e q
 
-  pub size_refused : (r : Refusal) → v ≡ Refused r → said_refusal r ≡ class_size_says n xs ms cs
+  pub size_refused : (r : Refusal) → v ≡ Err r → said_refusal r ≡ class_size_says n xs ms cs
   unfolding class_size_says checks_then
   size_refused r q = stops r (first (class_judgements n xs ms cs) passed) (gives (class_size n xs ms ∷ [])) e q ∙ first_else (class_judgements n xs ms cs) _
 
-  pub size_told : (k : ℕ) → v ≡ Passed → k ≡ orders_given ms → gives (k ∷ []) ≡ class_size_says n xs ms cs
+  pub size_told : (k : ℕ) → v ≡ Ok tt → k ≡ orders_given ms → gives (k ∷ []) ≡ class_size_says n xs ms cs
   unfolding class_size_says checks_then
   size_told k q h =
       goes_on (first (class_judgements n xs ms cs) passed) (gives (class_size n xs ms ∷ [])) e q (ap (λ (j : ℕ). gives (j ∷ [])) (h ∙ size_is q))
       ∙ first_else (class_judgements n xs ms cs) _
 
   -- A word is asked for, and the tableau is refused.
-  pub word_stopped : (k : ℕ) (old : List ℕ) (r : Refusal) → v ≡ Refused r → (said_refusal r, old) ≡ class_word_run n xs ms cs k old
+  pub word_stopped : (k : ℕ) (old : List ℕ) (r : Refusal) → v ≡ Err r → (said_refusal r, old) ≡ class_word_run n xs ms cs k old
   unfolding class_word_run class_word_says checks_then
   word_stopped k old r q =
       run-stopped (class_judgements n xs ms cs) (asked n xs ms k old) (length xs ∷ []) (written (class_word n xs ms k) old) old r e q
 
   -- It is not, and u is the verdict of 16 and 13,
-  module _ (u : Verdict) (q : v ≡ Passed) (k size : ℕ) (old : List ℕ) (h : size ≡ orders_given ms)
+  module _ (u : Result (Unit {0}) Refusal) (q : v ≡ Ok tt) (k size : ℕ) (old : List ℕ) (h : size ≡ orders_given ms)
       (f : said_verdict u ≡ first (number_judged k size ∷ room_judged (length xs) (length old) ∷ []) passed) where
     said : said_verdict u ≡ first (asked n xs ms k old) passed
     said = f ∙ ap (λ (j : ℕ). first (number_judged k j ∷ room_judged (length xs) (length old) ∷ []) passed) (h ∙ size_is q)
 
     -- which refuses,
-    pub word_refused : (r : Refusal) → u ≡ Refused r → (said_refusal r, old) ≡ class_word_run n xs ms cs k old
+    pub word_refused : (r : Refusal) → u ≡ Err r → (said_refusal r, old) ≡ class_word_run n xs ms cs k old
     unfolding class_word_run class_word_says
     word_refused r p =
         run-stopped (asked n xs ms k old) [] (length xs ∷ []) (written (class_word n xs ms k) old) old r said p
@@ -115,11 +114,11 @@ module _ {v : Verdict} (n : ℕ) (xs ms cs : List ℕ) (e : said_verdict v ≡ c
         (sym (first_past (class_judgements n xs ms cs) (asked n xs ms k old) (gives (length xs ∷ [])) (all q)))
 
     -- or passes, so that the word has room,
-    pub word_room : u ≡ Passed → length xs ≤ length old
+    pub word_room : u ≡ Ok tt → length xs ≤ length old
     word_room p = (room_judged_lem _ _).0 (all_passing (asked n xs ms k old) said p).1.0
 
     -- and is written.
-    pub word_told : (ys ns now : List ℕ) → u ≡ Passed → Holds xs ys → Holds ms ns
+    pub word_told : (ys ns now : List ℕ) → u ≡ Ok tt → Holds xs ys → Holds ms ns
         → now ≡ written (word_at (length xs) (take (length xs) ys) (take (length xs) (set ns 0 2)) k) old
         → (gives (length xs ∷ []), now) ≡ class_word_run n xs ms cs k old
     unfolding class_word_run class_word_says
@@ -146,13 +145,13 @@ abbrev judged : ℕ → List ℕ → List Said
 judged n w = word_judgements n w ++ (small_judged (length w) ∷ [])
 
 -- The verdict of 1, 2 and 4 on the word and of 15.
-module _ {v : Verdict} (n : ℕ) (w : List ℕ) (e : said_verdict v ≡ checks_then (word_judgements n w) (small_judged (length w) ∷ [])) where
-  pub number_refused : (r : Refusal) → v ≡ Refused r → said_refusal r ≡ class_number_says n w
+module _ {v : Result (Unit {0}) Refusal} (n : ℕ) (w : List ℕ) (e : said_verdict v ≡ checks_then (word_judgements n w) (small_judged (length w) ∷ [])) where
+  pub number_refused : (r : Refusal) → v ≡ Err r → said_refusal r ≡ class_number_says n w
   unfolding class_number_says checks_then
   number_refused r q = stops r (first (judged n w) passed) (gives (class_number n w ∷ [])) e q ∙ first_else (judged n w) _
 
   -- Where it passes, the pair of the word stands in three lists of 20 elements.
-  module _ (q : v ≡ Passed) (ls ks js cs us vs rs ds : List ℕ) (made : Said) (d : length ls ≡ 20) (c : length ks ≡ 20) (b : length js ≡ 20)
+  module _ (q : v ≡ Ok tt) (ls ks js cs us vs rs ds : List ℕ) (made : Said) (d : length ls ≡ 20) (c : length ks ≡ 20) (b : length js ≡ 20)
       (t : (made, (pair_with us vs rs, ds)) ≡ pair_run n w (pair_with ls ks js) cs) where
     accepted : Accepted n w
     accepted = (word_passing n w).0 (then_passing _ _ e q).0

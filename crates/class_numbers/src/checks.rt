@@ -7,43 +7,45 @@ ghost use Rattle.refusals.specs.Running.{checks_then};
 ghost use Rattle.refusals.specs.Said.{said_verdict};
 
 use acceptance::word::check_word;
-use refusals::answers::Verdict;
-use refusals::chains::or_else;
-use refusals::numbers::{check_room, refuse_if};
+use refusals::numbers::check_room;
 use refusals::refusal::Refusal;
 use validity::counted::check_counted_tableau;
 
 // 15: at most 20 cells or letters.
-fn check_small(cells: usize) -> Verdict
+fn check_small(cells: usize) -> Result<(), Refusal>
     ensures { said_verdict result ≡ small_judged cells }
 {
-    refuse_if(20 < cells, Refusal::Large)
+    if 20 < cells {
+        return Err(Refusal::Large);
+    }
+    Ok(())
 }
 
 // 1 to 6 of a tableau, 17 of its letter counts, then 15.
-pub(crate) fn check_class(rank: usize, letters: &[u8], marks: &[u8], counts: &[u16; 64]) -> Verdict
+pub(crate) fn check_class(rank: usize, letters: &[u8], marks: &[u8], counts: &[u16; 64]) -> Result<(), Refusal>
     ensures { said_verdict result
         ≡ checks_then
         (counted_judgements rank letters.now marks.now counts.now)
         (small_judged (length letters.now) ∷ []) }
 {
-    or_else(
-        check_counted_tableau(rank, letters, marks, counts),
-        check_small(letters.len()),
-    )
+    check_counted_tableau(rank, letters, marks, counts)?;
+    check_small(letters.len())
 }
 
 // 1, 2 and 4 of a word, then 15.
-pub(crate) fn check_short(rank: usize, word: &[u8]) -> Verdict
+pub(crate) fn check_short(rank: usize, word: &[u8]) -> Result<(), Refusal>
     ensures { said_verdict result ≡ checks_then (word_judgements rank word.now) (small_judged (length word.now) ∷ []) }
 {
-    or_else(check_word(rank, word), check_small(word.len()))
+    check_word(rank, word)?;
+    check_small(word.len())
 }
 
 // 16: the number is below the size; then 13.
-pub(crate) fn check_asked(number: u64, size: u64, need: usize, have: usize) -> Verdict
+pub(crate) fn check_asked(number: u64, size: u64, need: usize, have: usize) -> Result<(), Refusal>
     ensures { said_verdict result ≡ first (number_judged number size ∷ room_judged need have ∷ []) passed }
 {
-    let past = refuse_if(size <= number, Refusal::PastLast);
-    or_else(past, check_room(need, have))
+    if size <= number {
+        return Err(Refusal::PastLast);
+    }
+    check_room(need, have)
 }

@@ -1,23 +1,21 @@
 // The operations on the words of a class (document 02, N4): how many they are, the one with a number, and the number of one.
 ghost use Rattle.std.specs.Prelude.{◌≡◌};
 ghost use Rattle.numbering.specs.Operations.{class_number_says, class_size_says, class_word_run};
-ghost use Rattle.refusals.specs.Said.{said_numbered, said_written};
+ghost use Rattle.refusals.specs.Said.{said_value};
 
 use crate::checks::{check_asked, check_class, check_short};
 use crate::ribbon::{held, number_in, write_word};
-use refusals::answers::{Numbered, Verdict, Written};
 use ribbon_orders::orders::orders_of;
 use ribbons::pair::pair_of_word;
+use refusals::refusal::Refusal;
 
 // How many words the class of a tableau has, or the refusal of 1 to 6, 17 or 15.
-pub fn class_size(rank: usize, letters: &[u8], marks: &[u8], counts: &[u16; 64]) -> Numbered
-    ensures { said_numbered result ≡ class_size_says rank letters.now marks.now counts.now }
+pub fn class_size(rank: usize, letters: &[u8], marks: &[u8], counts: &[u16; 64]) -> Result<u64, Refusal>
+    ensures { said_value result ≡ class_size_says rank letters.now marks.now counts.now }
 {
-    if let Verdict::Refused(refusal) = check_class(rank, letters, marks, counts) {
-        return Numbered::Refused(refusal);
-    }
+    check_class(rank, letters, marks, counts)?;
     // A right first step leaves as many orders as a free one.
-    Numbered::Number(orders_of(marks))
+    Ok(orders_of(marks))
 }
 
 // The word with a number of the class of a tableau, into a lent word, or the refusal of 1 to 6, 17, 15, 16 or 13, which leaves the word as it was.
@@ -28,30 +26,24 @@ pub fn class_word(
     counts: &[u16; 64],
     number: u64,
     word: &mut [u8],
-) -> Written
-    ensures { (said_written result, word.new) ≡ class_word_run rank letters.now marks.now counts.now number word.old }
+) -> Result<usize, Refusal>
+    ensures { (said_value result, word.new) ≡ class_word_run rank letters.now marks.now counts.now number word.old }
 {
-    if let Verdict::Refused(refusal) = check_class(rank, letters, marks, counts) {
-        return Written::Refused(refusal);
-    }
+    check_class(rank, letters, marks, counts)?;
     let size = orders_of(marks);
-    if let Verdict::Refused(refusal) = check_asked(number, size, letters.len(), word.len()) {
-        return Written::Refused(refusal);
-    }
+    check_asked(number, size, letters.len(), word.len())?;
     // Nothing stands before the first cell, so the step into it is free.
     let mut open = held(marks);
     open[0] = 2;
     write_word(held(letters), open, letters.len(), number, word);
-    Written::Elements(letters.len())
+    Ok(letters.len())
 }
 
 // The number of a word in its own class, or the refusal of 1, 2, 4 or 15.
-pub fn class_number(rank: usize, word: &[u8]) -> Numbered
-    ensures { said_numbered result ≡ class_number_says rank word.now }
+pub fn class_number(rank: usize, word: &[u8]) -> Result<u64, Refusal>
+    ensures { said_value result ≡ class_number_says rank word.now }
 {
-    if let Verdict::Refused(refusal) = check_short(rank, word) {
-        return Numbered::Refused(refusal);
-    }
+    check_short(rank, word)?;
     let mut letters = [0u8; 20];
     let mut marks = [0u8; 20];
     let mut entries = [0u16; 20];
@@ -66,5 +58,5 @@ pub fn class_number(rank: usize, word: &[u8]) -> Numbered
     );
     // The step into the first cell is free.
     marks[0] = 2;
-    Numbered::Number(number_in(letters, marks, word))
+    Ok(number_in(letters, marks, word))
 }

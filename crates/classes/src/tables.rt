@@ -2,7 +2,6 @@
 ghost use Rattle.std.specs.Prelude.{◌≡◌};
 ghost use Rattle.classes.specs.Tables.{same_tables};
 
-use refusals::numbers::both;
 
 // Whether the counts of all 64 letters are equal. The loop leaves at no letter, so that the compiled code takes many at once.
 pub fn same_counts(first: &[u16; 64], second: &[u16; 64]) -> bool
@@ -11,7 +10,7 @@ pub fn same_counts(first: &[u16; 64], second: &[u16; 64]) -> bool
     let mut same = true;
     let mut i = 0;
     while i < 64 {
-        same = both(same, first[i] == second[i]);
+        same = same & (first[i] == second[i]);
         i += 1;
     }
     same

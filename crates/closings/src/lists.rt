@@ -5,13 +5,12 @@ ghost use Rattle.windows.specs.Gaps.{joint, lowered};
 ghost use Rattle.closings.specs.Closings.{closed_entries, closed_letters, closed_marks};
 
 use buffers::pulls::{pull_bytes, pull_entries};
-use refusals::numbers::least;
 
 // A used entry, 0 beyond.
 fn entry_at(place: usize, used: usize, entries: &[u16]) -> u16
     ensures { result ≡ get_or (take used entries.now) place 0 }
 {
-    if place < least(used, entries.len()) {
+    if place < used.min(entries.len()) {
         entries[place]
     } else {
         0
@@ -37,8 +36,8 @@ fn joint_mark(at: usize, used: usize, entries: &[u16]) -> u8
 pub fn close_letters(at: usize, used: usize, letters: &mut [u8])
     ensures { letters.new ≡ closed_letters at used letters.old }
 {
-    let end = least(used, letters.len());
-    let from = least(at, end);
+    let end = used.min(letters.len());
+    let from = at.min(end);
     pull_bytes(&mut letters[from..end]);
 }
 
@@ -46,8 +45,8 @@ pub fn close_letters(at: usize, used: usize, letters: &mut [u8])
 pub fn close_marks(at: usize, used: usize, marks: &mut [u8], entries: &[u16])
     ensures { marks.new ≡ closed_marks at used entries.now marks.old }
 {
-    let end = least(used, marks.len());
-    let from = least(at, end);
+    let end = used.min(marks.len());
+    let from = at.min(end);
     pull_bytes(&mut marks[from..end]);
     if 1 < end - from {
         marks[at] = joint_mark(at, used, entries);
@@ -83,8 +82,8 @@ fn cells_left(at: usize, end: usize) -> usize
 pub fn close_entries(at: usize, used: usize, entries: &mut [u16])
     ensures { entries.new ≡ closed_entries at used entries.old }
 {
-    let end = least(used, entries.len());
-    let from = least(at, end);
+    let end = used.min(entries.len());
+    let from = at.min(end);
     let left = cells_left(at, end);
     pull_entries(&mut entries[from..end]);
     lower_entries(&mut entries[0..left]);

@@ -4,6 +4,7 @@
 --     reading_refused, reading_passed     reply and word from the verdict on
 --     reading                        the ruleset of the operation
 -- A single column is in Columns. Assumes nothing.
+use Rattle.std.specs.Prelude.{Option, Some, None, Result, Ok, Err}
 use Rattle.std.specs.Prelude.{ℕ, zero, suc, ◌+◌, ◌-◌, ◌<◌, ◌≤◌, ◌≡◌, refl, List, [], ◌∷◌, ◌++◌, reverse, length, get_or, take, drop}
 use Rattle.std.proofs.Common.{sym, ap, ◌∙◌, append_assoc, append-nil, add-zero, arith, length-append, length-drop, drop_of_length-le, drop-cons, drop_at, rules}
 use Rattle.std.proofs.lemmas.List.{length-reverse, drop-append-le, take-append-le}
@@ -18,8 +19,6 @@ use Rattle.buffers.specs.Copies.{copied, copied_all}
 use Rattle.refusals.specs.Running.{checks_then, then_passing, run_refused, run_passed, written_part}
 use Rattle.refusals.specs.Said.{said_refusal, said_verdict}
 use Rattle.refusals.specs.declared.refusal.Refusal.{Refusal}
-use Rattle.refusals.specs.declared.answers.Verdict.{Verdict}
-use Rattle.refusals.specs.declared.answers.Verdict.TheVariants.{Passed, Refused}
 use Rattle.columns.specs.Columns.{Ended, Skipped, start_descending, column_read}
 
 -- ---- the word written
@@ -128,24 +127,24 @@ end_reading {xs} {ms} {copy} {now} {at} old r f l h =
 -- ---- the operation
 
 -- The verdict of 1 to 6 and 17 on the tableau and of 13,
-module _ {v : Verdict} (n : ℕ) (xs ms cs old : List ℕ)
+module _ {v : Result (Unit {0}) Refusal} (n : ℕ) (xs ms cs old : List ℕ)
     (e : said_verdict v ≡ checks_then (counted_judgements n xs ms cs) (room_judged (length xs) (length old) ∷ [])) where
   -- which refuses, and the word is as it was,
-  pub reading_refused : (r : Refusal) → v ≡ Refused r → (said_refusal r, old) ≡ reading_run n xs ms cs old
+  pub reading_refused : (r : Refusal) → v ≡ Err r → (said_refusal r, old) ≡ reading_run n xs ms cs old
   unfolding reading_run reading_says
   reading_refused r q = run_refused _ _ e _ _ old r q
 
   -- or passes, and the reading is written,
-  pub reading_passed : (now : List ℕ) → v ≡ Passed → now ≡ written (column_reading xs ms) old → (gives (length xs ∷ []), now) ≡ reading_run n xs ms cs old
+  pub reading_passed : (now : List ℕ) → v ≡ Ok tt → now ≡ written (column_reading xs ms) old → (gives (length xs ∷ []), now) ≡ reading_run n xs ms cs old
   unfolding reading_run reading_says
   reading_passed now q h = run_passed _ _ e _ _ old now q h
 
   -- since there are as many marks as letters,
-  pub passed_alike : v ≡ Passed → length ms ≡ length xs
+  pub passed_alike : v ≡ Ok tt → length ms ≡ length xs
   passed_alike q = let (checks, t) = then_passing _ _ e q in ((alike-judged _ _).0 checks.1.1.0).0
 
   -- and room for them.
-  pub passed_room : v ≡ Passed → length xs ≤ length old
+  pub passed_room : v ≡ Ok tt → length xs ≤ length old
   passed_room q = let (checks, (room, t)) = then_passing _ _ e q in (room_judged_lem _ _).0 room
 
 pub ruleset reading = (

@@ -6,14 +6,13 @@ ghost use Rattle.hypoplactic.specs.Reading.{column_reading};
 ghost use Rattle.outcomes.specs.Replies.{written};
 ghost use Rattle.outcomes.specs.TableauOperations.{reading_run};
 ghost use Rattle.refusals.specs.Running.{checks_then};
-ghost use Rattle.refusals.specs.Said.{said_verdict, said_written};
+ghost use Rattle.refusals.specs.Said.{said_verdict, said_value};
 ghost use Rattle.columns.specs.Columns.{Ended, Skipped};
 
 use buffers::copies::copy_bytes;
-use refusals::answers::{Verdict, Written};
-use refusals::chains::or_else;
 use refusals::numbers::check_room;
 use validity::counted::check_counted_tableau;
+use refusals::refusal::Refusal;
 
 // Where the column that starts at a place ends: at the first right step after it, or with the ribbon.
 fn column_end(marks: &[u8], start: usize) -> usize
@@ -98,14 +97,14 @@ fn check_reading(
     marks: &[u8],
     counts: &[u16; 64],
     room: usize,
-) -> Verdict
+) -> Result<(), Refusal>
     ensures { said_verdict result
         ≡ checks_then
         (counted_judgements rank letters.now marks.now counts.now)
         (room_judged (length letters.now) room ∷ []) }
 {
-    let tableau = check_counted_tableau(rank, letters, marks, counts);
-    or_else(tableau, check_room(letters.len(), room))
+    check_counted_tableau(rank, letters, marks, counts)?;
+    check_room(letters.len(), room)
 }
 
 // The column reading of a tableau that brings its letter counts, into a lent word.
@@ -115,13 +114,11 @@ pub fn column_reading(
     marks: &[u8],
     counts: &[u16; 64],
     word: &mut [u8],
-) -> Written
-    ensures { (said_written result, word.new)
+) -> Result<usize, Refusal>
+    ensures { (said_value result, word.new)
         ≡ reading_run rank letters.now marks.now counts.now word.old }
 {
-    if let Verdict::Refused(refusal) = check_reading(rank, letters, marks, counts, word.len()) {
-        return Written::Refused(refusal);
-    }
+    check_reading(rank, letters, marks, counts, word.len())?;
     write_reading(letters, marks, word);
-    Written::Elements(letters.len())
+    Ok(letters.len())
 }

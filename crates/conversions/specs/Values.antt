@@ -10,6 +10,7 @@
 --     values_written               what is said of the letters as bytes is said of the values
 --     valuing                      the ruleset of such values
 -- That the converter then replies as the writer of P lines does is convert_as_written of former_lines. Assumes nothing.
+use Rattle.std.specs.Prelude.{Option, Some, None, Result, Ok, Err}
 use Rattle.std.specs.Prelude.{ℕ, ◌-◌, ◌≤◌, ◌≡◌}
 use Rattle.std.proofs.Math.Path.{refl, sym, ap}
 use Rattle.std.proofs.Common.{◌∙◌, rules}
@@ -28,8 +29,6 @@ use Rattle.former_lines.proofs.Theory.Conversions.{convert_as_written}
 use Rattle.refusals.specs.Running.{all_passing}
 use Rattle.refusals.specs.Said.{said_refusal, said_verdict}
 use Rattle.refusals.specs.declared.refusal.Refusal.{Refusal}
-use Rattle.refusals.specs.declared.answers.Verdict.{Verdict}
-use Rattle.refusals.specs.declared.answers.Verdict.TheVariants.{Passed, Refused}
 use Rattle.acceptance.specs.Bytes.{narrowed}
 use Rattle.scans.specs.Kept.{kept, kept-take}
 use Rattle.line_items.specs.Blank.{blank, blank_long}
@@ -74,14 +73,14 @@ pair_narrowed n xs ms rs out h =
     (λ ws. gives (length (p_line n ws ms rs) ∷ [])) (λ ws. written (p_line n ws ms rs) out) out h (rw (length-map xs narrowed))
 
 -- The verdict of the numbers.
-module _ {v : Verdict} (n k l : ℕ) (ls ms es out : List ℕ) (e : said_verdict v ≡ first (count_judgements n k l) passed) where
+module _ {v : Result (Unit {0}) Refusal} (n k l : ℕ) (ls ms es out : List ℕ) (e : said_verdict v ≡ first (count_judgements n k l) passed) where
   -- It refuses,
-  pub values_stopped : {q : Refusal} → v ≡ Refused q → (said_refusal q, out) ≡ values_run n k l ls ms es out
+  pub values_stopped : {q : Refusal} → v ≡ Err q → (said_refusal q, out) ≡ values_run n k l ls ms es out
   unfolding values_run
   values_stopped f = rw (← e, f)
 
   -- or passes.
-  module _ (f : v ≡ Passed) where
+  module _ (f : v ≡ Ok tt) where
     numbers : Passing (count_judgements n k l)
     numbers = all_passing (count_judgements n k l) e f
 

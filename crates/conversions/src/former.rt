@@ -4,24 +4,24 @@ ghost use Rattle.std.specs.Prelude.{[], ◌∷◌, ◌≡◌, ◌+◌};
 ghost use Rattle.former_lines.specs.Conversion.{convert_run};
 ghost use Rattle.outcomes.specs.Judgements.{length_judged, rank_judged};
 ghost use Rattle.outcomes.specs.Replies.{first, passed, refused};
-ghost use Rattle.refusals.specs.Said.{said_refusal, said_verdict, said_written};
+ghost use Rattle.refusals.specs.Said.{said_refusal, said_verdict, said_value};
 ghost use Rattle.conversions.specs.Breaks.{BreakFits, broken_at};
 ghost use Rattle.conversions.specs.Values.{Roomed, values_run};
 
 use line_items::letters::narrow_letters;
 use line_items::room::{no_letters, no_marks};
-use refusals::answers::{Verdict, Written};
-use refusals::chains::{check_limits, or_else};
+use refusals::chains::check_limits;
 use refusals::numbers::check_length;
 use refusals::refusal::Refusal;
 use scans::line::{Line, scan_line};
 use writers::line::write_pair_line;
 
 // 1 and 2 of a tableau that was read, and 2 of the entries beside it.
-fn check_counts(rank: usize, cells: usize, entries: usize) -> Verdict
+fn check_counts(rank: usize, cells: usize, entries: usize) -> Result<(), Refusal>
     ensures { said_verdict result ≡ first (rank_judged rank ∷ length_judged cells ∷ length_judged entries ∷ []) passed }
 {
-    or_else(check_limits(rank, cells), check_length(entries))
+    check_limits(rank, cells)?;
+    check_length(entries)
 }
 
 // 14 where a line breaks the grammar, so many bytes further on as there are before its text.
@@ -44,14 +44,12 @@ fn write_values(
     marks: &[u8],
     entries: &[u16],
     out: &mut [u8],
-) -> Written
+) -> Result<usize, Refusal>
     requires { Roomed letters.now marks.now entries.now }
-    ensures { (said_written result, out.new)
+    ensures { (said_value result, out.new)
         ≡ values_run rank cells count letters.now marks.now entries.now out.old }
 {
-    if let Verdict::Refused(refusal) = check_counts(rank, cells, count) {
-        return Written::Refused(refusal);
-    }
+    check_counts(rank, cells, count)?;
     let bytes = narrow_letters(&letters[0..cells]);
     write_pair_line(
         rank,
@@ -64,8 +62,8 @@ fn write_values(
 
 // The P line of a T text and an N text, or the refusal of 14, 1 to 8 or 13, which leaves lent memory as it was. The places of 14 in the second text count on
 // from the first's bytes.
-pub fn convert_lines(tableau: &[u8], recording: &[u8], out: &mut [u8]) -> Written
-    ensures { (said_written result, out.new) ≡ convert_run tableau.now recording.now out.old }
+pub fn convert_lines(tableau: &[u8], recording: &[u8], out: &mut [u8]) -> Result<usize, Refusal>
+    ensures { (said_value result, out.new) ≡ convert_run tableau.now recording.now out.old }
 {
     let mut letters = no_letters();
     let mut marks = no_marks();
@@ -75,10 +73,10 @@ pub fn convert_lines(tableau: &[u8], recording: &[u8], out: &mut [u8]) -> Writte
     let first = scan_line(tableau, b'T', true, true, &mut letters, &mut marks);
     let second = scan_line(recording, b'N', false, false, &mut entries, &mut none);
     let Line::Read(rank, cells, _) = first else {
-        return Written::Refused(break_of(0, first));
+        return Err(break_of(0, first));
     };
     let Line::Read(_, count, _) = second else {
-        return Written::Refused(break_of(tableau.len(), second));
+        return Err(break_of(tableau.len(), second));
     };
     write_values(rank, cells, count, &letters, &marks, &entries, out)
 }

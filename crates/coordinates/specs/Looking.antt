@@ -5,6 +5,7 @@
 --     stepping, looking                          the rulesets of steps and of looks
 --     made_says, look_made                       what the making says, and a look through what was made
 -- Assumes nothing.
+use Rattle.std.specs.Prelude.{Option, Some, None, Result, Ok, Err}
 use Rattle.std.specs.Prelude.{ℕ, ◌+◌, ◌-◌, ◌≤◌, ◌<◌, ◌≡◌, List, [], ◌∷◌, length, get_or, take, drop}
 use Rattle.std.proofs.Math.Path.{refl}
 use Rattle.std.proofs.Common.{ap, ◌∙◌, arith, length-drop, take_all, rules, lt-ltb, le-ltb}
@@ -17,8 +18,6 @@ use Rattle.outcomes.proofs.Theory.Looks.{look_through}
 use Rattle.refusals.specs.Said.{said_refusal, said_verdict}
 use Rattle.refusals.specs.Chains.{goes_on, stops}
 use Rattle.refusals.specs.declared.refusal.Refusal.{Refusal}
-use Rattle.refusals.specs.declared.answers.Verdict.{Verdict}
-use Rattle.refusals.specs.declared.answers.Verdict.TheVariants.{Passed, Refused}
 
 -- ---- steps
 
@@ -50,11 +49,11 @@ module _ (xs ms : List ℕ) (k : ℕ) where
   missing l = rw (le-ltb k (length xs) l)
 
   -- By the verdict of the making.
-  pub through_refused : {v : Verdict} (r : Refusal) → v ≡ Refused r → said_refusal r ≡ through_says (said_verdict v) xs ms k
+  pub through_refused : {v : Result (Unit {0}) Refusal} (r : Refusal) → v ≡ Err r → said_refusal r ≡ through_says (said_verdict v) xs ms k
   unfolding through_says
   through_refused {v} r q = stops r (said_verdict v) (gives (cell_at xs ms k)) refl q
 
-  pub through_made : {v : Verdict} {s : Said} → v ≡ Passed → s ≡ gives (cell_at xs ms k) → s ≡ through_says (said_verdict v) xs ms k
+  pub through_made : {v : Result (Unit {0}) Refusal} {s : Said} → v ≡ Ok tt → s ≡ gives (cell_at xs ms k) → s ≡ through_says (said_verdict v) xs ms k
   unfolding through_says
   through_made {v} q e = goes_on (said_verdict v) (gives (cell_at xs ms k)) refl q e
 

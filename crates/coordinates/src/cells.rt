@@ -6,7 +6,8 @@ ghost use Rattle.outcomes.specs.TableauOperations.{cell_at, through_says};
 ghost use Rattle.refusals.specs.Said.{said_cell, said_verdict};
 
 use multiplicities::counts::count_letters;
-use refusals::answers::{Cell, Verdict};
+use refusals::answers::Cell;
+use refusals::refusal::Refusal;
 
 // The steps with a mark on the way to the cell at a place: with 1 the cell's row, with 0 its column. The first cell's mark is no step.
 fn steps_to(mark: u8, marks: &[u8], place: usize) -> usize
@@ -22,23 +23,23 @@ fn steps_to(mark: u8, marks: &[u8], place: usize) -> usize
 }
 
 // The cell at a place.
-pub fn cell_at(letters: &[u8], marks: &[u8], place: usize) -> Cell
+pub fn cell_at(letters: &[u8], marks: &[u8], place: usize) -> Result<Option<Cell>, Refusal>
     ensures { said_cell result ≡ gives (cell_at letters.now marks.now place) }
 {
     if place < letters.len() {
         let row = steps_to(1, marks, place);
         let column = steps_to(0, marks, place);
-        return Cell::Found(letters[place], row, column);
+        return Ok(Some(Cell { letter: letters[place], row, column }));
     }
-    Cell::NoSuchCell
+    Ok(None)
 }
 
 // The cell at a place, through a viewer whose making gave the verdict `made`: a refusal is passed on, so that no cell is called missing for it.
-pub fn cell_through(place: usize, letters: &[u8], marks: &[u8], made: Verdict) -> Cell
+pub fn cell_through(place: usize, letters: &[u8], marks: &[u8], made: Result<(), Refusal>) -> Result<Option<Cell>, Refusal>
     ensures { said_cell result ≡ through_says (said_verdict made) letters.now marks.now place }
 {
     match made {
-        Verdict::Passed => cell_at(letters, marks, place),
-        Verdict::Refused(refusal) => Cell::Refused(refusal),
+        Ok(()) => cell_at(letters, marks, place),
+        Err(refusal) => Err(refusal),
     }
 }

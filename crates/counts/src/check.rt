@@ -7,7 +7,6 @@ ghost use Rattle.refusals.specs.Said.{said_fault, said_verdict};
 
 use crate::blocks::confirmed;
 use crate::tally::tally;
-use refusals::answers::{Fault, Verdict};
 use refusals::refusal::Refusal;
 use shapes::rising::rising_fault;
 
@@ -19,60 +18,60 @@ fn number_wrong(number: u16, count: usize) -> bool
 }
 
 // Where the first wrong number stands, if there is one, by a count of all letters.
-fn first_wrong(letters: &[u8], counts: &[u16; 64]) -> Fault
+fn first_wrong(letters: &[u8], counts: &[u16; 64]) -> Option<usize>
     ensures { said_fault 17 result ≡ counts_judged counts.now letters.now }
 {
     let table = tally(letters);
     let mut i = 0;
     while i < 64 {
         if number_wrong(counts[i], table[i + 1]) {
-            return Fault::At(i);
+            return Some(i);
         }
         i += 1;
     }
-    Fault::Nowhere
+    None
 }
 
 // The same of letters that rise, which are counted only where the first pass did not confirm the numbers.
-fn rising_count_fault(letters: &[u8], counts: &[u16; 64]) -> Fault
+fn rising_count_fault(letters: &[u8], counts: &[u16; 64]) -> Option<usize>
     requires { rising_judged letters.now ≡ passed }
     ensures { said_fault 17 result ≡ counts_judged counts.now letters.now }
 {
     if confirmed(letters, counts) {
-        return Fault::Nowhere;
+        return None;
     }
     first_wrong(letters, counts)
 }
 
 // The same of any letters.
-pub fn count_fault(letters: &[u8], counts: &[u16; 64]) -> Fault
+pub fn count_fault(letters: &[u8], counts: &[u16; 64]) -> Option<usize>
     ensures { said_fault 17 result ≡ counts_judged counts.now letters.now }
 {
-    if let Fault::At(_) = rising_fault(letters) {
+    if let Some(_) = rising_fault(letters) {
         return first_wrong(letters, counts);
     }
     rising_count_fault(letters, counts)
 }
 
 // The verdict of 17 from that place.
-pub fn counts_verdict(fault: Fault) -> Verdict
+pub fn counts_verdict(fault: Option<usize>) -> Result<(), Refusal>
     ensures { said_verdict result ≡ said_fault 17 fault }
 {
     match fault {
-        Fault::At(place) => Verdict::Refused(Refusal::Count(place)),
-        Fault::Nowhere => Verdict::Passed,
+        Some(place) => Err(Refusal::Count(place)),
+        None => Ok(()),
     }
 }
 
 // 17: each of the 64 numbers is how often its letter stands.
-pub fn check_counts(letters: &[u8], counts: &[u16; 64]) -> Verdict
+pub fn check_counts(letters: &[u8], counts: &[u16; 64]) -> Result<(), Refusal>
     ensures { said_verdict result ≡ counts_judged counts.now letters.now }
 {
     counts_verdict(count_fault(letters, counts))
 }
 
 // 17 of letters that rise.
-pub(crate) fn check_rising_counts(letters: &[u8], counts: &[u16; 64]) -> Verdict
+pub(crate) fn check_rising_counts(letters: &[u8], counts: &[u16; 64]) -> Result<(), Refusal>
     requires { rising_judged letters.now ≡ passed }
     ensures { said_verdict result ≡ counts_judged counts.now letters.now }
 {

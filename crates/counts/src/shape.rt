@@ -6,24 +6,19 @@ ghost use Rattle.outcomes.specs.Replies.{first, passed};
 ghost use Rattle.refusals.specs.Said.{said_verdict};
 
 use crate::check::check_rising_counts;
-use refusals::answers::Verdict;
-use refusals::chains::or_else;
 use shapes::marks::check_marks;
 use shapes::rising::check_rising;
+use refusals::refusal::Refusal;
 
 // 5, 6 and 17.
-pub fn check_counted_shape(letters: &[u8], marks: &[u8], counts: &[u16; 64]) -> Verdict
+pub fn check_counted_shape(letters: &[u8], marks: &[u8], counts: &[u16; 64]) -> Result<(), Refusal>
     ensures { said_verdict result
         ≡ first
         (rising_judged letters.now ∷ marks_judged letters.now marks.now
         ∷ counts_judged counts.now letters.now ∷ [])
         passed }
 {
-    if let Verdict::Refused(refusal) = check_rising(letters) {
-        return Verdict::Refused(refusal);
-    }
-    or_else(
-        check_marks(letters, marks),
-        check_rising_counts(letters, counts),
-    )
+    check_rising(letters)?;
+    check_marks(letters, marks)?;
+    check_rising_counts(letters, counts)
 }

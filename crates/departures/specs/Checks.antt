@@ -5,6 +5,7 @@
 --     sizes_refused, sizes_passed    what follows from the verdict on 1, 2 and 3
 --     checking                       the ruleset of the checks
 -- Assumes nothing.
+use Rattle.std.specs.Prelude.{Option, Some, None, Result, Ok, Err}
 use Rattle.std.specs.Prelude.{ℕ, ◌-◌, ◌≡◌, refl, List, [], ◌∷◌, ◌++◌, eqb, drop, length, take}
 use Rattle.std.proofs.Math.Nat.{sub-zero}
 use Rattle.std.proofs.Common.{◌∙◌, length-take-le, rules}
@@ -16,8 +17,6 @@ use Rattle.outcomes.proofs.Theory.Passing.{Passing, first_past}
 use Rattle.refusals.specs.Running.{checks_then, checked_last, stops_there, goes_further}
 use Rattle.refusals.specs.Said.{said_refusal, said_verdict}
 use Rattle.refusals.specs.declared.refusal.Refusal.{Refusal}
-use Rattle.refusals.specs.declared.answers.Verdict.{Verdict}
-use Rattle.refusals.specs.declared.answers.Verdict.TheVariants.{Passed, Refused}
 use Rattle.windows.specs.Departures.{empty_judged, window_judgements}
 use Rattle.admissions.specs.Checks.{Sized, size_judgements, sizes_sized}
 
@@ -49,7 +48,7 @@ used_counted n used xs ms rs cs h =
     rw (as_letters, as_marks, as_entries) (first_past js (window_cells n used (pair_with xs ms rs) cs) passed pass)
 
 -- The cells, then whether there are any.
-pub cells_checked : (t u v : Verdict) (n used : ℕ) (xs ms rs cs : List ℕ) → said_verdict t ≡ or_else (said_verdict u) (said_verdict v)
+pub cells_checked : (t u v : Result (Unit {0}) Refusal) (n used : ℕ) (xs ms rs cs : List ℕ) → said_verdict t ≡ or_else (said_verdict u) (said_verdict v)
     → said_verdict u ≡ first (counted_pair_judgements n (take (used - 0) xs) (take (used - 0) ms) (take (used - 0) rs) cs) passed
     → said_verdict v ≡ refuse_if (eqb used 0) 18 0 passed → Sized n used (length xs) (length ms) (length rs)
     → said_verdict t ≡ cell_checks n used (pair_with xs ms rs) cs
@@ -59,15 +58,15 @@ cells_checked t u v n used xs ms rs cs e f g h = checked_last t u v _ e (rw sub-
 -- ---- 1, 2 and 3
 
 -- The verdict on the sizes,
-module _ {v : Verdict} (n used : ℕ) (xs ms rs cs : List ℕ)
+module _ {v : Result (Unit {0}) Refusal} (n used : ℕ) (xs ms rs cs : List ℕ)
     (e : said_verdict v ≡ first (size_judgements n used (length xs) (length ms) (length rs)) passed) where
   -- which refuses,
-  pub sizes_refused : (r : Refusal) → v ≡ Refused r → said_refusal r ≡ depart_checks n used (pair_with xs ms rs) cs
+  pub sizes_refused : (r : Refusal) → v ≡ Err r → said_refusal r ≡ depart_checks n used (pair_with xs ms rs) cs
   unfolding depart_checks
   sizes_refused r q = stops_there _ e _ r q
 
   -- or passes, and the other checks decide,
-  pub sizes_passed : {s : Said} → v ≡ Passed → s ≡ cell_checks n used (pair_with xs ms rs) cs → s ≡ depart_checks n used (pair_with xs ms rs) cs
+  pub sizes_passed : {s : Said} → v ≡ Ok tt → s ≡ cell_checks n used (pair_with xs ms rs) cs → s ≡ depart_checks n used (pair_with xs ms rs) cs
   unfolding depart_checks
   sizes_passed q h = goes_further _ e _ _ q h
 

@@ -4,6 +4,7 @@
 --     passed_window                      what holds once they have passed; passed_some, passed_read, passed_counted: what is then asked
 --     replying                           the ruleset of the operation
 -- That the cell with the entry 1 taken out leaves the pair of the other letters is departs of windows. Assumes nothing.
+use Rattle.std.specs.Prelude.{Option, Some, None, Result, Ok, Err}
 use Rattle.std.specs.Prelude.{ℕ, ◌-◌, ◌≤◌, ◌<◌, ◌≡◌, length, get_or, take}
 use Rattle.std.proofs.Common.{arith, ◌∙◌, get_or-take, length-take-le, rules}
 use Rattle.std.proofs.Math.Path.{sym, ap}
@@ -15,8 +16,6 @@ use Rattle.outcomes.specs.TableauOperations.{written_pair}
 use Rattle.refusals.specs.Running.{then_passing, run_refused, run_passed}
 use Rattle.refusals.specs.Said.{said_refusal, said_verdict}
 use Rattle.refusals.specs.declared.refusal.Refusal.{Refusal}
-use Rattle.refusals.specs.declared.answers.Verdict.{Verdict}
-use Rattle.refusals.specs.declared.answers.Verdict.TheVariants.{Passed, Refused}
 use Rattle.windows.specs.Departures.{WindowAt, depart_run, depart_says}
 use Rattle.windows.specs.Gaps.{closed}
 use Rattle.windows.proofs.Theory.Departures.{departs, empty-judged, first_letter, oldest_counted, oldest_stands, window_passing}
@@ -31,14 +30,14 @@ pub record Counted (a : ℕ) (cs : List ℕ) : Type 0 where
   pub some : 0 < get_or cs (a - 1) 0
 
 -- The verdict of all checks,
-module _ {v : Verdict} (n used : ℕ) (xs ms rs cs : List ℕ) (e : said_verdict v ≡ depart_checks n used (pair_with xs ms rs) cs) where
+module _ {v : Result (Unit {0}) Refusal} (n used : ℕ) (xs ms rs cs : List ℕ) (e : said_verdict v ≡ depart_checks n used (pair_with xs ms rs) cs) where
   -- which refuses, and nothing changes,
-  pub depart_refused : (r : Refusal) → v ≡ Refused r → (said_refusal r, (pair_with xs ms rs, cs)) ≡ depart_run n used (pair_with xs ms rs) cs
+  pub depart_refused : (r : Refusal) → v ≡ Err r → (said_refusal r, (pair_with xs ms rs, cs)) ≡ depart_run n used (pair_with xs ms rs) cs
   unfolding depart_checks depart_run depart_says
   depart_refused r q = run_refused _ _ e {A = Pair × List ℕ} _ _ (pair_with xs ms rs, cs) r q
 
   -- or passes, and there is a window with a letter in it.
-  module _ (q : v ≡ Passed) where
+  module _ (q : v ≡ Ok tt) where
     passed_window : WindowAt n used (pair_with xs ms rs) cs × (0 < used)
     unfolding depart_checks
     passed_window =

@@ -7,9 +7,6 @@ ghost use Rattle.admissions.specs.Checks.{Sized};
 ghost use Rattle.departures.specs.Checks.{cell_checks, depart_checks};
 
 use admissions::checks::check_sizes;
-use refusals::answers::Verdict;
-use refusals::chains::or_else;
-use refusals::numbers::refuse_if;
 use refusals::refusal::Refusal;
 use validity::counted::check_counted_pair;
 
@@ -21,19 +18,22 @@ fn check_used_cells(
     marks: &[u8],
     entries: &[u16],
     counts: &[u16; 64],
-) -> Verdict
+) -> Result<(), Refusal>
     requires { Sized rank used (length letters.now) (length marks.now) (length entries.now) }
     ensures { said_verdict result
         ≡ cell_checks rank used (pair_with letters.now marks.now entries.now) counts.now }
 {
-    let cells = check_counted_pair(
+    check_counted_pair(
         rank,
         &letters[0..used],
         &marks[0..used],
         &entries[0..used],
         counts,
-    );
-    or_else(cells, refuse_if(used == 0, Refusal::Empty))
+    )?;
+    if used == 0 {
+        return Err(Refusal::Empty);
+    }
+    Ok(())
 }
 
 // All checks of a departure.
@@ -44,18 +44,16 @@ pub(crate) fn check_departure(
     marks: &[u8],
     entries: &[u16],
     counts: &[u16; 64],
-) -> Verdict
+) -> Result<(), Refusal>
     ensures { said_verdict result
         ≡ depart_checks rank used (pair_with letters.now marks.now entries.now) counts.now }
 {
-    if let Verdict::Refused(refusal) = check_sizes(
+    check_sizes(
         rank,
         used,
         letters.len(),
         marks.len(),
         entries.len(),
-    ) {
-        return Verdict::Refused(refusal);
-    }
+    )?;
     check_used_cells(rank, used, letters, marks, entries, counts)
 }

@@ -3,14 +3,14 @@
 ghost use Rattle.std.specs.Prelude.{◌≡◌};
 ghost use Rattle.outcomes.specs.Counts.{one_less};
 ghost use Rattle.hypoplactic.specs.Insertion.{pair_with};
-ghost use Rattle.refusals.specs.Said.{said_used};
+ghost use Rattle.refusals.specs.Said.{said_value};
 ghost use Rattle.windows.specs.Departures.{depart_run};
 ghost use Rattle.departures.specs.Departure.{Counted};
 
 use crate::checks::check_departure;
 use closings::lists::{close_entries, close_letters, close_marks};
 use closings::oldest::oldest_cell;
-use refusals::answers::{Used, Verdict};
+use refusals::refusal::Refusal;
 
 // One less of a letter.
 fn drop_count(letter: u8, counts: &mut [u16; 64])
@@ -30,20 +30,18 @@ pub fn remove_oldest(
     marks: &mut [u8],
     entries: &mut [u16],
     counts: &mut [u16; 64],
-) -> Used
-    ensures { (said_used result, (pair_with letters.new marks.new entries.new, counts.new))
+) -> Result<usize, Refusal>
+    ensures { (said_value result, (pair_with letters.new marks.new entries.new, counts.new))
         ≡ depart_run rank used (pair_with letters.old marks.old entries.old) counts.old }
 {
-    if let Verdict::Refused(refusal) = check_departure(
+    check_departure(
         rank, used, letters, marks, entries, counts,
-    ) {
-        return Used::Refused(refusal);
-    }
+    )?;
     let left = used - 1;
     let at = oldest_cell(used, entries);
     drop_count(letters[at], counts);
     close_letters(at, used, letters);
     close_marks(at, used, marks, entries);
     close_entries(at, used, entries);
-    Used::Cells(left)
+    Ok(left)
 }

@@ -5,6 +5,7 @@
 --     way_back_recorded                  what holds once the checks have passed
 --     going_back                         the ruleset of the way back
 -- The word that is to be is in Recorded. Assumes nothing.
+use Rattle.std.specs.Prelude.{Option, Some, None, Result, Ok, Err}
 use Rattle.std.specs.Prelude.{ℕ, zero, suc, ◌+◌, ◌-◌, ◌≤◌, ◌<◌, ◌≡◌, refl, List, [], ◌∷◌, Bool, true, false, cond, eqb, length, get_or, set, drop}
 use Rattle.std.proofs.Common.{add-one, arith, sym, ◌∙◌, Fits, length-set, drop_of_length-le, drop-cons, ext_get_or, get_or-set_other, get_or-set_same, rules, eqb-true, eq-eqb}
 use Rattle.std.specs.Int.{w64}
@@ -24,8 +25,6 @@ use Rattle.hypoplactic.proofs.Theory.Once.{once_entries}
 use Rattle.refusals.specs.Running.{checks_then, then_passing, run_refused, run_passed}
 use Rattle.refusals.specs.Said.{said_refusal, said_verdict}
 use Rattle.refusals.specs.declared.refusal.Refusal.{Refusal}
-use Rattle.refusals.specs.declared.answers.Verdict.{Verdict}
-use Rattle.refusals.specs.declared.answers.Verdict.TheVariants.{Passed, Refused}
 use Rattle.inverses.specs.Recorded.{Recorded, recorded_within, letter_or, letter_absent, length_back, written_at}
 
 -- ---- the place that an entry tells
@@ -113,20 +112,20 @@ end_writing {xs} {rs} {old} {now} {k} h w l =
 -- ---- the reply
 
 -- The verdict of 1 to 8 and 17 on the pair and of 13,
-module _ {v : Verdict} (n : ℕ) (xs ms rs cs out : List ℕ)
+module _ {v : Result (Unit {0}) Refusal} (n : ℕ) (xs ms rs cs out : List ℕ)
     (e : said_verdict v ≡ checks_then (counted_pair_judgements n xs ms rs cs) (room_judged (length xs) (length out) ∷ [])) where
   -- which refuses, and nothing changes,
-  pub way_back_refused : (r : Refusal) → v ≡ Refused r → (said_refusal r, out) ≡ word_run n xs ms rs cs out
+  pub way_back_refused : (r : Refusal) → v ≡ Err r → (said_refusal r, out) ≡ word_run n xs ms rs cs out
   unfolding word_run word_says
   way_back_refused r q = run_refused _ _ e _ _ out r q
 
   -- or passes, and the word is written,
-  pub way_back_passed : (now : List ℕ) → v ≡ Passed → now ≡ written (word_of xs rs) out → (gives (length xs ∷ []), now) ≡ word_run n xs ms rs cs out
+  pub way_back_passed : (now : List ℕ) → v ≡ Ok tt → now ≡ written (word_of xs rs) out → (gives (length xs ∷ []), now) ≡ word_run n xs ms rs cs out
   unfolding word_run word_says
   way_back_passed now q h = run_passed _ _ e _ _ out now q h
 
   -- since the pair is valid and there is room.
-  pub way_back_recorded : v ≡ Passed → Recorded xs rs (length out)
+  pub way_back_recorded : v ≡ Ok tt → Recorded xs rs (length out)
   way_back_recorded q =
       let (checks, (room, t)) = then_passing _ _ e q in
       let pair : PairAt n xs ms rs = ((counted_pair_passing n xs ms rs cs).0 checks).0 in

@@ -7,14 +7,13 @@ ghost use Rattle.outcomes.specs.Replies.{written};
 ghost use Rattle.outcomes.specs.TableauOperations.{word_run};
 ghost use Rattle.hypoplactic.specs.Words.{Within};
 ghost use Rattle.refusals.specs.Running.{checks_then};
-ghost use Rattle.refusals.specs.Said.{said_verdict, said_written};
+ghost use Rattle.refusals.specs.Said.{said_verdict, said_value};
 ghost use Rattle.inverses.specs.Recorded.{Recorded};
 ghost use Rattle.inverses.specs.WayBack.{Told};
 
-use refusals::answers::{Verdict, Written};
-use refusals::chains::or_else;
 use refusals::numbers::check_room;
 use validity::counted::check_counted_pair;
+use refusals::refusal::Refusal;
 
 // 1 to 6 of the pair, 17 of its letter counts, 7 and 8, and 13: room for as many letters as it has cells.
 fn check_way_back(
@@ -24,14 +23,14 @@ fn check_way_back(
     entries: &[u16],
     counts: &[u16; 64],
     room: usize,
-) -> Verdict
+) -> Result<(), Refusal>
     ensures { said_verdict result
         ≡ checks_then
         (counted_pair_judgements rank letters.now marks.now entries.now counts.now)
         (room_judged (length letters.now) room ∷ []) }
 {
-    let pair = check_counted_pair(rank, letters, marks, entries, counts);
-    or_else(pair, check_room(letters.len(), room))
+    check_counted_pair(rank, letters, marks, entries, counts)?;
+    check_room(letters.len(), room)
 }
 
 // The place in the word that the entry of a cell tells: places count from 0, entries from 1.
@@ -63,20 +62,18 @@ pub fn word_of_pair(
     entries: &[u16],
     counts: &[u16; 64],
     word: &mut [u8],
-) -> Written
-    ensures { (said_written result, word.new)
+) -> Result<usize, Refusal>
+    ensures { (said_value result, word.new)
         ≡ word_run rank letters.now marks.now entries.now counts.now word.old }
 {
-    if let Verdict::Refused(refusal) = check_way_back(
+    check_way_back(
         rank,
         letters,
         marks,
         entries,
         counts,
         word.len(),
-    ) {
-        return Written::Refused(refusal);
-    }
+    )?;
     write_word(letters, entries, word);
-    Written::Elements(letters.len())
+    Ok(letters.len())
 }

@@ -2,14 +2,13 @@
 ghost use Rattle.std.specs.Prelude.{◌≡◌, ◌+◌, ◌<◌, ◌&&◌, eqb};
 ghost use Rattle.quasi_crystal.specs.Moves.{below, from_to};
 
-use refusals::numbers::{both, either, least};
 
 // Whether a step goes down from the letter `here` to `next`, the one after it. A mark 1 is a step down. Every test is made, so that no branch is left.
 fn steps_below(here: u8, next: u8, upper: u8, lower: u8, mark: u8) -> bool
     requires { next ≡ here + 1 }
     ensures { result ≡ (from_to here upper lower && eqb mark 1) }
 {
-    both(both(upper == here, lower == next), mark == 1)
+    (upper == here) & (lower == next) & (mark == 1)
 }
 
 // Whether the letter after `here` stands directly below it. The first cell has no step into it; places that only one of the lists has are no cells. The
@@ -18,15 +17,12 @@ fn some_step_below(here: u8, letters: &[u8], marks: &[u8]) -> bool
     requires { here < 255 }
     ensures { result ≡ below here letters.now marks.now }
 {
-    let size = least(letters.len(), marks.len());
+    let size = letters.len().min(marks.len());
     let next = here + 1;
     let mut found = false;
     let mut i = 1;
     while i < size {
-        found = either(
-            found,
-            steps_below(here, next, letters[i - 1], letters[i], marks[i]),
-        );
+        found = found | steps_below(here, next, letters[i - 1], letters[i], marks[i]);
         i += 1;
     }
     found

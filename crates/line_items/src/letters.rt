@@ -5,13 +5,12 @@ ghost use Rattle.scans.specs.Kept.{kept};
 ghost use Rattle.line_items.specs.Blank.{blank};
 
 use acceptance::bytes::narrow;
-use refusals::numbers::least;
 
 // Letters as bytes, at the beginning of an array, as many as it has room for; 0 behind them.
 pub fn narrow_letters(letters: &[u16]) -> [u8; 1024]
     ensures { result ≡ kept (map narrowed letters.now) (blank 1024) }
 {
-    let count = least(letters.len(), 1024);
+    let count = letters.len().min(1024);
     let mut bytes = [0u8; 1024];
     let mut i = 0;
     while i < count {

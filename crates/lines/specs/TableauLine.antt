@@ -6,6 +6,7 @@
 --     made_refused, made_line  the same of the tableau line and the T line's writer
 --     lining                   the ruleset of the tableau line
 -- Assumes nothing.
+use Rattle.std.specs.Prelude.{Option, Some, None, Result, Ok, Err}
 use Rattle.std.specs.Prelude.{ℕ, ◌-◌, ◌≤◌, ◌≡◌, take}
 use Rattle.std.proofs.Math.Path.{sym, ap}
 use Rattle.std.proofs.Common.{◌∙◌, arith, rules}
@@ -28,10 +29,8 @@ use Rattle.hypoplactic.proofs.Theory.Pairs.{length-letters, length-marks}
 use Rattle.outcomes.proofs.Theory.Passing.{Passing}
 use Rattle.outcomes.proofs.Theory.Results.{pair_result}
 use Rattle.refusals.specs.Outcomes.{Outcome, accepted, stopped, outcome, not_both, wrote_elements}
-use Rattle.refusals.specs.Said.{said_written}
+use Rattle.refusals.specs.Said.{said_value}
 use Rattle.refusals.specs.declared.refusal.Refusal.{Refusal}
-use Rattle.refusals.specs.declared.answers.Written.{Written}
-use Rattle.refusals.specs.declared.answers.Written.TheVariants.{Elements, Refused}
 
 -- The first m cells of xs and ms are the tableau of an accepted word.
 pub record Made (n : ℕ) (w xs ms : List ℕ) (m : ℕ) : Type 0 where
@@ -56,18 +55,18 @@ module _ (n : ℕ) (w ls ks js : List ℕ) (long : 1024 ≤ length ls) (long' : 
   judged = outcome n w rooms (length w ∷ []) enough
 
   -- What they hold after it, beside its answer and the counts.
-  module _ (cs xs ms rs ds : List ℕ) (made : Written) (e : (said_written made, (pair_with xs ms rs, ds)) ≡ pair_run n w (pair_with ls ks js) cs) where
-    said : said_written made ≡ pair_says n w (length ls) (length ks) (length js)
+  module _ (cs xs ms rs ds : List ℕ) (made : Result ℕ Refusal) (e : (said_value made, (pair_with xs ms rs, ds)) ≡ pair_run n w (pair_with ls ks js) cs) where
+    said : said_value made ≡ pair_says n w (length ls) (length ks) (length js)
     unfolding pair_run
     said = ap (λ (o : Said × (Pair × List ℕ)). o.0) e
 
     -- The answer tells cells.
-    pub tableau_made : (m : ℕ) → made ≡ Elements m → Made n w xs ms m
+    pub tableau_made : (m : ℕ) → made ≡ Ok m → Made n w xs ms m
     unfolding pair_says
     tableau_made m q = go judged
       where
         go : Outcome n w rooms (length w ∷ []) → Made n w xs ms m
-        go (stopped j p h) = absurd (not_both (sym (ap said_written q) ∙ said ∙ h rooms (gives (length w ∷ []))))
+        go (stopped j p h) = absurd (not_both (sym (ap said_value q) ∙ said ∙ h rooms (gives (length w ∷ []))))
         go (accepted a h) =
             let short : length w ≤ 1024 = a.short in
             let all = e ∙ pair_result n w a (pair_with ls ks js) cs (omega arith) (omega arith) (omega arith) in
@@ -85,18 +84,18 @@ module _ (n : ℕ) (w ls ks js : List ℕ) (long : 1024 ≤ length ls) (long' : 
             }
 
     -- The answer is a refusal, and so is that of a line of the word,
-    pub line_refused : (q : Refusal) (bytes out : List ℕ) → made ≡ Refused q → (said_written made, out) ≡ line_run (word_judgements n w) bytes out
+    pub line_refused : (q : Refusal) (bytes out : List ℕ) → made ≡ Err q → (said_value made, out) ≡ line_run (word_judgements n w) bytes out
     unfolding pair_says
     line_refused q bytes out h = go judged
       where
-        go : Outcome n w rooms (length w ∷ []) → (said_written made, out) ≡ line_run (word_judgements n w) bytes out
-        go (accepted a g) = absurd (not_both (sym (sym (ap said_written h) ∙ said ∙ g)))
+        go : Outcome n w rooms (length w ∷ []) → (said_value made, out) ≡ line_run (word_judgements n w) bytes out
+        go (accepted a g) = absurd (not_both (sym (sym (ap said_value h) ∙ said ∙ g)))
         go (stopped j p f) =
             rw (f (room_judged (length bytes) (length out) ∷ []) (gives (length bytes ∷ [])))
             (ap (λ (s : Said). (s, out)) (said ∙ f rooms (gives (length w ∷ []))))
 
     -- such as the tableau line.
-    pub made_refused : (q : Refusal) (out : List ℕ) → made ≡ Refused q → (said_written made, out) ≡ tableau_line_run n w out
+    pub made_refused : (q : Refusal) (out : List ℕ) → made ≡ Err q → (said_value made, out) ≡ tableau_line_run n w out
     unfolding tableau_line_run
     made_refused q out h = line_refused q (tableau_line n w) out h
 
@@ -112,7 +111,7 @@ module _ {n : ℕ} {w xs ms : List ℕ} {m : ℕ} (h : Made n w xs ms m) where
       (sym (past_checks (tableau_judgements n (letters_of w) (marks_of w)) bytes out passes) ∙ past_checks (word_judgements n w) bytes out ((word_passing n w).1 h.word))
 
   -- as where the writer of T lines replies.
-  pub made_line : (out out' : List ℕ) (r : Written) → (said_written r, out') ≡ t_line_run n (take m xs) (take m ms) out → (said_written r, out') ≡ tableau_line_run n w out
+  pub made_line : (out out' : List ℕ) (r : Result ℕ Refusal) → (said_value r, out') ≡ t_line_run n (take m xs) (take m ms) out → (said_value r, out') ≡ tableau_line_run n w out
   unfolding t_line_run tableau_line_run tableau_line
   made_line out out' r e = e ∙ line_made t_line out
 
@@ -121,16 +120,16 @@ pub record Reached (cells letters marks : ℕ) : Type 0 where
   pub of_letters : cells ≤ letters
   pub of_marks : cells ≤ marks
 
-pub cells_reach : (n : ℕ) (w ls ks js cs xs ms rs ds : List ℕ) (made : Written) (m : ℕ)
-    → (said_written made, (pair_with xs ms rs, ds)) ≡ pair_run n w (pair_with ls ks js) cs → made ≡ Elements m → 1024 ≤ length ls → 1024 ≤ length ks
+pub cells_reach : (n : ℕ) (w ls ks js cs xs ms rs ds : List ℕ) (made : Result ℕ Refusal) (m : ℕ)
+    → (said_value made, (pair_with xs ms rs, ds)) ≡ pair_run n w (pair_with ls ks js) cs → made ≡ Ok m → 1024 ≤ length ls → 1024 ≤ length ks
     → 1024 ≤ length js → Reached m (length xs) (length ms)
 cells_reach n w ls ks js cs xs ms rs ds made m e q long long' long'' =
     let h : Made n w xs ms m = tableau_made n w ls ks js long long' long'' cs xs ms rs ds made e m q in
     record { of_letters = h.letters_reach; of_marks = h.marks_reach }
 
 -- Cells taken from the first on.
-pub cut_line : (n m : ℕ) (xs ms out out' : List ℕ) (r : Written) → (said_written r, out') ≡ t_line_run n (take (m - 0) xs) (take (m - 0) ms) out
-    → (said_written r, out') ≡ t_line_run n (take m xs) (take m ms) out
+pub cut_line : (n m : ℕ) (xs ms out out' : List ℕ) (r : Result ℕ Refusal) → (said_value r, out') ≡ t_line_run n (take (m - 0) xs) (take (m - 0) ms) out
+    → (said_value r, out') ≡ t_line_run n (take m xs) (take m ms) out
 cut_line n m xs ms out out' r e = let z : m - 0 ≡ m = omega arith in rw z at e
 
 pub ruleset lining = (cut_line, tableau_made, made_refused, cells_reach, made_line, rules)

@@ -6,6 +6,7 @@
 --     refused_product, passed_product    the reply, and all outputs, from the verdict of the checks on
 --     checking, replying                 the rulesets of the checks and of the operation
 -- Assumes nothing.
+use Rattle.std.specs.Prelude.{Option, Some, None, Result, Ok, Err}
 use Prim.Native.Nat.{ℕ, suc, ◌+◌, ◌≤◌}
 use Rattle.std.specs.Prelude.{◌≡◌}
 use Rattle.std.proofs.Math.Path.{sym}
@@ -32,8 +33,6 @@ use Rattle.refusals.specs.Chains.{chaining, goes_on}
 use Rattle.refusals.specs.Running.{checks_then, stops_there, then_passing, run_refused, run_passed}
 use Rattle.refusals.specs.Said.{said_refusal, said_verdict}
 use Rattle.refusals.specs.declared.refusal.Refusal.{Refusal}
-use Rattle.refusals.specs.declared.answers.Verdict.{Verdict}
-use Rattle.refusals.specs.declared.answers.Verdict.TheVariants.{Passed, Refused}
 use Rattle.words.specs.Tables.{Table, Counts, true_counts}
 use Rattle.fillings.specs.Filled.{filled}
 use Rattle.fillings.specs.Tableau.{filled_word}
@@ -48,12 +47,12 @@ product_checked n xs ms cs ys ns es letters marks =
     checks_then (factors_judgements n xs ms cs ys ns es) (tableau_rooms (length xs + length ys) letters marks)
 
 -- The factors are refused, or what follows decides.
-module _ {v : Verdict} (n : ℕ) (xs ms cs ys ns es : List ℕ) (e : said_verdict v ≡ first (factors_judgements n xs ms cs ys ns es) passed) where
-  pub checked_factors : (letters marks : ℕ) (r : Refusal) → v ≡ Refused r → said_refusal r ≡ product_checked n xs ms cs ys ns es letters marks
+module _ {v : Result (Unit {0}) Refusal} (n : ℕ) (xs ms cs ys ns es : List ℕ) (e : said_verdict v ≡ first (factors_judgements n xs ms cs ys ns es) passed) where
+  pub checked_factors : (letters marks : ℕ) (r : Refusal) → v ≡ Err r → said_refusal r ≡ product_checked n xs ms cs ys ns es letters marks
   unfolding product_checked
   checked_factors letters marks r q = stops_there (factors_judgements n xs ms cs ys ns es) e _ r q
 
-  pub checked_rooms : {s : Said} (letters marks : ℕ) → v ≡ Passed
+  pub checked_rooms : {s : Said} (letters marks : ℕ) → v ≡ Ok tt
       → s ≡ or_else (room_judged (length xs + length ys) letters) (or_else (room_judged (length xs + length ys) marks) passed)
       → s ≡ product_checked n xs ms cs ys ns es letters marks
   unfolding product_checked checks_then
@@ -114,8 +113,8 @@ module _ {n : ℕ} {xs ms cs ys ns es : List ℕ} (h : Factors n xs ms cs ys ns 
 -- ---- the operation
 
 -- The verdict of 1 to 6 and 17 on the factors and of 13 passes.
-module _ {v : Verdict} (n : ℕ) (xs ms cs ys ns es : List ℕ) (letters marks : ℕ)
-    (e : said_verdict v ≡ product_checked n xs ms cs ys ns es letters marks) (q : v ≡ Passed) where
+module _ {v : Result (Unit {0}) Refusal} (n : ℕ) (xs ms cs ys ns es : List ℕ) (letters marks : ℕ)
+    (e : said_verdict v ≡ product_checked n xs ms cs ys ns es letters marks) (q : v ≡ Ok tt) where
   -- Both are tableaux that fit together, with true letter counts,
   factors : Factors n xs ms cs ys ns es
   unfolding product_checked
@@ -148,16 +147,16 @@ module _ {v : Verdict} (n : ℕ) (xs ms cs ys ns es : List ℕ) (letters marks :
   counts_fit = fit factors
 
 -- The operation, from that verdict on:
-module _ {v : Verdict} (n : ℕ) (xs ms cs ys ns es letters marks counts : List ℕ)
+module _ {v : Result (Unit {0}) Refusal} (n : ℕ) (xs ms cs ys ns es letters marks counts : List ℕ)
     (e : said_verdict v ≡ product_checked n xs ms cs ys ns es (length letters) (length marks)) where
   -- a refusal, and all outputs are as they were,
-  pub refused_product : (r : Refusal) → v ≡ Refused r
+  pub refused_product : (r : Refusal) → v ≡ Err r
       → (said_refusal r, (letters, (marks, counts))) ≡ product_run n xs ms cs ys ns es letters marks counts
   unfolding product_run product_says product_checked
   refused_product r q = run_refused _ _ e _ _ (letters, (marks, counts)) r q
 
   -- or letters and marks, filled by the counts of both factors and the set that these make, hold the product, beside the sums of both counts.
-  pub passed_product : {ds gs sums : List ℕ} {set : ℕ} (ls ks : List ℕ) → v ≡ Passed → Table (λ a. tick (down_out a xs ms) 0) ds
+  pub passed_product : {ds gs sums : List ℕ} {set : ℕ} (ls ks : List ℕ) → v ≡ Ok tt → Table (λ a. tick (down_out a xs ms) 0) ds
       → Table (λ a. tick (down_out a ys ns) 0) gs → Merged n cs ds es gs set → Sums cs es sums → (ls, ks) ≡ filled n sums set letters marks
       → (gives ((length xs + length ys) ∷ []), (ls, (ks, sums))) ≡ product_run n xs ms cs ys ns es letters marks counts
   unfolding product_run product_says product_checked

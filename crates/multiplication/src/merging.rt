@@ -4,7 +4,6 @@ ghost use Rattle.std.specs.Prelude.{◌≤◌, ◌≡◌, cond};
 ghost use Rattle.hypoplactic.specs.Words.{tick};
 ghost use Rattle.multiplication.specs.Merging.{Merged, product_bit};
 
-use refusals::numbers::{both, either};
 
 // One of two counts, by a test.
 fn choose(test: bool, one: u16, other: u16) -> u16
@@ -24,9 +23,9 @@ fn product_bit(
 ) -> u64
     ensures { result ≡ tick (product_bit first_next second_next first_down second_count second_down) 0 }
 {
-    let from_first = both(0 < first_next, either(0 < first_down, 0 < second_count));
-    let within_second = both(0 < second_next, 0 < second_down);
-    if either(from_first, within_second) {
+    let from_first = (0 < first_next) & ((0 < first_down) | (0 < second_count));
+    let within_second = (0 < second_next) & (0 < second_down);
+    if from_first | within_second {
         1
     } else {
         0
@@ -61,7 +60,7 @@ pub(crate) fn merged_set(
             second_downs[a],
         );
         set = (set << 1) | bit;
-        let occurs = either(0 < first_count, 0 < second_count);
+        let occurs = (0 < first_count) | (0 < second_count);
         first_next = choose(occurs, first_count, first_next);
         second_next = choose(occurs, second_count, second_next);
     }

@@ -2,17 +2,16 @@
 // alone.
 ghost use Rattle.std.specs.Prelude.{◌≡◌};
 ghost use Rattle.products.specs.Products.{product_run};
-ghost use Rattle.refusals.specs.Said.{said_verdict, said_written};
+ghost use Rattle.refusals.specs.Said.{said_verdict, said_value};
 ghost use Rattle.multiplication.specs.Product.{product_checked};
 
 use crate::downs::downs_of;
 use crate::merging::merged_set;
 use crate::sums::sum_counts;
 use fillings::tableau::fill_tableau;
-use refusals::answers::{Verdict, Written};
-use refusals::chains::or_else;
 use refusals::numbers::check_room;
 use second_tableaux::factors::check_factors;
+use refusals::refusal::Refusal;
 
 // 1 to 6 and 17 of the factors, then 13 of both outputs. The cells are added only where 2 has passed.
 fn check_product(
@@ -25,7 +24,7 @@ fn check_product(
     second_counts: &[u16; 64],
     letters: usize,
     marks: usize,
-) -> Verdict
+) -> Result<(), Refusal>
     ensures { said_verdict result
         ≡ product_checked
         rank
@@ -38,7 +37,7 @@ fn check_product(
         letters
         marks }
 {
-    if let Verdict::Refused(refusal) = check_factors(
+    check_factors(
         rank,
         first_letters,
         first_marks,
@@ -46,11 +45,10 @@ fn check_product(
         second_letters,
         second_marks,
         second_counts,
-    ) {
-        return Verdict::Refused(refusal);
-    }
+    )?;
     let cells = first_letters.len() + second_letters.len();
-    or_else(check_room(cells, letters), check_room(cells, marks))
+    check_room(cells, letters)?;
+    check_room(cells, marks)
 }
 
 // The product of two tableaux, into lent letters, marks and letter counts, or the refusal of 1 to 6, 17 or 13, which leaves all as they were.
@@ -65,8 +63,8 @@ pub fn product(
     letters: &mut [u8],
     marks: &mut [u8],
     counts: &mut [u16; 64],
-) -> Written
-    ensures { (said_written result, (letters.new, (marks.new, counts.new)))
+) -> Result<usize, Refusal>
+    ensures { (said_value result, (letters.new, (marks.new, counts.new)))
         ≡ product_run
         rank
         first_letters.now
@@ -79,7 +77,7 @@ pub fn product(
         marks.old
         counts.old }
 {
-    if let Verdict::Refused(refusal) = check_product(
+    check_product(
         rank,
         first_letters,
         first_marks,
@@ -89,9 +87,7 @@ pub fn product(
         second_counts,
         letters.len(),
         marks.len(),
-    ) {
-        return Written::Refused(refusal);
-    }
+    )?;
     let cells = first_letters.len() + second_letters.len();
     let first_downs = downs_of(first_letters, first_marks);
     let second_downs = downs_of(second_letters, second_marks);
@@ -105,5 +101,5 @@ pub fn product(
     let sums = sum_counts(first_counts, second_counts);
     fill_tableau(rank, &sums, set, letters, marks);
     *counts = sums;
-    Written::Elements(cells)
+    Ok(cells)
 }

@@ -7,6 +7,7 @@
 --     move_on, repeat_on            past checks that begin with 1 and 2, what is said is what those checks and the move's say
 --     changing, recurring           the rulesets of moves and of repeat counts
 -- The place that a move changes is in Targets. Assumes nothing.
+use Rattle.std.specs.Prelude.{Option, Some, None, Result, Ok, Err}
 use Rattle.std.specs.Prelude.{ℕ, ◌≤◌, ◌<◌, ◌≡◌, refl, List, [], ◌∷◌, ◌++◌, Bool, true, false, cond, length, set}
 use Rattle.std.proofs.Math.Path.{sym}
 use Rattle.std.proofs.Common.{◌∙◌, arith, Fits, rules}
@@ -22,8 +23,6 @@ use Rattle.outcomes.proofs.Theory.Passing.{Passing, first-append, first_past}
 use Rattle.refusals.specs.Running.{all_passing, run-stopped}
 use Rattle.refusals.specs.Said.{said_refusal, said_verdict}
 use Rattle.refusals.specs.declared.refusal.Refusal.{Refusal}
-use Rattle.refusals.specs.declared.answers.Verdict.{Verdict}
-use Rattle.refusals.specs.declared.answers.Verdict.TheVariants.{Passed, Refused}
 use Rattle.operators.specs.Targets.{side_of, move_by, target_by, target_of, no_place, target-lacking, TargetWithin, target-within}
 use Rattle.operators.specs.declared.changes.Side.{Side as Chosen}
 use Rattle.operators.specs.declared.changes.Target.{Target}
@@ -123,20 +122,20 @@ unfolding move_ran
 lacking a w e = rw e
 
 -- The verdict of 1 and 9,
-module _ {v : Verdict} (n i : ℕ) (e : said_verdict v ≡ first (change_judgements n i) passed) where
-  pub passed_index : v ≡ Passed → i < 64
+module _ {v : Result (Unit {0}) Refusal} (n i : ℕ) (e : said_verdict v ≡ first (change_judgements n i) passed) where
+  pub passed_index : v ≡ Ok tt → i < 64
   passed_index q = go (all_passing (change_judgements n i) e q)
     where
       go : Passing (change_judgements n i) → i < 64
       go (rank, (index, t)) = index_small n i rank index
 
   -- which refuses, and nothing changes,
-  pub change_refused : (s : Chosen) (b : Bool) (w : List ℕ) (r : Refusal) → v ≡ Refused r → (said_refusal r, w) ≡ move_letters_run n (move_by s i) b w
+  pub change_refused : (s : Chosen) (b : Bool) (w : List ℕ) (r : Refusal) → v ≡ Err r → (said_refusal r, w) ≡ move_letters_run n (move_by s i) b w
   unfolding move_letters_run
   change_refused s b w r q = run-stopped (change_judgements n i) (target_judgements (move_by s i) b w) _ (or_same (moved b (move_by s i) w) w) w r e q
 
   -- or passes, and the move is as its target tells.
-  pub change_passed : {t : Target} {r : Said × List ℕ} (s : Chosen) (b : Bool) (w : List ℕ) → v ≡ Passed → t ≡ target_of b (side_of s) i w
+  pub change_passed : {t : Target} {r : Said × List ℕ} (s : Chosen) (b : Bool) (w : List ℕ) → v ≡ Ok tt → t ≡ target_of b (side_of s) i w
       → r ≡ move_ran t (given (side_of s) i) w → r ≡ move_letters_run n (move_by s i) b w
   unfolding move_letters_run
   change_passed s b w q f h =
@@ -165,22 +164,22 @@ says_index n m b w p =
     a = gives (remaining m b w ∷ [])
 
 -- The verdict of 1 and 2,
-module _ {u : Verdict} (n : ℕ) (w : List ℕ) (d : said_verdict u ≡ first (limits_judgements n w) passed) where
-  pub passed_length : u ≡ Passed → length w ≤ 1024
+module _ {u : Result (Unit {0}) Refusal} (n : ℕ) (w : List ℕ) (d : said_verdict u ≡ first (limits_judgements n w) passed) where
+  pub passed_length : u ≡ Ok tt → length w ≤ 1024
   passed_length p = (length-judged (length w)).0 (all_passing (limits_judgements n w) d p).1.0
 
   -- which refuses,
-  pub count_refused : (i : ℕ) (s : Chosen) (b : Bool) (r : Refusal) → u ≡ Refused r → said_refusal r ≡ repeat_letters_says n (move_by s i) b w
+  pub count_refused : (i : ℕ) (s : Chosen) (b : Bool) (r : Refusal) → u ≡ Err r → said_refusal r ≡ repeat_letters_says n (move_by s i) b w
   unfolding repeat_letters_says
   count_refused i s b r q =
       sym (first-append (limits_judgements n w) (index_judged n i ∷ []) (gives (remaining (move_by s i) b w ∷ [])) ∙ rw (← d, q))
 
   -- or passes, and then that of 1 and 9.
-  module _ {v : Verdict} (i : ℕ) (p : u ≡ Passed) (e : said_verdict v ≡ first (change_judgements n i) passed) where
-    pub count-stopped : (s : Chosen) (b : Bool) (r : Refusal) → v ≡ Refused r → said_refusal r ≡ repeat_letters_says n (move_by s i) b w
+  module _ {v : Result (Unit {0}) Refusal} (i : ℕ) (p : u ≡ Ok tt) (e : said_verdict v ≡ first (change_judgements n i) passed) where
+    pub count-stopped : (s : Chosen) (b : Bool) (r : Refusal) → v ≡ Err r → said_refusal r ≡ repeat_letters_says n (move_by s i) b w
     count-stopped s b r q = sym (says_index n (move_by s i) b w (all_passing (limits_judgements n w) d p) ∙ rw (← e, q))
 
-    pub count-passed : {k : ℕ} (s : Chosen) (b : Bool) → v ≡ Passed → k ≡ remaining (move_by s i) b w → gives (k ∷ []) ≡ repeat_letters_says n (move_by s i) b w
+    pub count-passed : {k : ℕ} (s : Chosen) (b : Bool) → v ≡ Ok tt → k ≡ remaining (move_by s i) b w → gives (k ∷ []) ≡ repeat_letters_says n (move_by s i) b w
     count-passed s b q h = rw h (sym (says_index n (move_by s i) b w (all_passing (limits_judgements n w) d p) ∙ rw (← e, q)))
 
 pub ruleset recurring = (all_repeated, passed_length, passed_index, small_byte, count_refused, count-stopped, count-passed, rules)

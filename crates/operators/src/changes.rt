@@ -3,15 +3,14 @@
 ghost use Rattle.std.specs.Prelude.{◌≡◌, ◌<◌, length};
 ghost use Rattle.quasi_crystal.specs.Moves.{given, remaining, taken};
 ghost use Rattle.outcomes.specs.Replies.{first, passed};
-ghost use Rattle.refusals.specs.Said.{said_move, said_repeat, said_verdict};
+ghost use Rattle.refusals.specs.Said.{said_value, said_verdict};
 ghost use Rattle.operators.specs.Changes.{change_judgements, move_letters_run, move_ran, repeat_letters_says};
 ghost use Rattle.occurrences.specs.Places.{found_place};
 ghost use Rattle.operators.specs.Targets.{TargetWithin, found_target, move_by, side_of, target_of};
 
 use multiplicities::counts::count_letters;
 use occurrences::places::{Found, leftmost, rightmost};
-use refusals::answers::{Move, Repeat, Verdict};
-use refusals::chains::{check_limits, or_else};
+use refusals::chains::check_limits;
 use refusals::numbers::{check_index, check_rank};
 use refusals::refusal::Refusal;
 
@@ -77,25 +76,26 @@ fn letter_given(side: Side, index: u8) -> u8
 }
 
 // The move at a target, in the lent letters: 10, 11, or one letter stored, and its place told.
-fn store_move(side: Side, index: u8, target: Target, letters: &mut [u8]) -> Move
+fn store_move(side: Side, index: u8, target: Target, letters: &mut [u8]) -> Result<usize, Refusal>
     requires { (index < 64) × TargetWithin (length letters.old) target }
-    ensures { (said_move result, letters.new) ≡ move_ran target (given (side_of side) index) letters.old }
+    ensures { (said_value result, letters.new) ≡ move_ran target (given (side_of side) index) letters.old }
 {
     match target {
         Target::At(k) => {
             letters[k] = letter_given(side, index);
-            Move::Made(k)
+            Ok(k)
         }
-        Target::Inverted => Move::Refused(Refusal::Inversion),
-        Target::Missing => Move::Refused(Refusal::NoLetter),
+        Target::Inverted => Err(Refusal::Inversion),
+        Target::Missing => Err(Refusal::NoLetter),
     }
 }
 
 // 1 and 9: the index is one of the rank's.
-fn check_change(rank: usize, index: usize) -> Verdict
+fn check_change(rank: usize, index: usize) -> Result<(), Refusal>
     ensures { said_verdict result ≡ first (change_judgements rank index) passed }
 {
-    or_else(check_rank(rank), check_index(rank, index))
+    check_rank(rank)?;
+    check_index(rank, index)
 }
 
 // The move of either side, in the lent letters: 1, 9, 10 as told, 11, or one letter stored, and its place told.
@@ -105,12 +105,10 @@ pub fn move_letters(
     index: usize,
     inversion: bool,
     letters: &mut [u8],
-) -> Move
-    ensures { (said_move result, letters.new) ≡ move_letters_run rank (move_by side index) inversion letters.old }
+) -> Result<usize, Refusal>
+    ensures { (said_value result, letters.new) ≡ move_letters_run rank (move_by side index) inversion letters.old }
 {
-    if let Verdict::Refused(refusal) = check_change(rank, index) {
-        return Move::Refused(refusal);
-    }
+    check_change(rank, index)?;
     let byte = index as u8;
     let target = target_of(side, byte, inversion, letters);
     store_move(side, byte, target, letters)
@@ -134,14 +132,10 @@ pub(crate) fn repeat_letters(
     index: usize,
     inversion: bool,
     letters: &[u8],
-) -> Repeat
-    ensures { said_repeat result ≡ repeat_letters_says rank (move_by side index) inversion letters.now }
+) -> Result<usize, Refusal>
+    ensures { said_value result ≡ repeat_letters_says rank (move_by side index) inversion letters.now }
 {
-    if let Verdict::Refused(refusal) = check_limits(rank, letters.len()) {
-        return Repeat::Refused(refusal);
-    }
-    if let Verdict::Refused(refusal) = check_change(rank, index) {
-        return Repeat::Refused(refusal);
-    }
-    Repeat::Times(repeats_of(side, index as u8, inversion, letters))
+    check_limits(rank, letters.len())?;
+    check_change(rank, index)?;
+    Ok(repeats_of(side, index as u8, inversion, letters))
 }

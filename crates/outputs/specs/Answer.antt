@@ -4,6 +4,8 @@
 --     answer_within            an answer's bytes stand in the memory that was lent for it
 --     answering, taking        the rulesets of the answer, and of those who take its bytes
 -- Assumes nothing.
+use Rattle.std.specs.Prelude.{Option, Some, None, Result, Ok, Err}
+use Rattle.refusals.specs.declared.answers.Sizes.{Sizes}
 use Rattle.std.specs.Prelude.{ℕ, ◌-◌, ◌≤◌, ◌<◌, ◌≡◌, refl, length, take}
 use Rattle.std.proofs.Common.{sym, ap, ◌∙◌, arith, rules}
 use mathlib.Core.List.{List, [], ◌∷◌}
@@ -18,14 +20,8 @@ use Rattle.outcomes.proofs.Theory.Memory.{written-length, written_needed}
 use Rattle.refusals.specs.Chains.{ends}
 use Rattle.buffers.specs.Copies.{copied, copied_all}
 use Rattle.refusals.specs.Running.{checks_then, run_passed, run_refused, then_passing}
-use Rattle.refusals.specs.Said.{number, place, said_refusal, said_verdict, said_read_line, said_written}
+use Rattle.refusals.specs.Said.{number, place, said_refusal, said_verdict, said_sizes, said_value}
 use Rattle.refusals.specs.declared.refusal.Refusal.{Refusal}
-use Rattle.refusals.specs.declared.answers.Verdict.{Verdict}
-use Rattle.refusals.specs.declared.answers.Verdict.TheVariants as verdict
-use Rattle.refusals.specs.declared.answers.ReadLine.{ReadLine}
-use Rattle.refusals.specs.declared.answers.ReadLine.TheVariants as read_line
-use Rattle.refusals.specs.declared.answers.Written.{Written}
-use Rattle.refusals.specs.declared.answers.Written.TheVariants.{Elements, Refused}
 use Rattle.writers.specs.Lengths.{e_length}
 use Rattle.outputs.specs.Longest.{three_ready, output-short}
 use Rattle.refusals.specs.Outcomes.{not_both, wrote_elements, wrote_memory}
@@ -35,18 +31,18 @@ use Rattle.outputs.specs.Printing.{Printed, Ready, printed_by, printed_never}
 -- ---- refusals
 
 -- The E line of a reader's answer; nothing where it is a word.
-abbrev pub refused_line : ReadLine → List ℕ
+abbrev pub refused_line : Result Sizes Refusal → List ℕ
 refused_line (read_line.Values n l) = []
-refused_line (read_line.Refused q) = e_line (number q) (place q)
+refused_line (Err q) = e_line (number q) (place q)
 
-module _ (k p : ℕ) (old now : List ℕ) (a : Written) (e : (said_written a, now) ≡ e_line_run k p old) (r : length (e_line k p) ≤ length old) where
-  pub refusal_printed : (m : ℕ) → a ≡ Elements m → Printed (e_line k p) old now m
+module _ (k p : ℕ) (old now : List ℕ) (a : Result ℕ Refusal) (e : (said_value a, now) ≡ e_line_run k p old) (r : length (e_line k p) ≤ length old) where
+  pub refusal_printed : (m : ℕ) → a ≡ Ok m → Printed (e_line k p) old now m
   refusal_printed = printed_by (e_line k p) old now a r (e ∙ e_line_result k p old r)
 
-  pub refusal_never : (q : Refusal) (m : ℕ) → a ≡ Refused q → Printed (e_line k p) old now m
+  pub refusal_never : (q : Refusal) (m : ℕ) → a ≡ Err q → Printed (e_line k p) old now m
   refusal_never = printed_never (e_line k p) old now a r (e ∙ e_line_result k p old r)
 
-module _ (line : ReadLine) (q : Refusal) (h : line ≡ read_line.Refused q) where
+module _ (line : Result Sizes Refusal) (q : Refusal) (h : line ≡ Err q) where
   pub refused_room : (have : ℕ) → length (refused_line line) ≤ have → length (e_line (number q) (place q)) ≤ have
   refused_room have r = rw h at r
 
@@ -54,7 +50,7 @@ module _ (line : ReadLine) (q : Refusal) (h : line ≡ read_line.Refused q) wher
   refused_printed old now m r = rw h r
 
 -- A word is no refusal, and prints nothing as one.
-pub word_printed : (line : ReadLine) (n l : ℕ) (old : List ℕ) → line ≡ read_line.Values n l → Printed (refused_line line) old old 0
+pub word_printed : (line : Result Sizes Refusal) (n l : ℕ) (old : List ℕ) → line ≡ read_line.Values n l → Printed (refused_line line) old old 0
 word_printed line n l old h = rw h (record { held = refl; size = refl; fits = omega arith })
 
 -- ---- the first letters of a buffer
@@ -73,15 +69,15 @@ module _ (n m : ℕ) (word : List ℕ) where
 -- ---- the reader's answer
 
 -- To a text of at most 4,096 bytes, with a buffer for every accepted word, and an output that has room.
-module _ (text buffer word old : List ℕ) (line : ReadLine) (e : (said_read_line line, word) ≡ read_w_run text buffer) (short : length text ≤ 4096)
+module _ (text buffer word old : List ℕ) (line : Result Sizes Refusal) (e : (said_sizes line, word) ≡ read_w_run text buffer) (short : length text ≤ 4096)
     (long : 1024 ≤ length buffer) where
-  refused_is : (q : Refusal) → line ≡ read_line.Refused q → output text ≡ refused_line line
+  refused_is : (q : Refusal) → line ≡ Err q → output text ≡ refused_line line
   refused_is q h = refused_output text buffer word short long line e q h ∙ sym (ap refused_line h)
 
-  pub line_room : (q : Refusal) (have : ℕ) → line ≡ read_line.Refused q → 16384 ≤ have → length (refused_line line) ≤ have
+  pub line_room : (q : Refusal) (have : ℕ) → line ≡ Err q → 16384 ≤ have → length (refused_line line) ≤ have
   line_room q have h r = rw (← refused_is q h) (omega (arith, output-short text))
 
-  pub line_refused : (q : Refusal) (now : List ℕ) (m : ℕ) → line ≡ read_line.Refused q → Printed (refused_line line) old now m → Printed (output text) old now m
+  pub line_refused : (q : Refusal) (now : List ℕ) (m : ℕ) → line ≡ Err q → Printed (refused_line line) old now m → Printed (output text) old now m
   line_refused q now m h p = rw (refused_is q h) p
 
   pub line_begun : (n l have : ℕ) → line ≡ read_line.Values n l → 16384 ≤ have → Begun n l word have
@@ -104,23 +100,23 @@ long_printed text old now m l p = rw (long_output text l) p
 -- ---- into lent memory
 
 -- By the verdict on the room.
-module _ (v : Verdict) (bytes out : List ℕ) (e : said_verdict v ≡ room_judged (length bytes) (length out)) where
+module _ (v : Result (Unit {0}) Refusal) (bytes out : List ℕ) (e : said_verdict v ≡ room_judged (length bytes) (length out)) where
   room : said_verdict v ≡ checks_then [] (room_judged (length bytes) (length out) ∷ [])
   unfolding checks_then
   room = ends v (room_judged (length bytes) (length out)) e
 
-  pub bytes_refused : (r : Refusal) → v ≡ verdict.Refused r → (said_refusal r, out) ≡ room_run bytes out
+  pub bytes_refused : (r : Refusal) → v ≡ Err r → (said_refusal r, out) ≡ room_run bytes out
   unfolding room_run
   bytes_refused r q = run_refused [] _ room _ _ out r q
 
-  pub bytes_handed : (now : List ℕ) → v ≡ verdict.Passed → now ≡ copied bytes out → (gives (length bytes ∷ []), now) ≡ room_run bytes out
+  pub bytes_handed : (now : List ℕ) → v ≡ Ok tt → now ≡ copied bytes out → (gives (length bytes ∷ []), now) ≡ room_run bytes out
   unfolding room_run
   bytes_handed now q h =
       let (none, (fits, t)) = then_passing [] _ room q in
       run_passed [] _ room _ _ out now q (copied_all bytes out now h ((room_judged_lem _ _).0 fits))
 
-pub answered : (text zeros lines out now : List ℕ) (m : ℕ) (a : Written) → Printed (output text) zeros lines m → (said_written a, now) ≡ room_run (take (m - 0) lines) out
-    → (said_written a, now) ≡ answer_run text out
+pub answered : (text zeros lines out now : List ℕ) (m : ℕ) (a : Result ℕ Refusal) → Printed (output text) zeros lines m → (said_value a, now) ≡ room_run (take (m - 0) lines) out
+    → (said_value a, now) ≡ answer_run text out
 unfolding room_run answer_run
 answered text zeros lines out now m a h e =
     let z : m - 0 ≡ length (output text) = omega (arith, h.size) in
@@ -132,17 +128,17 @@ pub printed_within : (line old now : List ℕ) (m : ℕ) → Printed line old no
 printed_within line old now m h = rw (h.held, written-length line old h.fits) (omega (arith, h.size, h.fits))
 
 -- Of an answer into lent memory.
-pub answer_within : (text out now : List ℕ) (a : Written) (m : ℕ) → (said_written a, now) ≡ answer_run text out → a ≡ Elements m → m ≤ length now
+pub answer_within : (text out now : List ℕ) (a : Result ℕ Refusal) (m : ℕ) → (said_value a, now) ≡ answer_run text out → a ≡ Ok m → m ≤ length now
 unfolding answer_run
 answer_within text out now a m e q = go (room_judged (length (output text)) (length out)) refl
   where
     go : (s : Said) → room_judged (length (output text)) (length out) ≡ s → m ≤ length now
     go (refused k p) f =
-        let no : gives (m ∷ []) ≡ refused k p = sym (ap said_written q) ∙ ap (λ (o : Said × List ℕ). o.0) e ∙ rw f refl in
+        let no : gives (m ∷ []) ≡ refused k p = sym (ap said_value q) ∙ ap (λ (o : Said × List ℕ). o.0) e ∙ rw f refl in
         absurd (not_both no)
     go (gives vs) f =
         let fits : length (output text) ≤ length out = (room_judged_lem _ _).0 (rw f tt) in
-        let all : ◌≡◌ {A = Said × List ℕ} (said_written a, now) (gives (length (output text) ∷ []), written (output text) out) = e ∙ rw f refl in
+        let all : ◌≡◌ {A = Said × List ℕ} (said_value a, now) (gives (length (output text) ∷ []), written (output text) out) = e ∙ rw f refl in
         rw (wrote_elements a all m q, wrote_memory a all, written-length (output text) out fits) fits
 
 pub ruleset answering = (refusal_printed, refusal_never, refused_room, refused_printed, word_printed, begun_ready, begun_printed, line_room, line_refused, line_begun, line_printed, long_room, long_printed, bytes_refused, bytes_handed, answered, printed_within, rules)

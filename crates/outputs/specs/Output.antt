@@ -4,6 +4,8 @@
 --     Taken               a word: the letters that stand in the buffer are an accepted word, and the output is its three lines
 --     word_taken
 -- Assumes nothing.
+use Rattle.std.specs.Prelude.{Option, Some, None, Result, Ok, Err}
+use Rattle.refusals.specs.declared.answers.Sizes.{Sizes}
 use Rattle.std.specs.Prelude.{ℕ, ◌≤◌, ◌<◌, ◌≡◌, take, get_or}
 use Rattle.std.proofs.Math.Path.{refl, ap₂}
 use Rattle.std.proofs.Common.{sym, ap, ◌∙◌, arith, lt-ltb, le-ltb}
@@ -20,10 +22,8 @@ use Rattle.outcomes.proofs.Theory.Judgements.{room_judged_lem}
 use Rattle.outcomes.proofs.Theory.LineResults.{program_result}
 use Rattle.outcomes.proofs.Theory.Memory.{written-length, written_needed}
 use Rattle.outcomes.proofs.Theory.Passing.{Passing}
-use Rattle.refusals.specs.Said.{number, place, said_read_line}
+use Rattle.refusals.specs.Said.{number, place, said_sizes}
 use Rattle.refusals.specs.declared.refusal.Refusal.{Refusal}
-use Rattle.refusals.specs.declared.answers.ReadLine.{ReadLine}
-use Rattle.refusals.specs.declared.answers.ReadLine.TheVariants.{Refused, Values}
 use Rattle.refusals.specs.Outcomes.{Outcome, accepted, stopped, outcome, not_both, same_values, same_refusal}
 
 -- More than 4,096 bytes.
@@ -92,11 +92,11 @@ module _ (text buffer now : List ℕ) (short : length text ≤ 4096) (long : 102
           }
 
   -- By the reader's answer.
-  module _ (line : ReadLine) (e : (said_read_line line, now) ≡ read_w_run text buffer) where
-    pub refused_output : (q : Refusal) → line ≡ Refused q → output text ≡ e_line (number q) (place q)
+  module _ (line : Result Sizes Refusal) (e : (said_sizes line, now) ≡ read_w_run text buffer) where
+    pub refused_output : (q : Refusal) → line ≡ Err q → output text ≡ e_line (number q) (place q)
     unfolding read_w_run
-    refused_output q h = short-output text short ∙ refused_for (number q) (place q) (read_w text) (sym (ap (λ (x : ReadLine). (said_read_line x, now)) h) ∙ e)
+    refused_output q h = short-output text short ∙ refused_for (number q) (place q) (read_w text) (sym (ap (λ (x : Result Sizes Refusal). (said_sizes x, now)) h) ∙ e)
 
     pub word_taken : (n l : ℕ) → line ≡ Values n l → Taken text now n l
     unfolding read_w_run
-    word_taken n l h = taken_for n l (read_w text) (sym (ap (λ (x : ReadLine). (said_read_line x, now)) h) ∙ e) (short-output text short)
+    word_taken n l h = taken_for n l (read_w text) (sym (ap (λ (x : Result Sizes Refusal). (said_sizes x, now)) h) ∙ e) (short-output text short)

@@ -5,6 +5,7 @@
 --     kept_length                a buffer that holds a line is as long as it was
 --     then_room, then_printed    a line in the part straight after another
 -- The lines of a word are in ThreeLines. Assumes nothing.
+use Rattle.std.specs.Prelude.{Option, Some, None, Result, Ok, Err}
 use Rattle.std.specs.Prelude.{ℕ, ◌+◌, ◌-◌, ◌≤◌, ◌≡◌, refl, List, [], ◌∷◌, ◌++◌, length, drop}
 use Rattle.std.proofs.Common.{sym, ap, ◌∙◌, append_assoc, append-nil, arith, length-append, length-drop, drop-drop}
 use Rattle.std.proofs.Math.Seq.{drop-append_seam, drop-length, take-length}
@@ -14,10 +15,8 @@ use Rattle.outcomes.specs.Replies.{Said, gives, written}
 use Rattle.outcomes.proofs.Theory.Memory.{written-length}
 use Rattle.refusals.specs.Outcomes.{wrote_elements, wrote_memory, wrote_refused}
 use Rattle.refusals.specs.Running.{written_part}
-use Rattle.refusals.specs.Said.{said_written}
+use Rattle.refusals.specs.Said.{said_value}
 use Rattle.refusals.specs.declared.refusal.Refusal.{Refusal}
-use Rattle.refusals.specs.declared.answers.Written.{Written}
-use Rattle.refusals.specs.declared.answers.Written.TheVariants.{Elements, Refused}
 
 -- The word is accepted, and a buffer of so many bytes has room for its line.
 pub record Ready (n : ℕ) (w line : List ℕ) (have : ℕ) : Type 0 where
@@ -33,12 +32,12 @@ pub record Printed (line old now : List ℕ) (bytes : ℕ) : Type 0 where
 -- ---- one line
 
 -- A writer's answer a, where its run gives the line.
-module _ (line old now : List ℕ) (a : Written) (fits : length line ≤ length old)
-    (e : ◌≡◌ {A = Said × List ℕ} (said_written a, now) (gives (length line ∷ []), written line old)) where
-  pub printed_by : (k : ℕ) → a ≡ Elements k → Printed line old now k
+module _ (line old now : List ℕ) (a : Result ℕ Refusal) (fits : length line ≤ length old)
+    (e : ◌≡◌ {A = Said × List ℕ} (said_value a, now) (gives (length line ∷ []), written line old)) where
+  pub printed_by : (k : ℕ) → a ≡ Ok k → Printed line old now k
   printed_by k q = record { held = wrote_memory a e; size = wrote_elements a e k q; fits = fits }
 
-  pub printed_never : (q : Refusal) (k : ℕ) → a ≡ Refused q → Printed line old now k
+  pub printed_never : (q : Refusal) (k : ℕ) → a ≡ Err q → Printed line old now k
   printed_never q k h = absurd (wrote_refused a e q h)
 
 -- ---- one line after another

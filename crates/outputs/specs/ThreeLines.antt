@@ -5,6 +5,7 @@
 --     three_printed              all lines, each in the part straight after the one before it
 --     printing                   the ruleset of the functions that print
 -- Assumes nothing.
+use Rattle.std.specs.Prelude.{Option, Some, None, Result, Ok, Err}
 use Rattle.std.specs.Prelude.{ℕ, ◌+◌, ◌-◌, ◌≤◌, ◌≡◌, List, [], ◌∷◌, ◌++◌, length, take}
 use Rattle.std.proofs.Math.Path.{refl}
 use Rattle.std.proofs.Common.{sym, ap, ◌∙◌, append_assoc, arith, length-append, rules}
@@ -27,41 +28,39 @@ use Rattle.hypoplactic.proofs.Theory.Pairs.{length-letters, length-marks, length
 use Rattle.hypoplactic.proofs.Theory.ReadBack.{reading_length}
 use Rattle.outcomes.proofs.Theory.Results.{pair_result, reading_result}
 use Rattle.refusals.specs.Outcomes.{wrote_elements, wrote_memory, wrote_refused}
-use Rattle.refusals.specs.Said.{said_written}
+use Rattle.refusals.specs.Said.{said_value}
 use Rattle.refusals.specs.declared.refusal.Refusal.{Refusal}
-use Rattle.refusals.specs.declared.answers.Written.{Written}
-use Rattle.refusals.specs.declared.answers.Written.TheVariants.{Elements, Refused}
 use Rattle.outputs.specs.Printing.{Printed, Ready, kept_length, printed_by, printed_never, then_printed, then_room}
 
 -- ---- one line
 
 -- The P line of a pair,
-module _ (n : ℕ) (xs ms rs old now : List ℕ) (a : Written) (h : PairAt n xs ms rs) (r : length (p_line n xs ms rs) ≤ length old)
-    (e : (said_written a, now) ≡ p_line_run n xs ms rs old) where
-  pub pair_printed : (k : ℕ) → a ≡ Elements k → Printed (p_line n xs ms rs) old now k
+module _ (n : ℕ) (xs ms rs old now : List ℕ) (a : Result ℕ Refusal) (h : PairAt n xs ms rs) (r : length (p_line n xs ms rs) ≤ length old)
+    (e : (said_value a, now) ≡ p_line_run n xs ms rs old) where
+  pub pair_printed : (k : ℕ) → a ≡ Ok k → Printed (p_line n xs ms rs) old now k
   pair_printed = printed_by (p_line n xs ms rs) old now a r (e ∙ p_line_result n xs ms rs old h r)
 
-  pub pair_never : (q : Refusal) (k : ℕ) → a ≡ Refused q → Printed (p_line n xs ms rs) old now k
+  pub pair_never : (q : Refusal) (k : ℕ) → a ≡ Err q → Printed (p_line n xs ms rs) old now k
   pair_never = printed_never (p_line n xs ms rs) old now a r (e ∙ p_line_result n xs ms rs old h r)
 
 -- the J line of a word,
-module _ (n : ℕ) (w old now : List ℕ) (a : Written) (r : Ready n w (j_line (junction_set w) (rows_of w)) (length old)) (e : (said_written a, now) ≡ j_line_run n w old) where
-  pub junctions_printed : (k : ℕ) → a ≡ Elements k → Printed (j_line (junction_set w) (rows_of w)) old now k
+module _ (n : ℕ) (w old now : List ℕ) (a : Result ℕ Refusal) (r : Ready n w (j_line (junction_set w) (rows_of w)) (length old)) (e : (said_value a, now) ≡ j_line_run n w old) where
+  pub junctions_printed : (k : ℕ) → a ≡ Ok k → Printed (j_line (junction_set w) (rows_of w)) old now k
   junctions_printed = printed_by (j_line (junction_set w) (rows_of w)) old now a r.room (e ∙ j_line_result n w r.accepted old r.room)
 
-  pub junctions_never : (q : Refusal) (k : ℕ) → a ≡ Refused q → Printed (j_line (junction_set w) (rows_of w)) old now k
+  pub junctions_never : (q : Refusal) (k : ℕ) → a ≡ Err q → Printed (j_line (junction_set w) (rows_of w)) old now k
   junctions_never = printed_never (j_line (junction_set w) (rows_of w)) old now a r.room (e ∙ j_line_result n w r.accepted old r.room)
 
 -- and the W line of a column reading, which has as many letters as the tableau has cells. It is read into a list with room for every tableau.
-module _ (n : ℕ) (xs ms cs zeros reading : List ℕ) (b : Written) (h : TableauAt n xs ms) (c : TrueCounts xs cs) (long : 1024 ≤ length zeros)
-    (f : (said_written b, reading) ≡ reading_run n xs ms cs zeros) where
-  all_read : ◌≡◌ {A = Said × List ℕ} (said_written b, reading) (gives (length xs ∷ []), written (column_reading xs ms) zeros)
+module _ (n : ℕ) (xs ms cs zeros reading : List ℕ) (b : Result ℕ Refusal) (h : TableauAt n xs ms) (c : TrueCounts xs cs) (long : 1024 ≤ length zeros)
+    (f : (said_value b, reading) ≡ reading_run n xs ms cs zeros) where
+  all_read : ◌≡◌ {A = Said × List ℕ} (said_value b, reading) (gives (length xs ∷ []), written (column_reading xs ms) zeros)
   all_read = let short : length xs ≤ 1024 = h.word.short in f ∙ reading_result n xs ms cs h c zeros (omega arith)
 
-  pub reading_refused : (line old : List ℕ) (q : Refusal) (k : ℕ) → b ≡ Refused q → Printed line old old k
+  pub reading_refused : (line old : List ℕ) (q : Refusal) (k : ℕ) → b ≡ Err q → Printed line old old k
   reading_refused line old q k g = absurd (wrote_refused b all_read q g)
 
-  module _ (m : ℕ) (g : b ≡ Elements m) where
+  module _ (m : ℕ) (g : b ≡ Ok m) where
     pub reading_reach : m ≤ length reading
     reading_reach =
         let short : length xs ≤ 1024 = h.word.short in
@@ -69,19 +68,19 @@ module _ (n : ℕ) (xs ms cs zeros reading : List ℕ) (b : Written) (h : Tablea
         let fits : length (column_reading xs ms) ≤ length zeros = omega (arith, reading_length xs ms h.tableau) in
         rw (wrote_memory b all_read, written-length (column_reading xs ms) zeros fits) (omega arith)
 
-    module _ (old now : List ℕ) (a : Written) (r : length (w_line n (column_reading xs ms)) ≤ length old)
-        (e : (said_written a, now) ≡ w_line_run n (take (m - 0) reading) old) where
-      reading_line : ◌≡◌ {A = Said × List ℕ} (said_written a, now)
+    module _ (old now : List ℕ) (a : Result ℕ Refusal) (r : length (w_line n (column_reading xs ms)) ≤ length old)
+        (e : (said_value a, now) ≡ w_line_run n (take (m - 0) reading) old) where
+      reading_line : ◌≡◌ {A = Said × List ℕ} (said_value a, now)
           (gives (length (w_line n (column_reading xs ms)) ∷ []), written (w_line n (column_reading xs ms)) old)
       reading_line =
           let size : m - 0 ≡ length (column_reading xs ms) = omega (arith, wrote_elements b all_read m g, reading_length xs ms h.tableau) in
           e ∙ rw (wrote_memory b all_read, size, written_needed (column_reading xs ms) zeros)
           (w_line_result n (column_reading xs ms) (reading_accepted h) old r)
 
-      pub reading_printed : (k : ℕ) → a ≡ Elements k → Printed (w_line n (column_reading xs ms)) old now k
+      pub reading_printed : (k : ℕ) → a ≡ Ok k → Printed (w_line n (column_reading xs ms)) old now k
       reading_printed = printed_by (w_line n (column_reading xs ms)) old now a r reading_line
 
-      pub reading_never : (q : Refusal) (k : ℕ) → a ≡ Refused q → Printed (w_line n (column_reading xs ms)) old now k
+      pub reading_never : (q : Refusal) (k : ℕ) → a ≡ Err q → Printed (w_line n (column_reading xs ms)) old now k
       reading_never = printed_never (w_line n (column_reading xs ms)) old now a r reading_line
 
 -- ---- the pair of a word
@@ -106,10 +105,10 @@ module _ {n : ℕ} {w xs ms rs cs : List ℕ} (h : Held n w xs ms rs cs) where
   held_counts = rw (h.letters, h.counts) (letters-true w)
 
 -- What the pair's operation leaves in lists with room for every accepted word.
-module _ (n : ℕ) (w line ls ks js ds xs ms rs cs : List ℕ) (have : ℕ) (made : Written) (r : Ready n w line have)
-    (e : (said_written made, (pair_with xs ms rs, cs)) ≡ pair_run n w (pair_with ls ks js) ds)
+module _ (n : ℕ) (w line ls ks js ds xs ms rs cs : List ℕ) (have : ℕ) (made : Result ℕ Refusal) (r : Ready n w line have)
+    (e : (said_value made, (pair_with xs ms rs, cs)) ≡ pair_run n w (pair_with ls ks js) ds)
     (long : 1024 ≤ length ls) (long' : 1024 ≤ length ks) (long'' : 1024 ≤ length js) where
-  all_made : ◌≡◌ {A = Said × (Pair × List ℕ)} (said_written made, (pair_with xs ms rs, cs))
+  all_made : ◌≡◌ {A = Said × (Pair × List ℕ)} (said_value made, (pair_with xs ms rs, cs))
       (gives (length w ∷ []), (written_pair (pair_of w) (pair_with ls ks js), counts_of w))
   all_made = let short : length w ≤ 1024 = r.accepted.short in e ∙ pair_result n w r.accepted (pair_with ls ks js) ds (omega arith) (omega arith) (omega arith)
 
@@ -122,10 +121,10 @@ module _ (n : ℕ) (w line ls ks js ds xs ms rs cs : List ℕ) (have : ℕ) (mad
   is_entries : rs ≡ written (recording_of w) js
   is_entries = ap (λ (o : Pair × List ℕ). o.0.recording) (wrote_memory made all_made)
 
-  pub made_never : (old : List ℕ) (q : Refusal) (k : ℕ) → made ≡ Refused q → Printed line old old k
+  pub made_never : (old : List ℕ) (q : Refusal) (k : ℕ) → made ≡ Err q → Printed line old old k
   made_never old q k g = absurd (wrote_refused made all_made q g)
 
-  module _ (m : ℕ) (g : made ≡ Elements m) where
+  module _ (m : ℕ) (g : made ≡ Ok m) where
     size : m ≡ length w
     size = wrote_elements made all_made m g
 

@@ -3,13 +3,13 @@ ghost use Rattle.std.specs.Prelude.{◌≤◌, ◌≡◌, length, take};
 ghost use Rattle.grammar.specs.Lines.{e_line};
 ghost use Rattle.outcomes.specs.LineOperations.{three_lines, room_run};
 ghost use Rattle.outcomes.specs.LineReadings.{answer_run, output};
-ghost use Rattle.refusals.specs.Said.{number, place, said_written};
+ghost use Rattle.refusals.specs.Said.{number, place, said_value};
 ghost use Rattle.outputs.specs.Answer.{Begun, refused_line};
 ghost use Rattle.outputs.specs.Printing.{Printed};
 
 use crate::printing::print_word;
 use buffers::copies::copy_bytes;
-use refusals::answers::{ReadLine, Verdict, Written};
+use refusals::answers::Sizes;
 use refusals::numbers::check_room;
 use refusals::refusal::Refusal;
 use word_readers::word::read_word_line;
@@ -20,18 +20,18 @@ fn print_refusal(refusal: Refusal, out: &mut [u8]) -> usize
     requires { length (e_line (number refusal) (place refusal)) ≤ length out.old }
     ensures { Printed (e_line (number refusal) (place refusal)) out.old out.new result }
 {
-    let Written::Elements(bytes) = write_refusal_line(refusal, out) else {
+    let Ok(bytes) = write_refusal_line(refusal, out) else {
         return 0;
     };
     bytes
 }
 
 // The same for a reader's answer that is a refusal.
-fn print_refused(line: ReadLine, out: &mut [u8]) -> usize
+fn print_refused(line: Result<Sizes, Refusal>, out: &mut [u8]) -> usize
     requires { length (refused_line line) ≤ length out.old }
     ensures { Printed (refused_line line) out.old out.new result }
 {
-    let ReadLine::Refused(refusal) = line else {
+    let Err(refusal) = line else {
         return 0;
     };
     print_refusal(refusal, out)
@@ -53,7 +53,7 @@ fn print_line(text: &[u8], out: &mut [u8]) -> usize
 {
     let mut word = [0u8; 1024];
     let line = read_word_line(text, &mut word);
-    let ReadLine::Values(rank, letters) = line else {
+    let Ok(Sizes { rank: rank, count: letters }) = line else {
         return print_refused(line, out);
     };
     print_letters(rank, letters, &word, out)
@@ -71,19 +71,17 @@ fn print_text(text: &[u8], out: &mut [u8]) -> usize
 }
 
 // Bytes into lent memory, or the refusal 13, which leaves it as it was.
-fn hand_over(bytes: &[u8], out: &mut [u8]) -> Written
-    ensures { (said_written result, out.new) ≡ room_run bytes.now out.old }
+fn hand_over(bytes: &[u8], out: &mut [u8]) -> Result<usize, Refusal>
+    ensures { (said_value result, out.new) ≡ room_run bytes.now out.old }
 {
-    if let Verdict::Refused(refusal) = check_room(bytes.len(), out.len()) {
-        return Written::Refused(refusal);
-    }
+    check_room(bytes.len(), out.len())?;
     copy_bytes(bytes, out);
-    Written::Elements(bytes.len())
+    Ok(bytes.len())
 }
 
 // What the program prints for a text: the three lines of its word, or one E line. Any bytes may come in; nothing but room is refused.
-pub fn answer(text: &[u8], out: &mut [u8]) -> Written
-    ensures { (said_written result, out.new) ≡ answer_run text.now out.old }
+pub fn answer(text: &[u8], out: &mut [u8]) -> Result<usize, Refusal>
+    ensures { (said_value result, out.new) ≡ answer_run text.now out.old }
 {
     let mut lines = [0u8; 16384];
     let bytes = print_text(text, &mut lines);

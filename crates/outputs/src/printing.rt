@@ -10,7 +10,7 @@ ghost use Rattle.outputs.specs.Printing.{Printed, Ready};
 ghost use Rattle.outputs.specs.ThreeLines.{Held};
 
 use columns::reading::column_reading;
-use refusals::answers::Written;
+use refusals::answers::Junctions;
 use ribbons::pair::pair_of_word;
 use writers::line::{write_junction_line, write_pair_line, write_word_line};
 
@@ -20,7 +20,7 @@ fn print_pair(rank: usize, letters: &[u8], marks: &[u8], entries: &[u16], out: &
     requires entries_in_bounds { length (p_line rank letters.now marks.now entries.now) ≤ length out.old }
     ensures { Printed (p_line rank letters.now marks.now entries.now) out.old out.new result }
 {
-    let Written::Elements(bytes) = write_pair_line(rank, letters, marks, entries, out) else {
+    let Ok(bytes) = write_pair_line(rank, letters, marks, entries, out) else {
         return 0;
     };
     bytes
@@ -40,10 +40,10 @@ fn print_reading(
     ensures { Printed (w_line rank (column_reading letters.now marks.now)) out.old out.new result }
 {
     let mut reading = [0u8; 1024];
-    let Written::Elements(end) = column_reading(rank, letters, marks, counts, &mut reading) else {
+    let Ok(end) = column_reading(rank, letters, marks, counts, &mut reading) else {
         return 0;
     };
-    let Written::Elements(bytes) = write_word_line(rank, &reading[0..end], out) else {
+    let Ok(bytes) = write_word_line(rank, &reading[0..end], out) else {
         return 0;
     };
     bytes
@@ -54,7 +54,7 @@ fn print_junctions(rank: usize, word: &[u8], out: &mut [u8]) -> usize
     requires { Ready rank word.now (j_line (junction_set word.now) (rows_of word.now)) (length out.old) }
     ensures { Printed (j_line (junction_set word.now) (rows_of word.now)) out.old out.new result }
 {
-    let Written::Elements(bytes) = write_junction_line(rank, word, out) else {
+    let Ok(bytes) = write_junction_line(rank, word, out) else {
         return 0;
     };
     bytes
@@ -97,7 +97,7 @@ pub(crate) fn print_word(rank: usize, word: &[u8], out: &mut [u8]) -> usize
         &mut entries,
         &mut counts,
     );
-    let Written::Elements(cells) = made else {
+    let Ok(cells) = made else {
         return 0;
     };
     print_lines(

@@ -4,6 +4,7 @@
 --     pair_broken, pair_stopped, pair_stored     the line breaks the grammar; its limits are refused; what is said of its values is said of the line
 --     reading_pairs                              the ruleset of the reader
 -- T lines are in Readers, W lines in word_readers. Assumes nothing.
+use Rattle.std.specs.Prelude.{Option, Some, None, Result, Ok, Err}
 use Rattle.std.specs.Prelude.{ℕ, ◌-◌, ◌≤◌, ◌≡◌, refl, false, true, List, [], ◌∷◌, map, length, drop, take}
 use Rattle.std.proofs.Common.{sym, ◌∙◌, rules}
 use Rattle.std.proofs.lemmas.List.{length-map}
@@ -19,8 +20,6 @@ use Rattle.acceptance.specs.Bytes.{narrowed}
 use Rattle.refusals.specs.Running.{run-stopped}
 use Rattle.refusals.specs.Said.{said_refusal, said_verdict}
 use Rattle.refusals.specs.declared.refusal.Refusal.{Refusal}
-use Rattle.refusals.specs.declared.answers.Verdict.{Verdict}
-use Rattle.refusals.specs.declared.answers.Verdict.TheVariants.{Passed, Refused}
 use Rattle.scans.specs.Kept.{kept}
 use Rattle.scans.specs.Kinds.{pair_whole}
 use Rattle.scans.specs.PairScans.{PairScanned, read_pair}
@@ -77,8 +76,8 @@ module _ {text old_letters old_marks old_entries xs ms rs : List ℕ} {cells ent
           let f : Told text (read_pair text) (got (n, cells, entries) (drop next text)) next = rw e at s.told in
           rw (pair_whole text, f.says)
 
-      module _ {v : Verdict} (h : said_verdict v ≡ first (rank_judged n ∷ length_judged k ∷ []) passed) where
-        pub pair_stopped : {f : Refusal} → v ≡ Refused f → (said_refusal f, (out, out_counts)) ≡ read_p_run text out out_counts
+      module _ {v : Result (Unit {0}) Refusal} (h : said_verdict v ≡ first (rank_judged n ∷ length_judged k ∷ []) passed) where
+        pub pair_stopped : {f : Refusal} → v ≡ Err f → (said_refusal f, (out, out_counts)) ≡ read_p_run text out out_counts
         pair_stopped {f} q =
             let ws = letters cells in
             let us = marks cells in
@@ -89,7 +88,7 @@ module _ {text old_letters old_marks old_entries xs ms rs : List ℕ} {cells ent
             (n ∷ length ws ∷ []) (written_pair (pair_with ws us vs) out, counts_of ws) (out, out_counts) f (rw (items.letters_long cells_scanned e) h) q
             ∙ sym pair_is
 
-        pub pair_stored : (bytes : List ℕ) {said : Said × (Pair × List ℕ)} → v ≡ Passed → old_letters ≡ blank 1024 → old_marks ≡ blank 1024
+        pub pair_stored : (bytes : List ℕ) {said : Said × (Pair × List ℕ)} → v ≡ Ok tt → old_letters ≡ blank 1024 → old_marks ≡ blank 1024
             → old_entries ≡ blank 1024 → bytes ≡ kept (map narrowed (take (k - 0) xs)) (blank 1024)
             → said ≡ pair_read out out_counts n (take (k - 0) bytes) (take (k - 0) ms) (take (k - 0) rs) → said ≡ read_p_run text out out_counts
         pair_stored bytes {said} q l o p a w =

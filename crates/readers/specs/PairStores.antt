@@ -3,6 +3,7 @@
 --     pair_refused, pair_passed      a pair, and its letter counts
 --     storing_pairs                  their ruleset
 -- Words and tableaux are in Stores. Assumes nothing.
+use Rattle.std.specs.Prelude.{Option, Some, None, Result, Ok, Err}
 use Rattle.std.specs.Prelude.{ℕ, ◌≡◌, List, [], ◌∷◌, length}
 use Rattle.std.proofs.Common.{arith, rules}
 use Rattle.hypoplactic.specs.Insertion.{pair_with}
@@ -16,8 +17,6 @@ use Rattle.buffers.specs.Copies.{copied, copied_all}
 use Rattle.refusals.specs.Running.{checks_then, run_passed, run_refused, then_passing}
 use Rattle.refusals.specs.Said.{said_refusal, said_verdict}
 use Rattle.refusals.specs.declared.refusal.Refusal.{Refusal}
-use Rattle.refusals.specs.declared.answers.Verdict.{Verdict}
-use Rattle.refusals.specs.declared.answers.Verdict.TheVariants.{Passed, Refused}
 use Rattle.words.specs.Given.{count_given, counts-given}
 use Rattle.words.specs.Tables.{Table}
 
@@ -28,14 +27,14 @@ pub record PairCopied (xs ms rs letters marks entries xs' ms' rs' : List ℕ) : 
   pub entries_are : rs' ≡ copied rs entries
 
 -- The verdict of 1 to 8 and 13.
-module _ {v : Verdict} (n : ℕ) (xs ms rs letters marks entries counts : List ℕ)
+module _ {v : Result (Unit {0}) Refusal} (n : ℕ) (xs ms rs letters marks entries counts : List ℕ)
     (e : said_verdict v ≡ checks_then (pair_judgements n xs ms rs) (pair_rooms (length xs) (length letters) (length marks) (length entries))) where
-  pub pair_refused : (r : Refusal) → v ≡ Refused r
+  pub pair_refused : (r : Refusal) → v ≡ Err r
       → (said_refusal r, (pair_with letters marks entries, counts)) ≡ pair_read (pair_with letters marks entries) counts n xs ms rs
   pair_refused r q = run_refused _ _ e _ _ (pair_with letters marks entries, counts) r q
 
   -- There are as many marks and entries as letters, and the letters are an accepted word, whose table is made.
-  pub pair_passed : {xs' ms' rs' cs : List ℕ} → v ≡ Passed → PairCopied xs ms rs letters marks entries xs' ms' rs' → Table (count_given n xs) cs
+  pub pair_passed : {xs' ms' rs' cs : List ℕ} → v ≡ Ok tt → PairCopied xs ms rs letters marks entries xs' ms' rs' → Table (count_given n xs) cs
       → (gives (n ∷ length xs ∷ []), (pair_with xs' ms' rs', cs)) ≡ pair_read (pair_with letters marks entries) counts n xs ms rs
   pair_passed {xs'} {ms'} {rs'} {cs} q h t =
       let (checks, (first, (second, (third, u)))) = then_passing _ _ e q in

@@ -3,6 +3,7 @@
 --                              the line breaks the grammar; its limits are refused; what is said of its values is said of the line
 --     reading_tableaux         the ruleset of the reader
 -- What memory holds of a line that was scanned is said in line_items; P lines are in PairReaders. Assumes nothing.
+use Rattle.std.specs.Prelude.{Option, Some, None, Result, Ok, Err}
 use Rattle.std.specs.Prelude.{ℕ, ◌-◌, ◌≡◌, true, List, [], ◌∷◌, map, length, take}
 use Rattle.std.proofs.Common.{sym, ap, ◌∙◌, rules}
 use Rattle.std.proofs.lemmas.List.{length-map}
@@ -14,8 +15,6 @@ use Rattle.outcomes.specs.Replies.{Said, first, gives, passed, refused, written}
 use Rattle.refusals.specs.Running.{run-stopped}
 use Rattle.refusals.specs.Said.{said_refusal, said_verdict}
 use Rattle.refusals.specs.declared.refusal.Refusal.{Refusal}
-use Rattle.refusals.specs.declared.answers.Verdict.{Verdict}
-use Rattle.refusals.specs.declared.answers.Verdict.TheVariants.{Passed, Refused}
 use Rattle.scans.specs.Kept.{kept}
 use Rattle.acceptance.specs.Bytes.{narrowed}
 use Rattle.scans.specs.Kinds.{tableau_whole}
@@ -38,8 +37,8 @@ module _ {text old_letters old_marks xs ms : List ℕ} {cells : List (ℕ × ℕ
     unfolding read_t_run
     tableau_is = rw (tableau_whole text, line_read s e)
 
-    module _ {v : Verdict} (h : said_verdict v ≡ first (rank_judged n ∷ length_judged k ∷ []) passed) where
-      pub tableau-stopped : {f : Refusal} → v ≡ Refused f → (said_refusal f, (out_letters, (out_marks, out_counts))) ≡ read_t_run text out_letters out_marks out_counts
+    module _ {v : Result (Unit {0}) Refusal} (h : said_verdict v ≡ first (rank_judged n ∷ length_judged k ∷ []) passed) where
+      pub tableau-stopped : {f : Refusal} → v ≡ Err f → (said_refusal f, (out_letters, (out_marks, out_counts))) ≡ read_t_run text out_letters out_marks out_counts
       tableau-stopped {f} q =
           let ws = letters cells in
           let us = marks cells in
@@ -49,7 +48,7 @@ module _ {text old_letters old_marks xs ms : List ℕ} {cells : List (ℕ × ℕ
           (n ∷ length ws ∷ []) (written ws out_letters, (written us out_marks, counts_of ws)) (out_letters, (out_marks, out_counts)) f (rw (letters_long s e) h) q
           ∙ sym tableau_is
 
-      pub tableau-stored : (bytes : List ℕ) {said : Said × (List ℕ × (List ℕ × List ℕ))} → v ≡ Passed → old_letters ≡ blank 1024 → old_marks ≡ blank 1024
+      pub tableau-stored : (bytes : List ℕ) {said : Said × (List ℕ × (List ℕ × List ℕ))} → v ≡ Ok tt → old_letters ≡ blank 1024 → old_marks ≡ blank 1024
           → bytes ≡ kept (map narrowed (take (k - 0) xs)) (blank 1024)
           → said ≡ tableau_read out_letters out_marks out_counts n (take (k - 0) bytes) (take (k - 0) ms) → said ≡ read_t_run text out_letters out_marks out_counts
       tableau-stored bytes q l o a w =

@@ -3,6 +3,7 @@
 --     tableau_refused, tableau_passed      a tableau, and its letter counts
 --     storing_tableaux                     the ruleset
 -- Pairs are in PairStores, words in word_readers. Assumes nothing.
+use Rattle.std.specs.Prelude.{Option, Some, None, Result, Ok, Err}
 use Rattle.std.specs.Prelude.{ℕ, ◌≡◌, List, [], ◌∷◌, length}
 use Rattle.std.proofs.Common.{arith, rules}
 use Rattle.hypoplactic.specs.Words.{Accepted}
@@ -15,8 +16,6 @@ use Rattle.buffers.specs.Copies.{copied, copied_all}
 use Rattle.refusals.specs.Running.{checks_then, run_passed, run_refused, then_passing}
 use Rattle.refusals.specs.Said.{said_refusal, said_verdict}
 use Rattle.refusals.specs.declared.refusal.Refusal.{Refusal}
-use Rattle.refusals.specs.declared.answers.Verdict.{Verdict}
-use Rattle.refusals.specs.declared.answers.Verdict.TheVariants.{Passed, Refused}
 use Rattle.words.specs.Given.{count_given, counts-given}
 use Rattle.words.specs.Tables.{Table}
 
@@ -26,14 +25,14 @@ pub record Copied (xs ms letters marks xs' ms' : List ℕ) : Type 0 where
   pub marks_are : ms' ≡ copied ms marks
 
 -- The verdict of 1 to 6 and 13.
-module _ {v : Verdict} (n : ℕ) (xs ms letters marks counts : List ℕ)
+module _ {v : Result (Unit {0}) Refusal} (n : ℕ) (xs ms letters marks counts : List ℕ)
     (e : said_verdict v
     ≡ checks_then (tableau_judgements n xs ms) (room_judged (length xs) (length letters) ∷ room_judged (length xs) (length marks) ∷ [])) where
-  pub tableau_refused : (r : Refusal) → v ≡ Refused r → (said_refusal r, (letters, (marks, counts))) ≡ tableau_read letters marks counts n xs ms
+  pub tableau_refused : (r : Refusal) → v ≡ Err r → (said_refusal r, (letters, (marks, counts))) ≡ tableau_read letters marks counts n xs ms
   tableau_refused r q = run_refused _ _ e _ _ (letters, (marks, counts)) r q
 
   -- There are as many marks as letters, and the letters are an accepted word, whose table is made.
-  pub tableau_passed : {xs' ms' cs : List ℕ} → v ≡ Passed → Copied xs ms letters marks xs' ms' → Table (count_given n xs) cs
+  pub tableau_passed : {xs' ms' cs : List ℕ} → v ≡ Ok tt → Copied xs ms letters marks xs' ms' → Table (count_given n xs) cs
       → (gives (n ∷ length xs ∷ []), (xs', (ms', cs))) ≡ tableau_read letters marks counts n xs ms
   tableau_passed {xs'} {ms'} {cs} q h t =
       let (checks, (first, (second, u))) = then_passing _ _ e q in

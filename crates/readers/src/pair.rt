@@ -4,14 +4,14 @@ ghost use Rattle.hypoplactic.specs.Insertion.{pair_with};
 ghost use Rattle.outcomes.specs.Judgements.{pair_judgements, pair_rooms};
 ghost use Rattle.outcomes.specs.LineReadings.{pair_read, read_p_run};
 ghost use Rattle.refusals.specs.Running.{checks_then};
-ghost use Rattle.refusals.specs.Said.{said_read_line, said_verdict};
+ghost use Rattle.refusals.specs.Said.{said_sizes, said_verdict};
 ghost use Rattle.readers.specs.PairStores.{PairCopied};
 
 use buffers::copies::{copy_bytes, copy_entries};
 use line_items::letters::narrow_letters;
 use line_items::room::{no_letters, no_marks};
-use refusals::answers::{ReadLine, Verdict};
-use refusals::chains::{check_limits, check_pair_rooms, or_else};
+use refusals::answers::Sizes;
+use refusals::chains::{check_limits, check_pair_rooms};
 use refusals::refusal::Refusal;
 use scans::line::Line;
 use scans::pair::scan_pair;
@@ -27,13 +27,13 @@ fn check_pair_read(
     letters: usize,
     marks: usize,
     entries: usize,
-) -> Verdict
+) -> Result<(), Refusal>
     ensures { said_verdict result
         ≡ checks_then (pair_judgements rank cells.now steps.now places.now)
         (pair_rooms (length cells.now) letters marks entries) }
 {
-    let rooms = check_pair_rooms(cells.len(), letters, marks, entries);
-    or_else(check_pair(rank, cells, steps, places), rooms)
+    check_pair(rank, cells, steps, places)?;
+    check_pair_rooms(cells.len(), letters, marks, entries)
 }
 
 // Letters, marks and entries, into the beginning of lent memory.
@@ -63,12 +63,12 @@ fn store_pair(
     marks: &mut [u8],
     entries: &mut [u16],
     counts: &mut [u16; 64],
-) -> ReadLine
-    ensures { (said_read_line result, (pair_with letters.new marks.new entries.new, counts.new))
+) -> Result<Sizes, Refusal>
+    ensures { (said_sizes result, (pair_with letters.new marks.new entries.new, counts.new))
         ≡ pair_read (pair_with letters.old marks.old entries.old) counts.old
         rank cells.now steps.now places.now }
 {
-    if let Verdict::Refused(refusal) = check_pair_read(
+    check_pair_read(
         rank,
         cells,
         steps,
@@ -76,12 +76,10 @@ fn store_pair(
         letters.len(),
         marks.len(),
         entries.len(),
-    ) {
-        return ReadLine::Refused(refusal);
-    }
+    )?;
     copy_pair(cells, steps, places, letters, marks, entries);
     *counts = letter_counts(rank, cells);
-    ReadLine::Values(rank, cells.len())
+    Ok(Sizes { rank: rank, count: cells.len() })
 }
 
 // The pair of a P line into lent letters, marks, entries and letter counts, or the refusal of 14, 1 to 8 or 13, which leaves them as they were.
@@ -91,8 +89,8 @@ pub fn read_pair_line(
     marks: &mut [u8],
     entries: &mut [u16],
     counts: &mut [u16; 64],
-) -> ReadLine
-    ensures { (said_read_line result, (pair_with letters.new marks.new entries.new, counts.new))
+) -> Result<Sizes, Refusal>
+    ensures { (said_sizes result, (pair_with letters.new marks.new entries.new, counts.new))
         ≡ read_p_run text.now (pair_with letters.old marks.old entries.old)
         counts.old }
 {
@@ -101,11 +99,9 @@ pub fn read_pair_line(
     let mut places = no_letters();
     let line = scan_pair(text, &mut values, &mut steps, &mut places);
     match line {
-        Line::Broken(place) => ReadLine::Refused(Refusal::Line(place)),
+        Line::Broken(place) => Err(Refusal::Line(place)),
         Line::Read(rank, count, _) => {
-            if let Verdict::Refused(refusal) = check_limits(rank, count) {
-                return ReadLine::Refused(refusal);
-            }
+            check_limits(rank, count)?;
             let bytes = narrow_letters(&values[0..count]);
             store_pair(
                 rank,

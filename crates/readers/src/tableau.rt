@@ -3,14 +3,14 @@ ghost use Rattle.std.specs.Prelude.{[], ◌∷◌, ◌≡◌, length};
 ghost use Rattle.outcomes.specs.Judgements.{room_judged, tableau_judgements};
 ghost use Rattle.outcomes.specs.LineReadings.{read_t_run, tableau_read};
 ghost use Rattle.refusals.specs.Running.{checks_then};
-ghost use Rattle.refusals.specs.Said.{said_read_line, said_verdict};
+ghost use Rattle.refusals.specs.Said.{said_sizes, said_verdict};
 ghost use Rattle.readers.specs.Stores.{Copied};
 
 use buffers::copies::copy_bytes;
 use line_items::letters::narrow_letters;
 use line_items::room::{no_letters, no_marks};
-use refusals::answers::{ReadLine, Verdict};
-use refusals::chains::{check_limits, or_else};
+use refusals::answers::Sizes;
+use refusals::chains::check_limits;
 use refusals::numbers::check_room;
 use refusals::refusal::Refusal;
 use scans::line::{Line, scan_line};
@@ -24,16 +24,14 @@ fn check_tableau_read(
     steps: &[u8],
     letters: usize,
     marks: usize,
-) -> Verdict
+) -> Result<(), Refusal>
     ensures { said_verdict result
         ≡ checks_then (tableau_judgements rank cells.now steps.now)
         (room_judged (length cells.now) letters ∷ room_judged (length cells.now) marks ∷ []) }
 {
-    let room = or_else(
-        check_room(cells.len(), letters),
-        check_room(cells.len(), marks),
-    );
-    or_else(check_tableau(rank, cells, steps), room)
+    check_tableau(rank, cells, steps)?;
+    check_room(cells.len(), letters)?;
+    check_room(cells.len(), marks)
 }
 
 // Letters and marks, into the beginning of lent memory.
@@ -52,22 +50,20 @@ fn store_tableau(
     letters: &mut [u8],
     marks: &mut [u8],
     counts: &mut [u16; 64],
-) -> ReadLine
-    ensures { (said_read_line result, (letters.new, (marks.new, counts.new)))
+) -> Result<Sizes, Refusal>
+    ensures { (said_sizes result, (letters.new, (marks.new, counts.new)))
         ≡ tableau_read letters.old marks.old counts.old rank cells.now steps.now }
 {
-    if let Verdict::Refused(refusal) = check_tableau_read(
+    check_tableau_read(
         rank,
         cells,
         steps,
         letters.len(),
         marks.len(),
-    ) {
-        return ReadLine::Refused(refusal);
-    }
+    )?;
     copy_cells(cells, steps, letters, marks);
     *counts = letter_counts(rank, cells);
-    ReadLine::Values(rank, cells.len())
+    Ok(Sizes { rank: rank, count: cells.len() })
 }
 
 // The tableau of a T line into lent letters, marks and letter counts, or the refusal of 14, 1 to 6 or 13, which leaves them as they were.
@@ -76,19 +72,17 @@ pub fn read_tableau_line(
     letters: &mut [u8],
     marks: &mut [u8],
     counts: &mut [u16; 64],
-) -> ReadLine
-    ensures { (said_read_line result, (letters.new, (marks.new, counts.new)))
+) -> Result<Sizes, Refusal>
+    ensures { (said_sizes result, (letters.new, (marks.new, counts.new)))
         ≡ read_t_run text.now letters.old marks.old counts.old }
 {
     let mut values = no_letters();
     let mut steps = no_marks();
     let line = scan_line(text, b'T', true, true, &mut values, &mut steps);
     match line {
-        Line::Broken(place) => ReadLine::Refused(Refusal::Line(place)),
+        Line::Broken(place) => Err(Refusal::Line(place)),
         Line::Read(rank, count, _) => {
-            if let Verdict::Refused(refusal) = check_limits(rank, count) {
-                return ReadLine::Refused(refusal);
-            }
+            check_limits(rank, count)?;
             let bytes = narrow_letters(&values[0..count]);
             store_tableau(
                 rank,

@@ -6,8 +6,6 @@ ghost use Rattle.recordings.specs.Entries.{step_fault};
 ghost use Rattle.recordings.specs.Seen.{InTable, Judged, Met, Reaches, Seen};
 ghost use Rattle.refusals.specs.Said.{said_verdict};
 
-use refusals::answers::Verdict;
-use refusals::numbers::{either, least};
 use refusals::refusal::Refusal;
 
 // Whether an entry is 0, above the limit, or met before: its bit in the table, bit (entry - 1) % 64 of word (entry - 1) / 64.
@@ -36,7 +34,7 @@ fn meet(seen: &mut [u64], entry: u16)
 }
 
 // 7 with a table of bits, one for each entry that can pass, all 0 at first.
-fn scan_entries(limit: usize, entries: &[u16], seen: &mut [u64]) -> Verdict
+fn scan_entries(limit: usize, entries: &[u16], seen: &mut [u64]) -> Result<(), Refusal>
     requires seen { Seen seen.old [] }
     requires reaches { Reaches (length seen.old) limit }
     ensures { said_verdict result ≡ entries_judged limit entries.now }
@@ -45,12 +43,12 @@ fn scan_entries(limit: usize, entries: &[u16], seen: &mut [u64]) -> Verdict
     while i < entries.len() {
         let entry = entries[i];
         if entry_wrong(limit, seen, entry) {
-            return Verdict::Refused(Refusal::Entry(i));
+            return Err(Refusal::Entry(i));
         }
         meet(seen, entry);
         i += 1;
     }
-    Verdict::Passed
+    Ok(())
 }
 
 // An entry as a number that is compared and counted with.
@@ -64,7 +62,7 @@ fn wide(entry: u16) -> usize
 fn number_outside(limit: usize, number: usize) -> bool
     ensures { result ≡ outside limit number }
 {
-    either(number < 1, limit < number)
+    (number < 1) | (limit < number)
 }
 
 // Whether an entry is 0, above the limit, or noted where one before it is: at its remainder by 1,024, which no two entries from 1 to 1,024 share. The loop leaves at
@@ -78,8 +76,8 @@ fn some_entry_wrong(limit: usize, entries: &[u16]) -> bool
     while i < entries.len() {
         let number = wide(entries[i]);
         let at = number % 1024;
-        let here = either(number_outside(limit, number), noted[at]);
-        wrong = either(wrong, here);
+        let here = number_outside(limit, number) | (noted[at]);
+        wrong = wrong | here;
         noted[at] = true;
         i += 1;
     }
@@ -87,11 +85,11 @@ fn some_entry_wrong(limit: usize, entries: &[u16]) -> bool
 }
 
 // 7: each entry is 1 to limit, and none is met twice.
-pub fn check_entries(limit: usize, entries: &[u16]) -> Verdict
+pub fn check_entries(limit: usize, entries: &[u16]) -> Result<(), Refusal>
     ensures { said_verdict result ≡ entries_judged limit entries.now }
 {
     if !some_entry_wrong(limit, entries) {
-        return Verdict::Passed;
+        return Ok(());
     }
     let mut seen = [0u64; 1024];
     scan_entries(limit, entries, &mut seen)
@@ -118,26 +116,26 @@ fn some_step_broken(entries: &[u16], marks: &[u8], size: usize) -> bool
     let mut wrong = false;
     let mut place = 1;
     while place < size {
-        wrong = either(wrong, step_broken(entries, marks, place));
+        wrong = wrong | step_broken(entries, marks, place);
         place += 1;
     }
     wrong
 }
 
 // 8: the entries rise at right steps and fall at down steps.
-pub fn check_recording(entries: &[u16], marks: &[u8]) -> Verdict
+pub fn check_recording(entries: &[u16], marks: &[u8]) -> Result<(), Refusal>
     ensures { said_verdict result ≡ recording_judged entries.now marks.now }
 {
-    let size = least(entries.len(), marks.len());
+    let size = entries.len().min(marks.len());
     if !some_step_broken(entries, marks, size) {
-        return Verdict::Passed;
+        return Ok(());
     }
     let mut i = 1;
     while i < size {
         if step_broken(entries, marks, i) {
-            return Verdict::Refused(Refusal::Step(i));
+            return Err(Refusal::Step(i));
         }
         i += 1;
     }
-    Verdict::Passed
+    Ok(())
 }

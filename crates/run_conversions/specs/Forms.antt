@@ -9,6 +9,8 @@
 --     line_refused                  where it refuses, so does a writer that judges the same values
 --     as_written                    the reader's answer as a writer's; written_cells, written_refused: of cells, of a refusal
 -- Assumes nothing.
+use Rattle.std.specs.Prelude.{Option, Some, None, Result, Ok, Err}
+use Rattle.refusals.specs.declared.answers.Sizes.{Sizes}
 use Rattle.std.specs.Prelude.{ℕ, ◌-◌, ◌≤◌, ◌≡◌, refl, List, [], ◌∷◌, ◌++◌, length, get_or, take}
 use Rattle.std.proofs.Common.{sym, ap, subst, ◌∙◌, arith}
 use Rattle.grammar.specs.Reading.{Read, broken, got}
@@ -21,10 +23,8 @@ use Rattle.outcomes.proofs.Theory.Judgements.{room_judged_lem}
 use Rattle.outcomes.proofs.Theory.Memory.{written-length, written_needed}
 use Rattle.outcomes.proofs.Theory.Passing.{Passing, first_answer, passing_before, ran_answer}
 use Rattle.refusals.specs.Outcomes.{not_both, same_values}
-use Rattle.refusals.specs.Said.{said_refusal, said_read_line}
+use Rattle.refusals.specs.Said.{said_refusal, said_sizes}
 use Rattle.refusals.specs.declared.refusal.Refusal.{Refusal}
-use Rattle.refusals.specs.declared.answers.ReadLine.{ReadLine}
-use Rattle.refusals.specs.declared.answers.ReadLine.TheVariants.{Refused, Values}
 
 -- So many letters and marks, within the limit.
 pub record Sized (size : ℕ) (xs ms : List ℕ) : Type 0 where
@@ -44,14 +44,14 @@ pub record Form (A : Type 0) : Type 0 where
 -- ---- answers
 
 -- What a writer answers where a reader has: how many cells, or the refusal.
-abbrev pub as_written : ReadLine → Said
+abbrev pub as_written : Result Sizes Refusal → Said
 as_written (Values n m) = gives (m ∷ [])
-as_written (Refused q) = said_refusal q
+as_written (Err q) = said_refusal q
 
-pub written_cells : (line : ReadLine) (n m : ℕ) → line ≡ Values n m → gives (m ∷ []) ≡ as_written line
+pub written_cells : (line : Result Sizes Refusal) (n m : ℕ) → line ≡ Values n m → gives (m ∷ []) ≡ as_written line
 written_cells line n m h = sym (ap as_written h)
 
-pub written_refused : (line : ReadLine) (q : Refusal) → line ≡ Refused q → said_refusal q ≡ as_written line
+pub written_refused : (line : Result Sizes Refusal) (q : Refusal) → line ≡ Err q → said_refusal q ≡ as_written line
 written_refused line q h = sym (ap as_written h)
 
 -- What a reader replies, and memory: letters, marks and letter counts.
@@ -107,17 +107,17 @@ module _ {A : Type 0} (f : Form A) (ls ks cs : List ℕ) (long : 1024 ≤ length
   enough a h = let short : f.size a ≤ 1024 = (f.sized a h).short in ((room_judged_lem _ _).1 (omega arith), ((room_judged_lem _ _).1 (omega arith), tt))
 
   -- The reader's answer, and memory after it.
-  module _ (text : List ℕ) (made : ReadLine) (xs ms ds : List ℕ) where
+  module _ (text : List ℕ) (made : Result Sizes Refusal) (xs ms ds : List ℕ) where
     abbrev Replied : Read A → Type 0
-    Replied reading = (said_read_line made, (xs, (ms, ds))) ≡ read_run text (stored f ls ks cs) (ls, (ks, cs)) reading
+    Replied reading = (said_sizes made, (xs, (ms, ds))) ≡ read_run text (stored f ls ks cs) (ls, (ks, cs)) reading
 
     -- A refusal.
-    pub line_refused : (reading : Read A) → Replied reading → (q : Refusal) → made ≡ Refused q → (bytes : A → List ℕ) (out : List ℕ)
+    pub line_refused : (reading : Read A) → Replied reading → (q : Refusal) → made ≡ Err q → (bytes : A → List ℕ) (out : List ℕ)
         → (as_written made, out) ≡ read_run text (λ a. line_run (f.judged a) (bytes a) out) out reading
     line_refused (broken rest) e q h bytes out =
-        ap (λ (s : Said). (s, out)) (rw h (sym (ap said_read_line h) ∙ ap (λ (o : Reply). o.0) e))
+        ap (λ (s : Said). (s, out)) (rw h (sym (ap said_sizes h) ∙ ap (λ (o : Reply). o.0) e))
     line_refused (got a rest) e q h bytes out =
-        let says = sym (ap (λ (o : Reply). o.0) e) ∙ ap said_read_line h in
+        let says = sym (ap (λ (o : Reply). o.0) e) ∙ ap said_sizes h in
         rw (
           h,
           first_stays (f.judged a) (tableau_rooms (f.size a) (length ls) (length ks)) (room_judged (length (bytes a)) (length out) ∷ []) _
@@ -127,14 +127,14 @@ module _ {A : Type 0} (f : Form A) (ls ks cs : List ℕ) (long : 1024 ≤ length
     -- Rank and cells.
     pub line_kept : (reading : Read A) → Replied reading → (n m : ℕ) → made ≡ Values n m → Kept f reading n m xs ms
     line_kept (broken rest) e n m h =
-        absurd (not_both (sym (ap said_read_line h) ∙ ap (λ (o : Reply). o.0) e))
+        absurd (not_both (sym (ap said_sizes h) ∙ ap (λ (o : Reply). o.0) e))
     line_kept (got a rest) e n m h =
         let given : gives (n ∷ m ∷ []) ≡ first (f.judged a ++ tableau_rooms (f.size a) (length ls) (length ks)) (gives (f.rank a ∷ f.size a ∷ [])) =
-        sym (ap said_read_line h) ∙ ap (λ (o : Reply). o.0) e in
+        sym (ap said_sizes h) ∙ ap (λ (o : Reply). o.0) e in
         let passes : Passing (f.judged a) = passing_before (f.judged a) _ _ (subst Passes given tt) in
         let sized : Sized (f.size a) (f.letters a) (f.marks a) = f.sized a passes in
         let all = e ∙ ran_answer (f.judged a) (tableau_rooms (f.size a) (length ls) (length ks)) _ _ _ passes (enough a passes) in
-        let values : n ∷ m ∷ [] ≡ f.rank a ∷ f.size a ∷ [] = same_values (sym (ap said_read_line h) ∙ ap (λ (o : Reply). o.0) all) in
+        let values : n ∷ m ∷ [] ≡ f.rank a ∷ f.size a ∷ [] = same_values (sym (ap said_sizes h) ∙ ap (λ (o : Reply). o.0) all) in
         let size : m ≡ f.size a = ap (λ (vs : List ℕ). get_or vs 1 0) values in
         let is_letters : xs ≡ written (f.letters a) ls = ap (λ (o : Reply). o.1.0) all in
         let is_marks : ms ≡ written (f.marks a) ks = ap (λ (o : Reply). o.1.1.0) all in

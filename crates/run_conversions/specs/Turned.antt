@@ -3,6 +3,8 @@
 --     to_tableau_refused, to_tableau-letters, to_tableau-marks, to_tableau-made      the same of a C line
 --     turning                                                                        the ruleset of the converters
 -- Assumes nothing.
+use Rattle.std.specs.Prelude.{Option, Some, None, Result, Ok, Err}
+use Rattle.refusals.specs.declared.answers.Sizes.{Sizes}
 use Rattle.std.specs.Prelude.{ℕ, ◌-◌, ◌≤◌, ◌≡◌, refl, List, length, take}
 use Rattle.std.proofs.Math.Path.{sym, ap}
 use Rattle.std.proofs.Common.{◌∙◌, rules}
@@ -16,10 +18,8 @@ use Rattle.outcomes.proofs.Theory.Judged.{tableau_passing}
 use Rattle.outcomes.proofs.Theory.Judgements.{alike-judged, length-judged}
 use Rattle.outcomes.proofs.Theory.LineResults.{past_checks}
 use Rattle.outcomes.proofs.Theory.Passing.{Passing}
-use Rattle.refusals.specs.Said.{said_read_line}
+use Rattle.refusals.specs.Said.{said_sizes}
 use Rattle.refusals.specs.declared.refusal.Refusal.{Refusal}
-use Rattle.refusals.specs.declared.answers.ReadLine.{ReadLine}
-use Rattle.refusals.specs.declared.answers.ReadLine.TheVariants.{Refused, Values}
 use Rattle.run_lines.specs.Judgements.{run_judgements}
 use Rattle.run_lines.specs.Operations.{c_line_run, read_c_run, run_line, runs_to_tableau_run, runs_turned, tableau_to_runs_run}
 use Rattle.run_lines.specs.Runs.{run_cells, run_letters, run_marks}
@@ -60,9 +60,9 @@ runs_form = record {
 
 -- ---- from T to C
 
-module _ (text ls ks cs xs ms ds : List ℕ) (made : ReadLine) (e : (said_read_line made, (xs, (ms, ds))) ≡ read_t_run text ls ks cs)
+module _ (text ls ks cs xs ms ds : List ℕ) (made : Result Sizes Refusal) (e : (said_sizes made, (xs, (ms, ds))) ≡ read_t_run text ls ks cs)
     (long : 1024 ≤ length ls) (long' : 1024 ≤ length ks) where
-  pub to_runs_refused : {s : Said} (q : Refusal) (out : List ℕ) → made ≡ Refused q → s ≡ as_written made → (s, out) ≡ tableau_to_runs_run text out
+  pub to_runs_refused : {s : Said} (q : Refusal) (out : List ℕ) → made ≡ Err q → s ≡ as_written made → (s, out) ≡ tableau_to_runs_run text out
   unfolding read_t_run tableau_to_runs_run c_line_run
   to_runs_refused q out h g =
       ap (λ (t : Said). (t, out)) g
@@ -96,9 +96,9 @@ turned-line text n L rs rest out e h =
     let passes = (tableau_passing n (run_letters rs) (run_marks rs)).1 (c_values text n L rs rest e h).0 in
     sym (past_checks (tableau_judgements n (run_letters rs) (run_marks rs)) bytes out passes) ∙ past_checks (run_judgements n L rs) bytes out h
 
-module _ (text ls ks cs xs ms ds : List ℕ) (made : ReadLine) (e : (said_read_line made, (xs, (ms, ds))) ≡ read_c_run text ls ks cs)
+module _ (text ls ks cs xs ms ds : List ℕ) (made : Result Sizes Refusal) (e : (said_sizes made, (xs, (ms, ds))) ≡ read_c_run text ls ks cs)
     (long : 1024 ≤ length ls) (long' : 1024 ≤ length ks) where
-  pub to_tableau_refused : {s : Said} (q : Refusal) (out : List ℕ) → made ≡ Refused q → s ≡ as_written made → (s, out) ≡ runs_to_tableau_run text out
+  pub to_tableau_refused : {s : Said} (q : Refusal) (out : List ℕ) → made ≡ Err q → s ≡ as_written made → (s, out) ≡ runs_to_tableau_run text out
   unfolding read_c_run runs_to_tableau_run
   to_tableau_refused q out h g =
       ap (λ (t : Said). (t, out)) g

@@ -2,13 +2,15 @@
 --     runs_broken, runs-stored     the line breaks the grammar; what is stored of its items is the reply to the line
 --     reading_runs                 the ruleset of the reader
 -- Assumes nothing.
+use Rattle.std.specs.Prelude.{Option, Some, None, Result, Ok, Err}
+use Rattle.refusals.specs.declared.answers.Sizes.{Sizes}
+use Rattle.refusals.specs.declared.refusal.Refusal.{Refusal}
 use Rattle.std.specs.Prelude.{ℕ, ◌≡◌, List}
 use Rattle.std.proofs.Common.{rules}
 use Rattle.grammar.specs.Reading.{read_c}
 use Rattle.grammar.proofs.Theory.Sound.{c_sound}
 use Rattle.outcomes.specs.Replies.{refused}
-use Rattle.refusals.specs.Said.{said_read_line}
-use Rattle.refusals.specs.declared.answers.ReadLine.{ReadLine}
+use Rattle.refusals.specs.Said.{said_sizes}
 use Rattle.line_items.specs.Items.{break_place_lem}
 use Rattle.run_lines.specs.Operations.{read_c_run}
 use Rattle.run_lines.proofs.Theory.Judged.{good_marks}
@@ -26,9 +28,9 @@ module _ {text ts ms : List ℕ} {r : RunLine} (s : RunsScanned text (read_c tex
       let f = run_line_broken s e in
       rw (f.says, break_place_lem text p f.within)
 
-  pub runs-stored : {n k : ℕ} {y : Tally} {letters' marks' counts' : List ℕ} (reply : ReadLine) → r ≡ runs.Read n k y
+  pub runs-stored : {n k : ℕ} {y : Tally} {letters' marks' counts' : List ℕ} (reply : Result Sizes Refusal) → r ≡ runs.Read n k y
       → Stored n k y ts ms letters marks counts letters' marks' counts' reply
-      → (said_read_line reply, (letters', (marks', counts'))) ≡ read_c_run text letters marks counts
+      → (said_sizes reply, (letters', (marks', counts'))) ≡ read_c_run text letters marks counts
   unfolding read_c_run
   runs-stored {n} {k} {y} reply e h =
       let f = run_line_read s e in

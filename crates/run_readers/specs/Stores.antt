@@ -5,6 +5,8 @@
 --     runs_refused, runs_passed    a refusal, and memory is as it was; or the tableau, and its letter counts
 --     checking_runs, storing_runs  the rulesets of the checks and of what is stored
 -- That the tables tell the items is in Tables. Assumes nothing.
+use Rattle.std.specs.Prelude.{Option, Some, None, Result, Ok, Err}
+use Rattle.refusals.specs.declared.answers.Sizes.{Sizes}
 use Rattle.std.specs.Prelude.{ℕ, ◌≤◌, ◌≡◌, List, length}
 use Rattle.std.proofs.Common.{ap₂, ◌∙◌, arith, rules}
 use Rattle.grammar.specs.Lines.{Run}
@@ -14,12 +16,8 @@ use Rattle.outcomes.specs.Replies.{first, or_else, passed}
 use Rattle.hypoplactic.specs.Words.{Within}
 use Rattle.outcomes.proofs.Theory.Judgements.{letters-judged, rank_judged_lem, room_judged_lem}
 use Rattle.refusals.specs.Running.{checked_then, checks_then, following, run_passed, run_refused, then_passing}
-use Rattle.refusals.specs.Said.{said_read_line, said_verdict}
+use Rattle.refusals.specs.Said.{said_sizes, said_verdict}
 use Rattle.refusals.specs.declared.refusal.Refusal.{Refusal}
-use Rattle.refusals.specs.declared.answers.Verdict.{Verdict}
-use Rattle.refusals.specs.declared.answers.Verdict.TheVariants.{Passed, Refused}
-use Rattle.refusals.specs.declared.answers.ReadLine.{ReadLine}
-use Rattle.refusals.specs.declared.answers.ReadLine.TheVariants as line
 use Rattle.run_lines.specs.Judgements.{item_letters, run_judgements}
 use Rattle.run_lines.specs.Operations.{runs_read}
 use Rattle.run_lines.specs.Runs.{run_cells}
@@ -34,11 +32,11 @@ use Rattle.run_readers.specs.Tables.{tables_counts, tables_filled, zeros}
 -- ---- the checks
 
 -- Whatever items have this tally.
-pub record RunsChecked (n L : ℕ) (y : Tally) (letters marks : ℕ) (v : Verdict) : Type 0 where
+pub record RunsChecked (n L : ℕ) (y : Tally) (letters marks : ℕ) (v : Result (Unit {0}) Refusal) : Type 0 where
   pub says : (rs : List Run) → Tallied n rs y → said_verdict v ≡ checks_then (run_judgements n L rs) (tableau_rooms L letters marks)
 
 -- The verdict t is that of u or else that of v.
-pub rooms_checked : {t : Verdict} (u v : Verdict) (n L : ℕ) (y : Tally) (letters marks : ℕ) → said_verdict t ≡ or_else (said_verdict u) (said_verdict v)
+pub rooms_checked : {t : Result (Unit {0}) Refusal} (u v : Result (Unit {0}) Refusal) (n L : ℕ) (y : Tally) (letters marks : ℕ) → said_verdict t ≡ or_else (said_verdict u) (said_verdict v)
     → said_verdict u ≡ tally_says n L y → said_verdict v ≡ first (tableau_rooms L letters marks) passed → RunsChecked n L y letters marks t
 rooms_checked {t} u v n L y letters marks e f g =
     record { says = λ rs h. checked_then t u v (run_judgements n L rs) e (f ∙ tally-judges n L y rs h) (tableau_rooms L letters marks) g }
@@ -48,20 +46,20 @@ pub ruleset checking_runs = (rooms_checked, following)
 -- ---- what is stored
 
 -- Whatever items have this tally and these tables, with the marks that the grammar gives.
-pub record Stored (n L : ℕ) (y : Tally) (ts ms letters marks counts letters' marks' counts' : List ℕ) (r : ReadLine) : Type 0 where
+pub record Stored (n L : ℕ) (y : Tally) (ts ms letters marks counts letters' marks' counts' : List ℕ) (r : Result Sizes Refusal) : Type 0 where
   pub says : (rs : List Run) → MarkedRuns rs → Held n zeros zeros ts ms y rs
-      → (said_read_line r, (letters', (marks', counts'))) ≡ runs_read letters marks counts n L rs
+      → (said_sizes r, (letters', (marks', counts'))) ≡ runs_read letters marks counts n L rs
 
 -- Two lists as a pair, beside a third.
 both : {xs ms xs' ms' cs cs' : List ℕ} {p : List ℕ × List ℕ} → (xs, ms) ≡ p → p ≡ (xs', ms') → cs ≡ cs'
     → ◌≡◌ {A = List ℕ × (List ℕ × List ℕ)} (xs, (ms, cs)) (xs', (ms', cs'))
 both d e f = ap₂ (λ (p : List ℕ × List ℕ) (cs : List ℕ). (p.0, (p.1, cs))) (d ∙ e) f
 
-module _ {v : Verdict} (n L : ℕ) (y : Tally) (ts ms letters marks counts : List ℕ) (e : RunsChecked n L y (length letters) (length marks) v) where
-  pub runs_refused : (f : Refusal) → v ≡ Refused f → Stored n L y ts ms letters marks counts letters marks counts (line.Refused f)
+module _ {v : Result (Unit {0}) Refusal} (n L : ℕ) (y : Tally) (ts ms letters marks counts : List ℕ) (e : RunsChecked n L y (length letters) (length marks) v) where
+  pub runs_refused : (f : Refusal) → v ≡ Err f → Stored n L y ts ms letters marks counts letters marks counts (Err f)
   runs_refused f q = record { says = λ rs m h. run_refused _ _ (e.says rs h.tallied) _ _ (letters, (marks, counts)) f q }
 
-  pub runs_passed : (letters' marks' : List ℕ) → v ≡ Passed → (letters', marks') ≡ filled_runs n ts ms letters marks
+  pub runs_passed : (letters' marks' : List ℕ) → v ≡ Ok tt → (letters', marks') ≡ filled_runs n ts ms letters marks
       → Stored n L y ts ms letters marks counts letters' marks' ts (line.Values n L)
   runs_passed letters' marks' q d = record {
     says = λ rs m h.

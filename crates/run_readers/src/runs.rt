@@ -1,13 +1,12 @@
 // The reader of C lines: the tableau of a line into lent letters and marks, and its letter counts. A line's items are not kept themselves: the checks are made by
 // their tally, and a line that passes them has one item at most for each letter, so that two tables by letter tell all of them.
 ghost use Rattle.std.specs.Prelude.{◌≡◌};
-ghost use Rattle.refusals.specs.Said.{said_read_line};
+ghost use Rattle.refusals.specs.Said.{said_sizes};
 ghost use Rattle.run_lines.specs.Operations.{read_c_run};
 ghost use Rattle.run_readers.specs.Stores.{RunsChecked, Stored};
 
 use fillings::steps::fill_runs;
-use refusals::answers::{ReadLine, Verdict};
-use refusals::chains::or_else;
+use refusals::answers::Sizes;
 use refusals::numbers::check_room;
 use refusals::refusal::Refusal;
 use run_scans::line::{RunLine, scan_runs};
@@ -15,11 +14,12 @@ use run_tallies::checks::check_tally;
 use run_tallies::tally::Tally;
 
 // 1, 2, 4, 19 and 20 of a line that was read, and 13 of lent letters and marks.
-fn check_runs(rank: usize, size: usize, tally: Tally, letters: usize, marks: usize) -> Verdict
+fn check_runs(rank: usize, size: usize, tally: Tally, letters: usize, marks: usize) -> Result<(), Refusal>
     ensures { RunsChecked rank size tally letters marks result }
 {
-    let room = or_else(check_room(size, letters), check_room(size, marks));
-    or_else(check_tally(rank, size, tally), room)
+    check_tally(rank, size, tally)?;
+    check_room(size, letters)?;
+    check_room(size, marks)
 }
 
 // The tableau that the items of a line tell, into lent letters, marks and letter counts.
@@ -32,16 +32,14 @@ fn store_runs(
     letters: &mut [u8],
     marks: &mut [u8],
     counts: &mut [u16; 64],
-) -> ReadLine
+) -> Result<Sizes, Refusal>
     ensures { Stored rank size tally times.now steps.now letters.old marks.old counts.old
         letters.new marks.new counts.new result }
 {
-    if let Verdict::Refused(refusal) = check_runs(rank, size, tally, letters.len(), marks.len()) {
-        return ReadLine::Refused(refusal);
-    }
+    check_runs(rank, size, tally, letters.len(), marks.len())?;
     fill_runs(rank, times, steps, letters, marks);
     *counts = *times;
-    ReadLine::Values(rank, size)
+    Ok(Sizes { rank: rank, count: size })
 }
 
 // The tableau of a C line into lent letters, marks and letter counts, or the refusal of 14, 1, 2, 4, 19, 20 or 13, which leaves them as they were.
@@ -50,15 +48,15 @@ pub fn read_run_line(
     letters: &mut [u8],
     marks: &mut [u8],
     counts: &mut [u16; 64],
-) -> ReadLine
-    ensures { (said_read_line result, (letters.new, (marks.new, counts.new)))
+) -> Result<Sizes, Refusal>
+    ensures { (said_sizes result, (letters.new, (marks.new, counts.new)))
         ≡ read_c_run text.now letters.old marks.old counts.old }
 {
     let mut times = [0u16; 64];
     let mut steps = [0u8; 64];
     let line = scan_runs(text, &mut times, &mut steps);
     match line {
-        RunLine::Broken(place) => ReadLine::Refused(Refusal::Line(place)),
+        RunLine::Broken(place) => Err(Refusal::Line(place)),
         RunLine::Read(rank, size, tally) => store_runs(
             rank, size, tally, &times, &steps, letters, marks, counts,
         ),

@@ -7,6 +7,8 @@
 --     tally-judges                         it is what is said of all items with that tally
 --     tallying                             the ruleset of the functions that tally and check
 -- Assumes nothing.
+use Rattle.std.specs.Prelude.{Option, Some, None, Result, Ok, Err}
+use Rattle.refusals.specs.declared.refusal.Refusal.{Refusal}
 use Rattle.std.specs.Prelude.{ℕ, suc, ◌+◌, ◌<◌, ◌≤◌, min, ◌≡◌, refl, Bool, true, false, ◌||◌, cond, not, List, [], ◌∷◌, ◌++◌, ◌⊎◌, eqb, leb, ltb, length}
 use Rattle.std.proofs.Common.{sym, ap, ap₂, ◌∙◌, inl, inr, arith, length-append}
 use Rattle.std.proofs.Math.Nat.{zero-add}
@@ -18,7 +20,6 @@ use Rattle.outcomes.proofs.Theory.Judgements.{length-judged}
 use Rattle.hypoplactic.proofs.Theory.Pairs.{le-or-lt}
 use Rattle.refusals.specs.Chains.{chained_two, chaining}
 use Rattle.refusals.specs.Said.{said_verdict}
-use Rattle.refusals.specs.declared.answers.Verdict.{Verdict}
 use Rattle.run_lines.specs.Judgements.{item_letters, run_judgements, runs_from, runs_judged, sum_judged}
 use Rattle.run_lines.specs.Runs.{run_cells}
 use Rattle.run_tallies.specs.declared.tally.Tally.{Tally}
@@ -173,7 +174,7 @@ past (gives vs) e = e tt
 past (refused k p) e = refl
 
 -- The verdict t is that of 1 and 2 or else that by the tally.
-pub tally_said : (t u v : Verdict) (n L : ℕ) (y : Tally) → said_verdict t ≡ or_else (said_verdict u) (said_verdict v)
+pub tally_said : (t u v : Result (Unit {0}) Refusal) (n L : ℕ) (y : Tally) → said_verdict t ≡ or_else (said_verdict u) (said_verdict v)
     → said_verdict u ≡ or_else (rank_judged n) (or_else (length_judged L) passed) → said_verdict v ≡ first (tally_judgements L y) passed → said_verdict t ≡ tally_says n L y
 unfolding tally_says
 tally_said t u v n L y e f g = chained_two t u v e (rank_judged n) (length_judged L) _ f g

@@ -2,6 +2,8 @@
 --     accepted_first, accepted_second    two words that their check lets pass are accepted
 --     judging                            the ruleset of operations on two words past their check
 -- Assumes nothing.
+use Rattle.std.specs.Prelude.{Option, Some, None, Result, Ok, Err}
+use Rattle.refusals.specs.declared.refusal.Refusal.{Refusal}
 use Rattle.std.specs.Prelude.{ℕ, ◌≡◌, List, length}
 use Rattle.std.proofs.Common.{rules}
 use Rattle.hypoplactic.specs.Words.{Accepted}
@@ -13,11 +15,9 @@ use Rattle.outcomes.proofs.Theory.Passing.{passes_nearer}
 use Rattle.refusals.specs.Chains.{stops, goes_on}
 use Rattle.refusals.specs.Running.{all_passing}
 use Rattle.refusals.specs.Said.{said_verdict}
-use Rattle.refusals.specs.declared.answers.Verdict.{Verdict}
-use Rattle.refusals.specs.declared.answers.Verdict.TheVariants.{Passed}
 
 -- Two words that their check lets pass are accepted, each at its rank.
-both_accepted : {r : Verdict} (n : ℕ) (u : List ℕ) (m : ℕ) (v : List ℕ) → said_verdict r ≡ first (words_judgements n u m v) passed → r ≡ Passed
+both_accepted : {r : Result (Unit {0}) Refusal} (n : ℕ) (u : List ℕ) (m : ℕ) (v : List ℕ) → said_verdict r ≡ first (words_judgements n u m v) passed → r ≡ Ok tt
     → Accepted n u × Accepted m v
 both_accepted n u m v e q =
     let (rank, (rank', (short, (short', (letters, (letters', t)))))) = all_passing (words_judgements n u m v) e q in
@@ -25,12 +25,12 @@ both_accepted n u m v e q =
     ((word_passing n u).0 (rank, (short, (letters, tt))), (word_passing m v).0 (rank', (short', (inside, tt))))
 
 -- The first is,
-pub accepted_first : {r : Verdict} (n : ℕ) (u : List ℕ) (m : ℕ) (v : List ℕ) → said_verdict r ≡ first (words_judgements n u m v) passed → r ≡ Passed
+pub accepted_first : {r : Result (Unit {0}) Refusal} (n : ℕ) (u : List ℕ) (m : ℕ) (v : List ℕ) → said_verdict r ≡ first (words_judgements n u m v) passed → r ≡ Ok tt
     → Accepted n u
 accepted_first n u m v e q = (both_accepted n u m v e q).0
 
 -- and so is the second.
-pub accepted_second : {r : Verdict} (n : ℕ) (u : List ℕ) (m : ℕ) (v : List ℕ) → said_verdict r ≡ first (words_judgements n u m v) passed → r ≡ Passed
+pub accepted_second : {r : Result (Unit {0}) Refusal} (n : ℕ) (u : List ℕ) (m : ℕ) (v : List ℕ) → said_verdict r ≡ first (words_judgements n u m v) passed → r ≡ Ok tt
     → Accepted m v
 accepted_second n u m v e q = (both_accepted n u m v e q).1
 

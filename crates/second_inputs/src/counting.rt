@@ -9,23 +9,23 @@ ghost use Rattle.second_inputs.specs.Counting.{FurtherFits, further};
 
 use acceptance::letters::{letter_fault, letters_verdict};
 use counts::check::{count_fault, counts_verdict};
-use refusals::answers::{Fault, Verdict};
 use shapes::marks::{mark_fault, marks_verdict};
 use shapes::rising::{rising_fault, rising_verdict};
+use refusals::refusal::Refusal;
 
 // The same fault, so many places further on.
-fn counted_on(before: usize, fault: Fault) -> Fault
+fn counted_on(before: usize, fault: Option<usize>) -> Option<usize>
     requires { FurtherFits before fault }
     ensures { result ≡ further before fault }
 {
     match fault {
-        Fault::At(place) => Fault::At(before + place),
-        Fault::Nowhere => Fault::Nowhere,
+        Some(place) => Some(before + place),
+        None => None,
     }
 }
 
 // 4 of a second word or tableau.
-pub fn check_second_letters(first: &[u8], rank: usize, second: &[u8]) -> Verdict
+pub fn check_second_letters(first: &[u8], rank: usize, second: &[u8]) -> Result<(), Refusal>
     ensures { said_verdict result ≡ count_on (length first.now) (letters_judged rank second.now) }
 {
     let fault = letter_fault(rank, second);
@@ -33,7 +33,7 @@ pub fn check_second_letters(first: &[u8], rank: usize, second: &[u8]) -> Verdict
 }
 
 // 5 of a second tableau.
-pub fn check_second_rising(first: &[u8], second: &[u8]) -> Verdict
+pub fn check_second_rising(first: &[u8], second: &[u8]) -> Result<(), Refusal>
     ensures { said_verdict result ≡ count_on (length first.now) (rising_judged second.now) }
 {
     let fault = rising_fault(second);
@@ -41,7 +41,7 @@ pub fn check_second_rising(first: &[u8], second: &[u8]) -> Verdict
 }
 
 // 6 of a second tableau.
-pub fn check_second_marks(first: &[u8], second: &[u8], marks: &[u8]) -> Verdict
+pub fn check_second_marks(first: &[u8], second: &[u8], marks: &[u8]) -> Result<(), Refusal>
     ensures { said_verdict result ≡ count_on (length first.now) (marks_judged second.now marks.now) }
 {
     let fault = mark_fault(second, marks);
@@ -49,7 +49,7 @@ pub fn check_second_marks(first: &[u8], second: &[u8], marks: &[u8]) -> Verdict
 }
 
 // 17 of a second tableau.
-pub fn check_second_counts(second: &[u8], counts: &[u16; 64]) -> Verdict
+pub fn check_second_counts(second: &[u8], counts: &[u16; 64]) -> Result<(), Refusal>
     ensures { said_verdict result ≡ count_on 64 (counts_judged counts.now second.now) }
 {
     let fault = count_fault(second, counts);

@@ -8,9 +8,8 @@ ghost use Rattle.refusals.specs.Said.{said_verdict};
 
 use crate::counting::check_second_letters;
 use acceptance::letters::check_letters;
-use refusals::answers::Verdict;
-use refusals::chains::or_else;
 use refusals::numbers::{check_length, check_rank};
+use refusals::refusal::Refusal;
 
 // 1 and 2 of two words or tableaux: each over the first, then over the second.
 pub fn check_two_limits(
@@ -18,15 +17,16 @@ pub fn check_two_limits(
     first_length: usize,
     second_rank: usize,
     second_length: usize,
-) -> Verdict
+) -> Result<(), Refusal>
     ensures { said_verdict result
         ≡ first
         (rank_judged first_rank ∷ rank_judged second_rank ∷ length_judged first_length ∷ length_judged second_length ∷ [])
         passed }
 {
-    let ranks = or_else(check_rank(first_rank), check_rank(second_rank));
-    let lengths = or_else(check_length(first_length), check_length(second_length));
-    or_else(ranks, lengths)
+    check_rank(first_rank)?;
+    check_rank(second_rank)?;
+    check_length(first_length)?;
+    check_length(second_length)
 }
 
 // 1, 2 and 4 of two words: every check over the first, then over the second, before the next check.
@@ -35,20 +35,16 @@ pub fn check_words(
     first_word: &[u8],
     second_rank: usize,
     second_word: &[u8],
-) -> Verdict
+) -> Result<(), Refusal>
     ensures { said_verdict result
         ≡ first (words_judgements first_rank first_word.now second_rank second_word.now) passed }
 {
-    if let Verdict::Refused(refusal) = check_two_limits(
+    check_two_limits(
         first_rank,
         first_word.len(),
         second_rank,
         second_word.len(),
-    ) {
-        return Verdict::Refused(refusal);
-    }
-    or_else(
-        check_letters(first_rank, first_word),
-        check_second_letters(first_word, second_rank, second_word),
-    )
+    )?;
+    check_letters(first_rank, first_word)?;
+    check_second_letters(first_word, second_rank, second_word)
 }

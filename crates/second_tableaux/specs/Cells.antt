@@ -4,6 +4,8 @@
 --     shaped_both           where 5, 6 and 17 pass in each, 4 of both is what is said
 --     shaping               the ruleset of that
 -- Assumes nothing.
+use Rattle.std.specs.Prelude.{Option, Some, None, Result, Ok, Err}
+use Rattle.refusals.specs.declared.refusal.Refusal.{Refusal}
 use Rattle.std.specs.Prelude.{ℕ, ◌≡◌, refl, List, [], ◌∷◌, length}
 use Rattle.std.proofs.Common.{sym, ap, subst, ◌∙◌, rules}
 use Rattle.outcomes.specs.Counts.{counts_judged}
@@ -12,8 +14,6 @@ use Rattle.outcomes.specs.Judgements.{letters_judged, marks_judged, rising_judge
 use Rattle.outcomes.proofs.Theory.Passing.{first_answer, passes-further}
 use Rattle.refusals.specs.Running.{all_passing}
 use Rattle.refusals.specs.Said.{said_verdict}
-use Rattle.refusals.specs.declared.answers.Verdict.{Verdict}
-use Rattle.refusals.specs.declared.answers.Verdict.TheVariants.{Passed, Refused}
 
 -- 5 and 6 of both.
 abbrev pub shapes_judgements : List ℕ → List ℕ → List ℕ → List ℕ → List Said
@@ -29,19 +29,19 @@ cells_judgements n xs ms cs m ys ns ds =
     ∷ counts_judged cs xs ∷ count_on 64 (counts_judged ds ys) ∷ []
 
 -- One verdict or else another passes: both do.
-both-passed : (u v : Verdict) {t : Verdict} → said_verdict t ≡ or_else (said_verdict u) (said_verdict v) → t ≡ Passed → (u ≡ Passed) × (v ≡ Passed)
-both-passed Passed Passed e q = (refl, refl)
-both-passed Passed (Refused r) e q = absurd (subst Passes (sym (ap said_verdict q) ∙ e) tt)
-both-passed (Refused r) v e q = absurd (subst Passes (sym (ap said_verdict q) ∙ e) tt)
+both-passed : (u v : Result (Unit {0}) Refusal) {t : Result (Unit {0}) Refusal} → said_verdict t ≡ or_else (said_verdict u) (said_verdict v) → t ≡ Ok tt → (u ≡ Ok tt) × (v ≡ Ok tt)
+both-passed (Ok tt) (Ok tt) e q = (refl, refl)
+both-passed (Ok tt) (Err r) e q = absurd (subst Passes (sym (ap said_verdict q) ∙ e) tt)
+both-passed (Err r) v e q = absurd (subst Passes (sym (ap said_verdict q) ∙ e) tt)
 
 -- 5, 6 and 17 of one tableau.
 abbrev pub shape_judgements : List ℕ → List ℕ → List ℕ → List Said
 shape_judgements xs ms cs = rising_judged xs ∷ marks_judged xs ms ∷ counts_judged cs xs ∷ []
 
 -- Where they pass in each, 4 of both is what is said.
-pub shaped_both : {t : Verdict} (r u v : Verdict) (n : ℕ) (xs ms cs : List ℕ) (m : ℕ) (ys ns ds : List ℕ)
+pub shaped_both : {t : Result (Unit {0}) Refusal} (r u v : Result (Unit {0}) Refusal) (n : ℕ) (xs ms cs : List ℕ) (m : ℕ) (ys ns ds : List ℕ)
     → said_verdict t ≡ or_else (said_verdict u) (said_verdict v) → said_verdict u ≡ first (shape_judgements xs ms cs) passed
-    → said_verdict v ≡ first (shape_judgements ys ns ds) passed → t ≡ Passed
+    → said_verdict v ≡ first (shape_judgements ys ns ds) passed → t ≡ Ok tt
     → said_verdict r ≡ first (letters_judged n xs ∷ count_on (length xs) (letters_judged m ys) ∷ []) passed
     → said_verdict r ≡ first (cells_judgements n xs ms cs m ys ns ds) passed
 shaped_both r u v n xs ms cs m ys ns ds e f g q h =

@@ -10,14 +10,13 @@ ghost use Rattle.second_tableaux.specs.Cells.{cells_judgements, shapes_judgement
 use acceptance::letters::check_letters;
 use counts::check::check_counts;
 use counts::shape::check_counted_shape;
-use refusals::answers::Verdict;
-use refusals::chains::or_else;
 use refusals::numbers::check_marks_alike;
 use second_inputs::counting::{
     check_second_counts, check_second_letters, check_second_marks, check_second_rising,
 };
 use shapes::marks::check_marks;
 use shapes::rising::check_rising;
+use refusals::refusal::Refusal;
 
 // 3: the marks of both are as many as their letters.
 pub(crate) fn check_both_parts(
@@ -25,16 +24,14 @@ pub(crate) fn check_both_parts(
     first_marks: usize,
     second_letters: usize,
     second_marks: usize,
-) -> Verdict
+) -> Result<(), Refusal>
     ensures { said_verdict result
         ≡ first
         (alike_judged first_letters (first_marks ∷ []) ∷ alike_judged second_letters (second_marks ∷ []) ∷ [])
         passed }
 {
-    or_else(
-        check_marks_alike(first_letters, first_marks),
-        check_marks_alike(second_letters, second_marks),
-    )
+    check_marks_alike(first_letters, first_marks)?;
+    check_marks_alike(second_letters, second_marks)
 }
 
 // 4: the letters of both, each at its rank.
@@ -43,17 +40,15 @@ fn check_both_letters(
     first_letters: &[u8],
     second_rank: usize,
     second_letters: &[u8],
-) -> Verdict
+) -> Result<(), Refusal>
     ensures { said_verdict result
         ≡ first
         (letters_judged first_rank first_letters.now
         ∷ count_on (length first_letters.now) (letters_judged second_rank second_letters.now) ∷ [])
         passed }
 {
-    or_else(
-        check_letters(first_rank, first_letters),
-        check_second_letters(first_letters, second_rank, second_letters),
-    )
+    check_letters(first_rank, first_letters)?;
+    check_second_letters(first_letters, second_rank, second_letters)
 }
 
 // 5 and 6 of both.
@@ -62,21 +57,16 @@ fn check_both_shapes(
     first_marks: &[u8],
     second_letters: &[u8],
     second_marks: &[u8],
-) -> Verdict
+) -> Result<(), Refusal>
     ensures { said_verdict result
         ≡ first
         (shapes_judgements first_letters.now first_marks.now second_letters.now second_marks.now)
         passed }
 {
-    let rising = or_else(
-        check_rising(first_letters),
-        check_second_rising(first_letters, second_letters),
-    );
-    let marked = or_else(
-        check_marks(first_letters, first_marks),
-        check_second_marks(first_letters, second_letters, second_marks),
-    );
-    or_else(rising, marked)
+    check_rising(first_letters)?;
+    check_second_rising(first_letters, second_letters)?;
+    check_marks(first_letters, first_marks)?;
+    check_second_marks(first_letters, second_letters, second_marks)
 }
 
 // 17: the letter counts of both.
@@ -85,17 +75,15 @@ fn check_both_counts(
     first_counts: &[u16; 64],
     second_letters: &[u8],
     second_counts: &[u16; 64],
-) -> Verdict
+) -> Result<(), Refusal>
     ensures { said_verdict result
         ≡ first
         (counts_judged first_counts.now first_letters.now
         ∷ count_on 64 (counts_judged second_counts.now second_letters.now) ∷ [])
         passed }
 {
-    or_else(
-        check_counts(first_letters, first_counts),
-        check_second_counts(second_letters, second_counts),
-    )
+    check_counts(first_letters, first_counts)?;
+    check_second_counts(second_letters, second_counts)
 }
 
 // 4 to 6 and 17 of both, every check in its place.
@@ -108,7 +96,7 @@ fn check_in_order(
     second_letters: &[u8],
     second_marks: &[u8],
     second_counts: &[u16; 64],
-) -> Verdict
+) -> Result<(), Refusal>
     ensures { said_verdict result
         ≡ first
         (cells_judgements
@@ -122,10 +110,9 @@ fn check_in_order(
         second_counts.now)
         passed }
 {
-    let inside = check_both_letters(first_rank, first_letters, second_rank, second_letters);
-    let shaped = check_both_shapes(first_letters, first_marks, second_letters, second_marks);
-    let counted = check_both_counts(first_letters, first_counts, second_letters, second_counts);
-    or_else(inside, or_else(shaped, counted))
+    check_both_letters(first_rank, first_letters, second_rank, second_letters)?;
+    check_both_shapes(first_letters, first_marks, second_letters, second_marks)?;
+    check_both_counts(first_letters, first_counts, second_letters, second_counts)
 }
 
 // 4 to 6 and 17 of both. Where 5, 6 and 17 pass in each tableau, 4 is all that is left to judge; else the first refusal is looked for in the order of the
@@ -139,7 +126,7 @@ pub(crate) fn check_cells(
     second_letters: &[u8],
     second_marks: &[u8],
     second_counts: &[u16; 64],
-) -> Verdict
+) -> Result<(), Refusal>
     ensures { said_verdict result
         ≡ first
         (cells_judgements
@@ -153,11 +140,9 @@ pub(crate) fn check_cells(
         second_counts.now)
         passed }
 {
-    let shaped = or_else(
-        check_counted_shape(first_letters, first_marks, first_counts),
-        check_counted_shape(second_letters, second_marks, second_counts),
-    );
-    if let Verdict::Passed = shaped {
+    let shaped = check_counted_shape(first_letters, first_marks, first_counts).is_ok()
+        && check_counted_shape(second_letters, second_marks, second_counts).is_ok();
+    if shaped {
         return check_both_letters(first_rank, first_letters, second_rank, second_letters);
     }
     check_in_order(

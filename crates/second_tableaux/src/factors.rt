@@ -6,9 +6,8 @@ ghost use Rattle.products.specs.Products.{factors_judgements};
 ghost use Rattle.refusals.specs.Said.{said_verdict};
 
 use crate::cells::{check_both_parts, check_cells};
-use refusals::answers::Verdict;
-use refusals::chains::or_else;
 use refusals::numbers::{check_rank, check_together};
+use refusals::refusal::Refusal;
 
 // 1, 2 and 3: what is judged before an element is read. 2 judges the cells of both factors together.
 fn check_factor_sizes(
@@ -17,19 +16,16 @@ fn check_factor_sizes(
     first_marks: usize,
     second_letters: usize,
     second_marks: usize,
-) -> Verdict
+) -> Result<(), Refusal>
     ensures { said_verdict result
         ≡ first
         (rank_judged rank ∷ length_judged (first_letters + second_letters) ∷ alike_judged first_letters (first_marks ∷ [])
         ∷ alike_judged second_letters (second_marks ∷ []) ∷ [])
         passed }
 {
-    let limits = or_else(
-        check_rank(rank),
-        check_together(first_letters, second_letters),
-    );
-    let parts = check_both_parts(first_letters, first_marks, second_letters, second_marks);
-    or_else(limits, parts)
+    check_rank(rank)?;
+    check_together(first_letters, second_letters)?;
+    check_both_parts(first_letters, first_marks, second_letters, second_marks)
 }
 
 // 1 to 6 and 17 of two factors.
@@ -41,7 +37,7 @@ pub fn check_factors(
     second_letters: &[u8],
     second_marks: &[u8],
     second_counts: &[u16; 64],
-) -> Verdict
+) -> Result<(), Refusal>
     ensures { said_verdict result
         ≡ first
         (factors_judgements
@@ -54,15 +50,13 @@ pub fn check_factors(
         second_counts.now)
         passed }
 {
-    if let Verdict::Refused(refusal) = check_factor_sizes(
+    check_factor_sizes(
         rank,
         first_letters.len(),
         first_marks.len(),
         second_letters.len(),
         second_marks.len(),
-    ) {
-        return Verdict::Refused(refusal);
-    }
+    )?;
     check_cells(
         rank,
         first_letters,

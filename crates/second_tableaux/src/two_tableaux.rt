@@ -6,8 +6,8 @@ ghost use Rattle.letter_counts.specs.TwoTableaux.{tableaux_judgements};
 ghost use Rattle.refusals.specs.Said.{said_verdict};
 
 use crate::cells::{check_both_parts, check_cells};
-use refusals::answers::Verdict;
 use second_inputs::two_words::check_two_limits;
+use refusals::refusal::Refusal;
 
 // 1 to 6 and 17 of two tableaux.
 pub fn check_tableaux(
@@ -19,7 +19,7 @@ pub fn check_tableaux(
     second_letters: &[u8],
     second_marks: &[u8],
     second_counts: &[u16; 64],
-) -> Verdict
+) -> Result<(), Refusal>
     ensures { said_verdict result
         ≡ first
         (tableaux_judgements
@@ -33,22 +33,18 @@ pub fn check_tableaux(
         second_counts.now)
         passed }
 {
-    if let Verdict::Refused(refusal) = check_two_limits(
+    check_two_limits(
         first_rank,
         first_letters.len(),
         second_rank,
         second_letters.len(),
-    ) {
-        return Verdict::Refused(refusal);
-    }
-    if let Verdict::Refused(refusal) = check_both_parts(
+    )?;
+    check_both_parts(
         first_letters.len(),
         first_marks.len(),
         second_letters.len(),
         second_marks.len(),
-    ) {
-        return Verdict::Refused(refusal);
-    }
+    )?;
     check_cells(
         first_rank,
         first_letters,

@@ -6,8 +6,6 @@ ghost use Rattle.shapes.specs.Clear.{Cleared};
 ghost use Rattle.shapes.specs.Faults.{largest_mark};
 ghost use Rattle.refusals.specs.Said.{said_fault, said_verdict};
 
-use refusals::answers::{Fault, Verdict};
-use refusals::numbers::{either, least};
 use refusals::refusal::Refusal;
 
 // The largest mark of a step between two letters: none goes down between equals.
@@ -37,42 +35,42 @@ fn some_mark_wrong(letters: &[u8], marks: &[u8], size: usize) -> bool
     let mut wrong = false;
     let mut place = 0;
     while place < size {
-        wrong = either(wrong, mark_wrong(letters, marks, place));
+        wrong = wrong | mark_wrong(letters, marks, place);
         place += 1;
     }
     wrong
 }
 
 // Where the first wrong mark stands, if there is one.
-pub fn mark_fault(letters: &[u8], marks: &[u8]) -> Fault
+pub fn mark_fault(letters: &[u8], marks: &[u8]) -> Option<usize>
     ensures { said_fault 6 result ≡ marks_judged letters.now marks.now }
 {
-    let size = least(letters.len(), marks.len());
+    let size = letters.len().min(marks.len());
     if !some_mark_wrong(letters, marks, size) {
-        return Fault::Nowhere;
+        return None;
     }
     let mut i = 0;
     while i < size {
         if mark_wrong(letters, marks, i) {
-            return Fault::At(i);
+            return Some(i);
         }
         i += 1;
     }
-    Fault::Nowhere
+    None
 }
 
 // The verdict of 6 from that place.
-pub fn marks_verdict(fault: Fault) -> Verdict
+pub fn marks_verdict(fault: Option<usize>) -> Result<(), Refusal>
     ensures { said_verdict result ≡ said_fault 6 fault }
 {
     match fault {
-        Fault::At(place) => Verdict::Refused(Refusal::Mark(place)),
-        Fault::Nowhere => Verdict::Passed,
+        Some(place) => Err(Refusal::Mark(place)),
+        None => Ok(()),
     }
 }
 
 // 6: the first mark is 0, each other one 0 or 1, and none goes down between equals.
-pub fn check_marks(letters: &[u8], marks: &[u8]) -> Verdict
+pub fn check_marks(letters: &[u8], marks: &[u8]) -> Result<(), Refusal>
     ensures { said_verdict result ≡ marks_judged letters.now marks.now }
 {
     marks_verdict(mark_fault(letters, marks))

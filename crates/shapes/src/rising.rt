@@ -5,8 +5,6 @@ ghost use Rattle.refusals.specs.Said.{said_fault, said_verdict};
 ghost use Rattle.shapes.specs.Clear.{Cleared};
 ghost use Rattle.shapes.specs.Faults.{fall_fault};
 
-use refusals::answers::{Fault, Verdict};
-use refusals::numbers::either;
 use refusals::refusal::Refusal;
 
 // Whether the letter at a place is smaller than the one before it.
@@ -24,41 +22,41 @@ fn some_letter_falls(letters: &[u8]) -> bool
     let mut wrong = false;
     let mut place = 1;
     while place < letters.len() {
-        wrong = either(wrong, letter_falls(letters, place));
+        wrong = wrong | letter_falls(letters, place);
         place += 1;
     }
     wrong
 }
 
 // Where the first letter that is smaller than the one before it stands, if there is one.
-pub fn rising_fault(letters: &[u8]) -> Fault
+pub fn rising_fault(letters: &[u8]) -> Option<usize>
     ensures { said_fault 5 result ≡ rising_judged letters.now }
 {
     if !some_letter_falls(letters) {
-        return Fault::Nowhere;
+        return None;
     }
     let mut i = 1;
     while i < letters.len() {
         if letter_falls(letters, i) {
-            return Fault::At(i);
+            return Some(i);
         }
         i += 1;
     }
-    Fault::Nowhere
+    None
 }
 
 // The verdict of 5 from that place.
-pub fn rising_verdict(fault: Fault) -> Verdict
+pub fn rising_verdict(fault: Option<usize>) -> Result<(), Refusal>
     ensures { said_verdict result ≡ said_fault 5 fault }
 {
     match fault {
-        Fault::At(place) => Verdict::Refused(Refusal::Falling(place)),
-        Fault::Nowhere => Verdict::Passed,
+        Some(place) => Err(Refusal::Falling(place)),
+        None => Ok(()),
     }
 }
 
 // 5: the letters never fall along the ribbon.
-pub fn check_rising(letters: &[u8]) -> Verdict
+pub fn check_rising(letters: &[u8]) -> Result<(), Refusal>
     ensures { said_verdict result ≡ rising_judged letters.now }
 {
     rising_verdict(rising_fault(letters))

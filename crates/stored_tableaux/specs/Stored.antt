@@ -4,6 +4,7 @@
 --     class_refused, class_passed, weights_refused, weights_passed     the reply, from the verdict of the checks on
 --     storing                          the ruleset of the operations
 -- Assumes nothing.
+use Rattle.std.specs.Prelude.{Option, Some, None, Result, Ok, Err}
 use Rattle.std.specs.Prelude.{ℕ, ◌≡◌, List, [], ◌∷◌, Bool, true, false, ◌&&◌}
 use Rattle.std.proofs.Math.Path.{ap}
 use Rattle.std.proofs.Common.{◌∙◌, rules}
@@ -21,8 +22,6 @@ use Rattle.refusals.specs.Chains.{goes_on, stops}
 use Rattle.refusals.specs.Running.{all_passing}
 use Rattle.refusals.specs.Said.{said_refusal, said_verdict}
 use Rattle.refusals.specs.declared.refusal.Refusal.{Refusal}
-use Rattle.refusals.specs.declared.answers.Verdict.{Verdict}
-use Rattle.refusals.specs.declared.answers.Verdict.TheVariants.{Passed, Refused}
 use Rattle.classes.specs.Tables.{same_true, same_tables}
 use Rattle.weight_sums.specs.Tables.{compare_tables}
 use Rattle.weights.specs.Weights.{compare_true}
@@ -51,30 +50,30 @@ module _ {b : Bool} (ms cs ns ds : List ℕ) (e : b ≡ same_tables cs ds) where
 
 -- ---- the operations, from the verdict of the checks on
 
-module _ {v : Verdict} (n : ℕ) (xs ms cs : List ℕ) (m : ℕ) (ys ns ds : List ℕ)
+module _ {v : Result (Unit {0}) Refusal} (n : ℕ) (xs ms cs : List ℕ) (m : ℕ) (ys ns ds : List ℕ)
     (e : said_verdict v ≡ first (tableaux_judgements n xs ms cs m ys ns ds) passed) where
   -- Past the checks the counts of both are true.
-  both_true : v ≡ Passed → TrueCounts xs cs × TrueCounts ys ds
+  both_true : v ≡ Ok tt → TrueCounts xs cs × TrueCounts ys ds
   both_true q = let (h, k, c, d) = (tableaux_passing n xs ms cs m ys ns ds).0 (all_passing (tableaux_judgements n xs ms cs m ys ns ds) e q) in (c, d)
 
-  pub class_refused : (r : Refusal) → v ≡ Refused r → said_refusal r ≡ same_class_tableaux_says n xs ms cs m ys ns ds
+  pub class_refused : (r : Refusal) → v ≡ Err r → said_refusal r ≡ same_class_tableaux_says n xs ms cs m ys ns ds
   unfolding same_class_tableaux_says
   class_refused r q = stops r _ _ e q ∙ first_else (tableaux_judgements n xs ms cs m ys ns ds) _
 
   -- So equal counts tell that each letter stands equally often,
-  pub class_passed : {s : Said} → v ≡ Passed → s ≡ gives (tick (same_brought ms cs ns ds) 0 ∷ []) → s ≡ same_class_tableaux_says n xs ms cs m ys ns ds
+  pub class_passed : {s : Said} → v ≡ Ok tt → s ≡ gives (tick (same_brought ms cs ns ds) 0 ∷ []) → s ≡ same_class_tableaux_says n xs ms cs m ys ns ds
   unfolding same_class_tableaux_says same_brought same_stored
   class_passed q f =
       let (c, d) = both_true q in
       goes_on _ _ e q (f ∙ ap (λ (b : Bool). gives (tick (b && same_list ms ns) 0 ∷ [])) (same_true xs ys c d))
       ∙ first_else (tableaux_judgements n xs ms cs m ys ns ds) _
 
-  pub weights_refused : (r : Refusal) → v ≡ Refused r → said_refusal r ≡ weights_tableaux_says n xs ms cs m ys ns ds
+  pub weights_refused : (r : Refusal) → v ≡ Err r → said_refusal r ≡ weights_tableaux_says n xs ms cs m ys ns ds
   unfolding weights_tableaux_says
   weights_refused r q = stops r _ _ e q ∙ first_else (tableaux_judgements n xs ms cs m ys ns ds) _
 
   -- and their comparison is that of the weights.
-  pub weights_passed : {s : Said} → v ≡ Passed → s ≡ gives (comparison_number (compare_tables cs ds) ∷ []) → s ≡ weights_tableaux_says n xs ms cs m ys ns ds
+  pub weights_passed : {s : Said} → v ≡ Ok tt → s ≡ gives (comparison_number (compare_tables cs ds) ∷ []) → s ≡ weights_tableaux_says n xs ms cs m ys ns ds
   unfolding weights_tableaux_says
   weights_passed q f =
       let (c, d) = both_true q in

@@ -2,7 +2,6 @@
 ghost use Rattle.std.specs.Prelude.{◌≡◌};
 ghost use Rattle.numbering.specs.Dictionary.{same_list};
 
-use refusals::numbers::both;
 
 // Whether they are as many and equal one by one. The loop leaves at no mark, so that the compiled code takes many at once.
 pub(crate) fn same_marks(first: &[u8], second: &[u8]) -> bool
@@ -14,7 +13,7 @@ pub(crate) fn same_marks(first: &[u8], second: &[u8]) -> bool
     let mut same = true;
     let mut i = 0;
     while i < first.len() {
-        same = both(same, first[i] == second[i]);
+        same = same & (first[i] == second[i]);
         i += 1;
     }
     same

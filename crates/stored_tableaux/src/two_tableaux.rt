@@ -9,9 +9,10 @@ ghost use Rattle.stored_tableaux.specs.Stored.{same_brought};
 
 use crate::marks::same_marks;
 use classes::tables::same_counts;
-use refusals::answers::{Class, Verdict, Weights};
 use second_tableaux::two_tableaux::check_tableaux;
 use weight_sums::tables::compare_counts;
+use refusals::refusal::Refusal;
+use std::cmp::Ordering;
 
 // The test of marks and letter counts.
 fn match_stored(
@@ -19,7 +20,7 @@ fn match_stored(
     first_counts: &[u16; 64],
     second_marks: &[u8],
     second_counts: &[u16; 64],
-) -> Class
+) -> Result<bool, Refusal>
     ensures { said_class result
         ≡ gives
         (tick
@@ -28,12 +29,12 @@ fn match_stored(
         ∷ []) }
 {
     if !same_counts(first_counts, second_counts) {
-        return Class::Different;
+        return Ok(false);
     }
     if same_marks(first_marks, second_marks) {
-        Class::Same
+        Ok(true)
     } else {
-        Class::Different
+        Ok(false)
     }
 }
 
@@ -47,7 +48,7 @@ pub fn same_class_of_tableaux(
     second_letters: &[u8],
     second_marks: &[u8],
     second_counts: &[u16; 64],
-) -> Class
+) -> Result<bool, Refusal>
     ensures { said_class result
         ≡ same_class_tableaux_says
         first_rank
@@ -59,7 +60,7 @@ pub fn same_class_of_tableaux(
         second_marks.now
         second_counts.now }
 {
-    if let Verdict::Refused(refusal) = check_tableaux(
+    check_tableaux(
         first_rank,
         first_letters,
         first_marks,
@@ -68,9 +69,7 @@ pub fn same_class_of_tableaux(
         second_letters,
         second_marks,
         second_counts,
-    ) {
-        return Class::Refused(refusal);
-    }
+    )?;
     match_stored(first_marks, first_counts, second_marks, second_counts)
 }
 
@@ -84,7 +83,7 @@ pub fn compare_weights_of_tableaux(
     second_letters: &[u8],
     second_marks: &[u8],
     second_counts: &[u16; 64],
-) -> Weights
+) -> Result<Option<Ordering>, Refusal>
     ensures { said_weights result
         ≡ weights_tableaux_says
         first_rank
@@ -96,7 +95,7 @@ pub fn compare_weights_of_tableaux(
         second_marks.now
         second_counts.now }
 {
-    if let Verdict::Refused(refusal) = check_tableaux(
+    check_tableaux(
         first_rank,
         first_letters,
         first_marks,
@@ -105,8 +104,6 @@ pub fn compare_weights_of_tableaux(
         second_letters,
         second_marks,
         second_counts,
-    ) {
-        return Weights::Refused(refusal);
-    }
+    )?;
     compare_counts(first_counts, second_counts)
 }

@@ -6,6 +6,7 @@
 --     never            for the first bytes of a buffer an answer is written,
 --     streamed         which is the output for all that was left
 -- Assumes nothing.
+use Rattle.std.specs.Prelude.{Option, Some, None, Result, Ok, Err}
 use Rattle.std.specs.Prelude.{ℕ, ◌+◌, ◌-◌, ◌≤◌, ◌<◌, ◌≡◌, refl, List, [], ◌∷◌, ◌++◌, Some, None, Ok, Err, Result, IfSome, OnOk, length, take}
 use Rattle.std.proofs.Common.{sym, ap, ◌∙◌, arith, append-nil, length-append, length-take-le, subst, ⊎_elim, eq-or-lt_of_le}
 use Rattle.std.specs.Io.KnownBytes.{Appends, Consumes, IsAtEnd}
@@ -16,29 +17,27 @@ use Rattle.outcomes.specs.LineReadings.{answer_run, output}
 use Rattle.outcomes.proofs.Theory.Judgements.{room_judged_lem}
 use Rattle.outcomes.proofs.Theory.Memory.{written_needed}
 use Rattle.refusals.specs.Outcomes.{wrote_elements, wrote_memory, wrote_refused}
-use Rattle.refusals.specs.Said.{said_written}
+use Rattle.refusals.specs.Said.{said_value}
 use Rattle.refusals.specs.declared.refusal.Refusal.{Refusal}
-use Rattle.refusals.specs.declared.answers.Written.{Written}
-use Rattle.refusals.specs.declared.answers.Written.TheVariants.{Elements, Refused}
 use Rattle.outputs.specs.Longest.{output-short}
 use Rattle.outputs.specs.Output.{long_output}
 
-module _ (text out now : List ℕ) (a : Written) (e : (said_written a, now) ≡ answer_run text out) (room : 16384 ≤ length out) where
+module _ (text out now : List ℕ) (a : Result ℕ Refusal) (e : (said_value a, now) ≡ answer_run text out) (room : 16384 ≤ length out) where
   -- There is room for every output.
-  all : ◌≡◌ {A = Said × List ℕ} (said_written a, now) (gives (length (output text) ∷ []), written (output text) out)
+  all : ◌≡◌ {A = Said × List ℕ} (said_value a, now) (gives (length (output text) ∷ []), written (output text) out)
   unfolding answer_run
   all = go (room_judged (length (output text)) (length out)) refl
     where
-      go : (s : Said) → room_judged (length (output text)) (length out) ≡ s → ◌≡◌ {A = Said × List ℕ} (said_written a, now) (gives (length (output text) ∷ []), written (output text) out)
+      go : (s : Said) → room_judged (length (output text)) (length out) ≡ s → ◌≡◌ {A = Said × List ℕ} (said_value a, now) (gives (length (output text) ∷ []), written (output text) out)
       go (gives vs) f = e ∙ rw f refl
       go (refused k p) f =
           let fits : length (output text) ≤ length out = omega (arith, room, output-short text) in
           absurd (rw f at ((room_judged_lem _ _).1 fits))
 
-  pub answer_held : (m : ℕ) → a ≡ Elements m → take m now ≡ output text
+  pub answer_held : (m : ℕ) → a ≡ Ok m → take m now ≡ output text
   answer_held m q = rw (wrote_elements a all m q, wrote_memory a all) (written_needed (output text) out)
 
-  pub answer_never : (q : Refusal) → a ≡ Refused q → ⊥
+  pub answer_never : (q : Refusal) → a ≡ Err q → ⊥
   answer_never q h = wrote_refused a all q h
 
 -- At most 4,097 bytes have come, and fewer only where no more was left.
@@ -75,17 +74,17 @@ answered None before after bytes line h e a = tt
 answered (Some text) before after bytes line h e a = subst (Appends before after) (e ∙ h) a
 
 -- Where the bytes that have come are the first of a buffer,
-module _ (buffer out now : List ℕ) (got : ℕ) (a : Written) (e : (said_written a, now) ≡ answer_run (take (got - 0) buffer) out) (room : 16384 ≤ length out) where
-  said : (said_written a, now) ≡ answer_run (take got buffer) out
+module _ (buffer out now : List ℕ) (got : ℕ) (a : Result ℕ Refusal) (e : (said_value a, now) ≡ answer_run (take (got - 0) buffer) out) (room : 16384 ≤ length out) where
+  said : (said_value a, now) ≡ answer_run (take got buffer) out
   said = let z : got - 0 ≡ got = omega arith in rw z at e
 
   -- an answer is written,
-  pub never : (q : Refusal) → a ≡ Refused q → ⊥
+  pub never : (q : Refusal) → a ≡ Err q → ⊥
   never q h = answer_never (take got buffer) out now a said room q h
 
   -- and if it was read to the end and written whole, it is the output for all that was left.
   pub streamed : {A E : Type 0} (was left before after : Option (List ℕ)) (m : ℕ) (ended : Result A E) → length buffer ≡ 4097 → got ≤ length buffer
-      → Consumes was left (take got buffer) → OnOk ended (got < length buffer → IsAtEnd left) → a ≡ Elements m → Appends before after (take (m - 0) now)
+      → Consumes was left (take got buffer) → OnOk ended (got < length buffer → IsAtEnd left) → a ≡ Ok m → Appends before after (take (m - 0) now)
       → OnOk ended (IfSome was (λ text. Appends before after (output text)))
   streamed was left before after m (Ok u) size within came end q w =
       let z : m - 0 ≡ m = omega arith in

@@ -8,7 +8,6 @@ ghost use Rattle.outcomes.specs.LineReadings.{output};
 
 use inputs::read_full;
 use outputs::answer::answer;
-use refusals::answers::Written;
 use std::io;
 use std::io::{Read, Write};
 
@@ -21,7 +20,7 @@ pub fn answer_stream<R: Read, W: Write>(from: &mut R, to: &mut W) -> io::Result<
     let mut text = [0u8; 4097];
     let (got, ended) = read_full(from, &mut text);
     let mut out = [0u8; 16384];
-    let Written::Elements(bytes) = answer(&text[0..got], &mut out) else {
+    let Ok(bytes) = answer(&text[0..got], &mut out) else {
         return ended;
     };
     to.write_all(&out[0..bytes])?;

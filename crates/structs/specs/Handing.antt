@@ -7,24 +7,18 @@
 --                         is what the answer says
 --     replying            the ruleset of all of them
 -- Assumes nothing.
+use Rattle.std.specs.Prelude.{Option, Some, None, Result, Ok, Err}
+use Rattle.std.specs.declared.cmp.Ordering.{Ordering}
+use Rattle.std.specs.declared.cmp.Ordering.TheVariants.{Less, Equal, Greater}
+use Rattle.refusals.specs.declared.answers.Junctions.{Junctions}
+use Rattle.refusals.specs.declared.answers.Cell.{Cell}
+use Rattle.refusals.specs.declared.answers.Sizes.{Sizes}
 use Rattle.std.specs.Prelude.{ℕ, ◌≡◌}
 use Rattle.std.proofs.Common.{◌∙◌, rules}
 use Rattle.outcomes.specs.Replies.{Said, refused}
-use Rattle.refusals.specs.Said.{number, place, said_refusal, said_verdict, said_move, said_written, said_used, said_repeat, said_class, said_weights, said_junctions, said_numbered, said_read_line, said_cell}
+use Rattle.refusals.specs.Said.{number, place, said_refusal, said_verdict, said_value, said_class, said_weights, said_junctions, said_sizes, said_cell}
 use Rattle.refusals.specs.declared.refusal.Refusal.{Refusal}
 use Rattle.refusals.specs.declared.refusal.Refusal.TheVariants.{Line}
-use Rattle.refusals.specs.declared.answers.Verdict.{Verdict}
-use Rattle.refusals.specs.declared.answers.Move.{Move}
-use Rattle.refusals.specs.declared.answers.Written.{Written}
-use Rattle.refusals.specs.declared.answers.Used.{Used}
-use Rattle.refusals.specs.declared.answers.Repeat.{Repeat}
-use Rattle.refusals.specs.declared.answers.Class.{Class}
-use Rattle.refusals.specs.declared.answers.Weights.{Weights}
-use Rattle.refusals.specs.declared.answers.Junctions.{Junctions}
-use Rattle.refusals.specs.declared.answers.Numbered.{Numbered}
-use Rattle.refusals.specs.declared.answers.ReadLine.{ReadLine}
-use Rattle.refusals.specs.declared.answers.ReadLine.TheVariants as read_line
-use Rattle.refusals.specs.declared.answers.Cell.{Cell}
 use Rattle.structs.specs.declared.replies.DoneReply.{DoneReply}
 use Rattle.structs.specs.declared.replies.MoveReply.{MoveReply}
 use Rattle.structs.specs.declared.replies.CountReply.{CountReply}
@@ -93,51 +87,51 @@ module _ {k p : ℕ} (r : Refusal) (e : k ≡ number r) (h : p ≡ place r) wher
   cell_refused = rw (e, h)
 
 -- An answer by its case.
-pub verdict_case : {a b : Verdict} {r : DoneReply} → a ≡ b → r ≡ done_of (said_verdict b) → r ≡ done_of (said_verdict a)
+pub verdict_case : {a b : Result (Unit {0}) Refusal} {r : DoneReply} → a ≡ b → r ≡ done_of (said_verdict b) → r ≡ done_of (said_verdict a)
 verdict_case e h = rw e h
 
-pub move_case : {a b : Move} {r : MoveReply} → a ≡ b → r ≡ move_of (said_move b) → r ≡ move_of (said_move a)
+pub move_case : {a b : Result ℕ Refusal} {r : MoveReply} → a ≡ b → r ≡ move_of (said_value b) → r ≡ move_of (said_value a)
 move_case e h = rw e h
 
-pub written-case : {a b : Written} {r : CountReply} → a ≡ b → r ≡ count_of (said_written b) → r ≡ count_of (said_written a)
+pub written-case : {a b : Result ℕ Refusal} {r : CountReply} → a ≡ b → r ≡ count_of (said_value b) → r ≡ count_of (said_value a)
 written-case e h = rw e h
 
-pub used_case : {a b : Used} {r : CountReply} → a ≡ b → r ≡ count_of (said_used b) → r ≡ count_of (said_used a)
+pub used_case : {a b : Result ℕ Refusal} {r : CountReply} → a ≡ b → r ≡ count_of (said_value b) → r ≡ count_of (said_value a)
 used_case e h = rw e h
 
-pub repeat_case : {a b : Repeat} {r : CountReply} → a ≡ b → r ≡ count_of (said_repeat b) → r ≡ count_of (said_repeat a)
+pub repeat_case : {a b : Result ℕ Refusal} {r : CountReply} → a ≡ b → r ≡ count_of (said_value b) → r ≡ count_of (said_value a)
 repeat_case e h = rw e h
 
-pub class_case : {a b : Class} {r : ClassReply} → a ≡ b → r ≡ class_of (said_class b) → r ≡ class_of (said_class a)
+pub class_case : {a b : Result Bool Refusal} {r : ClassReply} → a ≡ b → r ≡ class_of (said_class b) → r ≡ class_of (said_class a)
 class_case e h = rw e h
 
-pub weights_case : {a b : Weights} {r : OrderReply} → a ≡ b → r ≡ order_of (said_weights b) → r ≡ order_of (said_weights a)
+pub weights_case : {a b : Result (Option Ordering) Refusal} {r : OrderReply} → a ≡ b → r ≡ order_of (said_weights b) → r ≡ order_of (said_weights a)
 weights_case e h = rw e h
 
-pub junctions_case : {a b : Junctions} {r : JunctionReply} → a ≡ b → r ≡ junction_of (said_junctions b) → r ≡ junction_of (said_junctions a)
+pub junctions_case : {a b : Result Junctions Refusal} {r : JunctionReply} → a ≡ b → r ≡ junction_of (said_junctions b) → r ≡ junction_of (said_junctions a)
 junctions_case e h = rw e h
 
-pub numbered-case : {a b : Numbered} {r : ValueReply} → a ≡ b → r ≡ value_of (said_numbered b) → r ≡ value_of (said_numbered a)
+pub numbered-case : {a b : Result ℕ Refusal} {r : ValueReply} → a ≡ b → r ≡ value_of (said_value b) → r ≡ value_of (said_value a)
 numbered-case e h = rw e h
 
-pub read_line-case : {a b : ReadLine} {r : LineReply} → a ≡ b → r ≡ line_of (said_read_line b) → r ≡ line_of (said_read_line a)
+pub read_line-case : {a b : Result Sizes Refusal} {r : LineReply} → a ≡ b → r ≡ line_of (said_sizes b) → r ≡ line_of (said_sizes a)
 read_line-case e h = rw e h
 
-pub cell-case : {a b : Cell} {r : CellReply} → a ≡ b → r ≡ cell_of (said_cell b) → r ≡ cell_of (said_cell a)
+pub cell-case : {a b : Result (Option Cell) Refusal} {r : CellReply} → a ≡ b → r ≡ cell_of (said_cell b) → r ≡ cell_of (said_cell a)
 cell-case e h = rw e h
 
 -- ---- a reader's answer
 
 -- The refusal that it passes on. Where it passes none on, the code that asks is never reached, and any would do.
-abbrev pub refused_reading : ReadLine → Refusal
+abbrev pub refused_reading : Result Sizes Refusal → Refusal
 refused_reading (read_line.Values n l) = Line 0
-refused_reading (read_line.Refused q) = q
+refused_reading (Err q) = q
 
-pub reading_passes : {a : ReadLine} {q : Refusal} → a ≡ read_line.Refused q → q ≡ refused_reading a
+pub reading_passes : {a : Result Sizes Refusal} {q : Refusal} → a ≡ Err q → q ≡ refused_reading a
 reading_passes e = rw e
 
-pub reading_refused_told : {a : ReadLine} {q p : Refusal} {r : LineReply} → a ≡ read_line.Refused q → p ≡ refused_reading a
-    → r ≡ line_of (said_refusal p) → r ≡ line_of (said_read_line a)
+pub reading_refused_told : {a : Result Sizes Refusal} {q p : Refusal} {r : LineReply} → a ≡ Err q → p ≡ refused_reading a
+    → r ≡ line_of (said_refusal p) → r ≡ line_of (said_sizes a)
 reading_refused_told e f h = rw e (h ∙ rw (f, e))
 
 pub ruleset replying = (

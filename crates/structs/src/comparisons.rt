@@ -4,8 +4,8 @@ ghost use Rattle.refusals.specs.Said.{said_class, said_refusal, said_weights};
 ghost use Rattle.structs.specs.Replies.{class_of, order_of};
 
 use crate::replies::{ClassReply, OrderReply};
-use refusals::answers::{Class, Weights};
 use refusals::refusal::{Refusal, number_and_place};
+use std::cmp::Ordering;
 
 // 1 or 0.
 fn classed(same: usize) -> ClassReply
@@ -31,13 +31,13 @@ fn class_refused(refusal: Refusal) -> ClassReply
 }
 
 // Whether they are in one class.
-pub fn class_reply(answer: Class) -> ClassReply
+pub fn class_reply(answer: Result<bool, Refusal>) -> ClassReply
     ensures { result ≡ class_of (said_class answer) }
 {
     match answer {
-        Class::Same => classed(1),
-        Class::Different => classed(0),
-        Class::Refused(refusal) => class_refused(refusal),
+        Ok(true) => classed(1),
+        Ok(false) => classed(0),
+        Err(refusal) => class_refused(refusal),
     }
 }
 
@@ -65,14 +65,14 @@ fn order_refused(refusal: Refusal) -> OrderReply
 }
 
 // The comparison of weights.
-pub fn order_reply(answer: Weights) -> OrderReply
+pub fn order_reply(answer: Result<Option<Ordering>, Refusal>) -> OrderReply
     ensures { result ≡ order_of (said_weights answer) }
 {
     match answer {
-        Weights::Equal => ordered(0),
-        Weights::Lower => ordered(1),
-        Weights::Higher => ordered(2),
-        Weights::Neither => ordered(3),
-        Weights::Refused(refusal) => order_refused(refusal),
+        Ok(Some(Ordering::Equal)) => ordered(0),
+        Ok(Some(Ordering::Less)) => ordered(1),
+        Ok(Some(Ordering::Greater)) => ordered(2),
+        Ok(None) => ordered(3),
+        Err(refusal) => order_refused(refusal),
     }
 }

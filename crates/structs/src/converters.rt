@@ -1,10 +1,10 @@
 // Answers of a move, of the junction question, of the numbers of a class and of a look, as structs of the C interface.
 ghost use Rattle.std.specs.Prelude.{◌≡◌};
-ghost use Rattle.refusals.specs.Said.{said_cell, said_junctions, said_move, said_numbered, said_refusal};
+ghost use Rattle.refusals.specs.Said.{said_cell, said_junctions, said_value, said_refusal};
 ghost use Rattle.structs.specs.Replies.{cell_of, junction_of, move_of, value_of};
 
 use crate::replies::{CellReply, JunctionReply, MoveReply, ValueReply};
-use refusals::answers::{Cell, Junctions, Move, Numbered};
+use refusals::answers::{Junctions, Cell};
 use refusals::refusal::{Refusal, number_and_place};
 
 // A refusal of a move: no place was changed, and that field is 0.
@@ -20,16 +20,16 @@ fn move_refused(refusal: Refusal) -> MoveReply
 }
 
 // A move: the changed place.
-pub fn move_reply(answer: Move) -> MoveReply
-    ensures { result ≡ move_of (said_move answer) }
+pub fn move_reply(answer: Result<usize, Refusal>) -> MoveReply
+    ensures { result ≡ move_of (said_value answer) }
 {
     match answer {
-        Move::Made(changed) => MoveReply {
+        Ok(changed) => MoveReply {
             number: 0,
             place: 0,
             changed,
         },
-        Move::Refused(refusal) => move_refused(refusal),
+        Err(refusal) => move_refused(refusal),
     }
 }
 
@@ -47,17 +47,17 @@ fn junction_refused(refusal: Refusal) -> JunctionReply
 }
 
 // Junction set and rows.
-pub fn junction_reply(answer: Junctions) -> JunctionReply
+pub fn junction_reply(answer: Result<Junctions, Refusal>) -> JunctionReply
     ensures { result ≡ junction_of (said_junctions answer) }
 {
     match answer {
-        Junctions::Found(set, rows) => JunctionReply {
+        Ok(Junctions { set, rows }) => JunctionReply {
             number: 0,
             place: 0,
             set,
             rows,
         },
-        Junctions::Refused(refusal) => junction_refused(refusal),
+        Err(refusal) => junction_refused(refusal),
     }
 }
 
@@ -74,16 +74,16 @@ fn value_refused(refusal: Refusal) -> ValueReply
 }
 
 // The size of a class, or the number of a word in it.
-pub fn value_reply(answer: Numbered) -> ValueReply
-    ensures { result ≡ value_of (said_numbered answer) }
+pub fn value_reply(answer: Result<u64, Refusal>) -> ValueReply
+    ensures { result ≡ value_of (said_value answer) }
 {
     match answer {
-        Numbered::Number(value) => ValueReply {
+        Ok(value) => ValueReply {
             number: 0,
             place: 0,
             value,
         },
-        Numbered::Refused(refusal) => value_refused(refusal),
+        Err(refusal) => value_refused(refusal),
     }
 }
 
@@ -103,11 +103,11 @@ fn cell_refused(refusal: Refusal) -> CellReply
 }
 
 // A cell, or none.
-pub fn cell_reply(answer: Cell) -> CellReply
+pub fn cell_reply(answer: Result<Option<Cell>, Refusal>) -> CellReply
     ensures { result ≡ cell_of (said_cell answer) }
 {
     match answer {
-        Cell::Found(letter, row, column) => CellReply {
+        Ok(Some(Cell { letter: letter, row, column })) => CellReply {
             number: 0,
             place: 0,
             found: 1,
@@ -115,7 +115,7 @@ pub fn cell_reply(answer: Cell) -> CellReply
             row,
             column,
         },
-        Cell::NoSuchCell => CellReply {
+        Ok(None) => CellReply {
             number: 0,
             place: 0,
             found: 0,
@@ -123,6 +123,6 @@ pub fn cell_reply(answer: Cell) -> CellReply
             row: 0,
             column: 0,
         },
-        Cell::Refused(refusal) => cell_refused(refusal),
+        Err(refusal) => cell_refused(refusal),
     }
 }

@@ -1,10 +1,9 @@
 // Answers with no value, and with one count, as structs of the C interface: checks, elements written, used counts, repeat counts.
 ghost use Rattle.std.specs.Prelude.{◌≡◌};
-ghost use Rattle.refusals.specs.Said.{said_used, said_refusal, said_repeat, said_verdict, said_written};
+ghost use Rattle.refusals.specs.Said.{said_value, said_refusal, said_verdict};
 ghost use Rattle.structs.specs.Replies.{count_of, done_of};
 
 use crate::replies::{CountReply, DoneReply};
-use refusals::answers::{Repeat, Used, Verdict, Written};
 use refusals::refusal::{Refusal, number_and_place};
 
 // A refusal of a check.
@@ -19,15 +18,15 @@ fn done_refused(refusal: Refusal) -> DoneReply
 }
 
 // A check.
-pub fn done_verdict(answer: Verdict) -> DoneReply
+pub fn done_verdict(answer: Result<(), Refusal>) -> DoneReply
     ensures { result ≡ done_of (said_verdict answer) }
 {
     match answer {
-        Verdict::Passed => DoneReply {
+        Ok(()) => DoneReply {
             number: 0,
             place: 0,
         },
-        Verdict::Refused(refusal) => done_refused(refusal),
+        Err(refusal) => done_refused(refusal),
     }
 }
 
@@ -55,31 +54,31 @@ fn count_refused(refusal: Refusal) -> CountReply
 }
 
 // Elements written.
-pub fn count_written(answer: Written) -> CountReply
-    ensures { result ≡ count_of (said_written answer) }
+pub fn count_written(answer: Result<usize, Refusal>) -> CountReply
+    ensures { result ≡ count_of (said_value answer) }
 {
     match answer {
-        Written::Elements(count) => counted(count),
-        Written::Refused(refusal) => count_refused(refusal),
+        Ok(count) => counted(count),
+        Err(refusal) => count_refused(refusal),
     }
 }
 
 // The new used count.
-pub fn count_used(answer: Used) -> CountReply
-    ensures { result ≡ count_of (said_used answer) }
+pub fn count_used(answer: Result<usize, Refusal>) -> CountReply
+    ensures { result ≡ count_of (said_value answer) }
 {
     match answer {
-        Used::Cells(count) => counted(count),
-        Used::Refused(refusal) => count_refused(refusal),
+        Ok(count) => counted(count),
+        Err(refusal) => count_refused(refusal),
     }
 }
 
 // How often a move can be repeated.
-pub fn count_repeat(answer: Repeat) -> CountReply
-    ensures { result ≡ count_of (said_repeat answer) }
+pub fn count_repeat(answer: Result<usize, Refusal>) -> CountReply
+    ensures { result ≡ count_of (said_value answer) }
 {
     match answer {
-        Repeat::Times(count) => counted(count),
-        Repeat::Refused(refusal) => count_refused(refusal),
+        Ok(count) => counted(count),
+        Err(refusal) => count_refused(refusal),
     }
 }

@@ -1,11 +1,11 @@
 // What readers of lines answer, as structs of the C interface.
 ghost use Rattle.std.specs.Prelude.{◌≡◌};
-ghost use Rattle.refusals.specs.Said.{said_read_line, said_refusal};
+ghost use Rattle.refusals.specs.Said.{said_sizes, said_refusal};
 ghost use Rattle.structs.specs.Handing.{refused_reading};
 ghost use Rattle.structs.specs.Replies.{line_of};
 
 use crate::replies::LineReply;
-use refusals::answers::ReadLine;
+use refusals::answers::Sizes;
 use refusals::refusal::{Refusal, number_and_place};
 
 // Rank and number of letters or cells.
@@ -34,20 +34,20 @@ fn line_refused(refusal: Refusal) -> LineReply
 }
 
 // The refusal that a reader passes on. Its caller has seen that it passes one on; what is told otherwise is never used.
-fn refused_reading(answer: ReadLine) -> Refusal
+fn refused_reading(answer: Result<Sizes, Refusal>) -> Refusal
     ensures { result ≡ refused_reading answer }
 {
-    let ReadLine::Refused(refusal) = answer else {
+    let Err(refusal) = answer else {
         return Refusal::Line(0);
     };
     refusal
 }
 
 // A line that was read.
-pub fn line_reply(answer: ReadLine) -> LineReply
-    ensures { result ≡ line_of (said_read_line answer) }
+pub fn line_reply(answer: Result<Sizes, Refusal>) -> LineReply
+    ensures { result ≡ line_of (said_sizes answer) }
 {
-    let ReadLine::Values(rank, count) = answer else {
+    let Ok(Sizes { rank: rank, count: count }) = answer else {
         return line_refused(refused_reading(answer));
     };
     lined(rank, count)

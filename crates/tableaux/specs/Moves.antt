@@ -6,6 +6,7 @@
 --     repeat_refused, repeat_inverted, repeat_counted     a repeat count: refused; under an inversion; the stored count of the letter that the move takes
 --     shifting, moving, repeating     the rulesets of letters, of moves and of repeat counts
 -- What follows the checks and the inversion in letters is in Changes of operators. Assumes nothing.
+use Rattle.std.specs.Prelude.{Option, Some, None, Result, Ok, Err}
 use Rattle.std.specs.Prelude.{ℕ, suc, ◌-◌, ◌≤◌, ◌<◌, ◌≡◌, Bool, true, false, length, get_or}
 use Rattle.std.proofs.Math.Path.{sym, ap}
 use Rattle.std.proofs.Common.{subst, ◌∙◌, arith, rules}
@@ -23,12 +24,9 @@ use Rattle.outcomes.proofs.Theory.Judgements.{index_judged_lem, letter_judged_le
 use Rattle.hypoplactic.proofs.Theory.Occurrences.{count-length}
 use Rattle.outcomes.proofs.Theory.Passing.{Passing, first_else, passing_append, passing_first}
 use Rattle.refusals.specs.Running.{all_passing, checks_then, run-stopped, then_passing}
-use Rattle.refusals.specs.Said.{number, place, said_move, said_refusal, said_verdict}
+use Rattle.refusals.specs.Said.{number, place, said_value, said_refusal, said_verdict}
 use Rattle.refusals.specs.declared.refusal.Refusal.{Refusal}
 use Rattle.refusals.specs.declared.answers.Move.{Move as Answer}
-use Rattle.refusals.specs.declared.answers.Move.TheVariants as answer
-use Rattle.refusals.specs.declared.answers.Verdict.{Verdict}
-use Rattle.refusals.specs.declared.answers.Verdict.TheVariants.{Passed, Refused}
 use Rattle.operators.specs.Changes.{move_letters_run, move_on}
 use Rattle.operators.specs.Targets.{move_by, side_of}
 use Rattle.operators.specs.declared.changes.Side.{Side as Chosen}
@@ -79,15 +77,15 @@ later_judgements n xs ms cs =
     alike_judged (length xs) (length ms ∷ []) ∷ letters_judged n xs ∷ rising_judged xs ∷ marks_judged xs ms ∷ counts_judged cs xs ∷ []
 
 -- The verdict of 1 to 6 and 17,
-module _ {v : Verdict} (n i : ℕ) (xs ms cs : List ℕ) (e : said_verdict v ≡ first (counted_judgements n xs ms cs) passed) where
+module _ {v : Result (Unit {0}) Refusal} (n i : ℕ) (xs ms cs : List ℕ) (e : said_verdict v ≡ first (counted_judgements n xs ms cs) passed) where
   -- which refuses, and nothing changes,
-  pub cells_refused : (s : Chosen) (r : Refusal) → v ≡ Refused r → (said_refusal r, xs) ≡ move_cells_run n (move_by s i) xs ms cs
+  pub cells_refused : (s : Chosen) (r : Refusal) → v ≡ Err r → (said_refusal r, xs) ≡ move_cells_run n (move_by s i) xs ms cs
   unfolding move_cells_run move_tableau_says
   cells_refused s r q =
       run-stopped (counted_judgements n xs ms cs) (move_judgements n (move_by s i) (below i xs ms) xs) _ (or_same (moved_tableau (move_by s i) xs ms) xs) xs r e q
 
   -- or passes, and the letters are moved as the inversion tells.
-  pub cells-passed : {b : Bool} {r : Said × List ℕ} (s : Chosen) → v ≡ Passed → b ≡ below i xs ms → r ≡ move_letters_run n (move_by s i) b xs
+  pub cells-passed : {b : Bool} {r : Said × List ℕ} (s : Chosen) → v ≡ Ok tt → b ≡ below i xs ms → r ≡ move_letters_run n (move_by s i) b xs
       → r ≡ move_cells_run n (move_by s i) xs ms cs
   unfolding move_cells_run move_tableau_says
   cells-passed s q f h =
@@ -96,23 +94,23 @@ module _ {v : Verdict} (n i : ℕ) (xs ms cs : List ℕ) (e : said_verdict v ≡
 pub ruleset shifting = (cells_refused, cells-passed, rules)
 
 -- The answer, and the letters then.
-module _ {a : Answer} {ys : List ℕ} (n i : ℕ) (xs ms cs : List ℕ) (s : Chosen) (h : (said_move a, ys) ≡ move_cells_run n (move_by s i) xs ms cs) where
+module _ {a : Answer} {ys : List ℕ} (n i : ℕ) (xs ms cs : List ℕ) (s : Chosen) (h : (said_value a, ys) ≡ move_cells_run n (move_by s i) xs ms cs) where
   -- A refusal leaves the counts,
-  pub move_stopped : (r : Refusal) → a ≡ answer.Refused r → (said_refusal r, (ys, cs)) ≡ move_tableau_run n (move_by s i) xs ms cs
+  pub move_stopped : (r : Refusal) → a ≡ Err r → (said_refusal r, (ys, cs)) ≡ move_tableau_run n (move_by s i) xs ms cs
   unfolding move_tableau_run move_cells_run
   move_stopped r p =
-      let d : said_move a ≡ said_refusal r = ap said_move p in
+      let d : said_value a ≡ said_refusal r = ap said_value p in
       ap (λ (t : Said). (t, (ys, cs))) (sym d)
       ∙ beside_kept (move_tableau_says n (move_by s i) xs ms cs) _ xs (one_over cs (taken (side_of s) i) (given (side_of s) i)) cs (number r) (place r) h d
 
-  module _ (p : ℕ) (g : a ≡ answer.Made p) where
+  module _ (p : ℕ) (g : a ≡ Ok p) where
     -- a move that is made has changed them,
     pub move_made : {ds : List ℕ} → ds ≡ one_over cs (taken (side_of s) i) (given (side_of s) i)
-        → (said_move a, (ys, ds)) ≡ move_tableau_run n (move_by s i) xs ms cs
+        → (said_value a, (ys, ds)) ≡ move_tableau_run n (move_by s i) xs ms cs
     unfolding move_tableau_run move_cells_run
     move_made k =
         rw k
-        (beside_new (move_tableau_says n (move_by s i) xs ms cs) _ xs (one_over cs (taken (side_of s) i) (given (side_of s) i)) cs (p ∷ []) h (ap said_move g))
+        (beside_new (move_tableau_says n (move_by s i) xs ms cs) _ xs (one_over cs (taken (side_of s) i) (given (side_of s) i)) cs (p ∷ []) h (ap said_value g))
 
     -- as it can, for all checks have passed.
     pub move_movable : Movable (side_of s) i cs
@@ -123,7 +121,7 @@ module _ {a : Answer} {ys : List ℕ} (n i : ℕ) (xs ms cs : List ℕ) (s : Cho
         go
         ((passing_append js ks).0
         (passing_first (js ++ ks) (place_told (changed_place (below i xs ms) (move_by s i) xs))
-        (subst Passes (sym (ap said_move g) ∙ ap (λ (z : Said × List ℕ). z.0) h) tt)))
+        (subst Passes (sym (ap said_value g) ∙ ap (λ (z : Said × List ℕ). z.0) h) tt)))
       where
         go : Passing (counted_judgements n xs ms cs) × Passing (move_judgements n (move_by s i) (below i xs ms) xs) → Movable (side_of s) i cs
         go (checks, (index, (inversion, (letter, t)))) =
@@ -144,27 +142,27 @@ says_count n i xs ms cs u s e =
     sym (first_else (counted_judgements n xs ms cs ++ (index_judged n i ∷ [])) a) ∙ ap (λ (t : Said). or_else t a) (sym e)
 
 -- The verdict of 1 to 6, 17 and 9,
-module _ {v : Verdict} (n i : ℕ) (xs ms cs : List ℕ) (e : said_verdict v ≡ checks_then (counted_judgements n xs ms cs) (index_judged n i ∷ [])) where
+module _ {v : Result (Unit {0}) Refusal} (n i : ℕ) (xs ms cs : List ℕ) (e : said_verdict v ≡ checks_then (counted_judgements n xs ms cs) (index_judged n i ∷ [])) where
   -- which refuses,
-  pub repeat_refused : (s : Chosen) (r : Refusal) → v ≡ Refused r → said_refusal r ≡ repeat_tableau_says n (move_by s i) xs ms cs
+  pub repeat_refused : (s : Chosen) (r : Refusal) → v ≡ Err r → said_refusal r ≡ repeat_tableau_says n (move_by s i) xs ms cs
   repeat_refused s r q = sym (says_count n i xs ms cs (said_verdict v) s e ∙ rw q)
 
   -- or passes, and the index is that of a letter,
-  repeat_index : v ≡ Passed → (0 < i) × (i < 64)
+  repeat_index : v ≡ Ok tt → (0 < i) × (i < 64)
   repeat_index q =
       let (checks, index) = then_passing (counted_judgements n xs ms cs) (index_judged n i ∷ []) e q in
       let (low, high) = (index_judged_lem n i).0 index.0 in
       let (tableau, counted) = (counted_passing n xs ms cs).0 checks in
       (low, omega (arith, tableau.word.rank_high))
 
-  pub repeat_low : v ≡ Passed → 0 < i
+  pub repeat_low : v ≡ Ok tt → 0 < i
   repeat_low q = (repeat_index q).0
 
-  pub repeat_high : v ≡ Passed → i < 64
+  pub repeat_high : v ≡ Ok tt → i < 64
   repeat_high q = (repeat_index q).1
 
   -- whose stored count is the answer, unless there is an inversion.
-  module _ {b : Bool} (s : Chosen) (q : v ≡ Passed) (f : b ≡ below i xs ms) where
+  module _ {b : Bool} (s : Chosen) (q : v ≡ Ok tt) (f : b ≡ below i xs ms) where
     pub repeat_inverted : b ≡ true → gives (0 ∷ []) ≡ repeat_tableau_says n (move_by s i) xs ms cs
     unfolding repeat_tableau
     repeat_inverted t = sym (says_count n i xs ms cs (said_verdict v) s e ∙ rw (q, ← f, t))

@@ -6,17 +6,16 @@ ghost use Rattle.outcomes.specs.Judgements.{counted_judgements, index_judged};
 ghost use Rattle.quasi_crystal.specs.Moves.{lowering, raising};
 ghost use Rattle.outcomes.specs.TableauOperations.{move_tableau_run, repeat_tableau_says};
 ghost use Rattle.refusals.specs.Running.{checks_then};
-ghost use Rattle.refusals.specs.Said.{said_move, said_repeat, said_verdict};
+ghost use Rattle.refusals.specs.Said.{said_value, said_verdict};
 ghost use Rattle.operators.specs.Targets.{move_by};
 ghost use Rattle.tableaux.specs.Moves.{move_cells_run};
 
 use crate::changed_counts::{change_counts, count_taken};
 use inversions::scan::has_below;
 use operators::changes::{Side, move_letters};
-use refusals::answers::{Move, Repeat, Verdict};
-use refusals::chains::or_else;
 use refusals::numbers::check_index;
 use validity::counted::check_counted_tableau;
+use refusals::refusal::Refusal;
 
 // The move of either side in the lent letters, the counts being lent for reading: all of the move but the change of counts.
 fn move_cells(
@@ -26,13 +25,11 @@ fn move_cells(
     letters: &mut [u8],
     marks: &[u8],
     counts: &[u16; 64],
-) -> Move
-    ensures { (said_move result, letters.new) ≡ move_cells_run rank (move_by side index) letters.old marks.now counts.now }
+) -> Result<usize, Refusal>
+    ensures { (said_value result, letters.new) ≡ move_cells_run rank (move_by side index) letters.old marks.now counts.now }
 {
     let verdict = check_counted_tableau(rank, letters, marks, counts);
-    if let Verdict::Refused(refusal) = verdict {
-        return Move::Refused(refusal);
-    }
+    verdict?;
     let inversion = has_below(index, letters, marks);
     move_letters(side, rank, index, inversion, letters)
 }
@@ -45,14 +42,12 @@ pub fn move_tableau(
     letters: &mut [u8],
     marks: &[u8],
     counts: &mut [u16; 64],
-) -> Move
-    ensures { (said_move result, (letters.new, counts.new))
+) -> Result<usize, Refusal>
+    ensures { (said_value result, (letters.new, counts.new))
         ≡ move_tableau_run rank (move_by side index) letters.old marks.now counts.old }
 {
     let answer = move_cells(side, rank, index, letters, marks, counts);
-    if let Move::Refused(refusal) = answer {
-        return Move::Refused(refusal);
-    }
+    answer?;
     change_counts(side, index, counts);
     answer
 }
@@ -64,8 +59,8 @@ pub fn raise_tableau(
     letters: &mut [u8],
     marks: &[u8],
     counts: &mut [u16; 64],
-) -> Move
-    ensures { (said_move result, (letters.new, counts.new))
+) -> Result<usize, Refusal>
+    ensures { (said_value result, (letters.new, counts.new))
         ≡ move_tableau_run rank (record { side = raising; index = index }) letters.old marks.now counts.old }
 {
     move_tableau(Side::Raising, rank, index, letters, marks, counts)
@@ -78,8 +73,8 @@ pub fn lower_tableau(
     letters: &mut [u8],
     marks: &[u8],
     counts: &mut [u16; 64],
-) -> Move
-    ensures { (said_move result, (letters.new, counts.new))
+) -> Result<usize, Refusal>
+    ensures { (said_value result, (letters.new, counts.new))
         ≡ move_tableau_run rank (record { side = lowering; index = index }) letters.old marks.now counts.old }
 {
     move_tableau(Side::Lowering, rank, index, letters, marks, counts)
@@ -92,14 +87,12 @@ fn check_repeat(
     letters: &[u8],
     marks: &[u8],
     counts: &[u16; 64],
-) -> Verdict
+) -> Result<(), Refusal>
     ensures { said_verdict result
         ≡ checks_then (counted_judgements rank letters.now marks.now counts.now) (index_judged rank index ∷ []) }
 {
-    or_else(
-        check_counted_tableau(rank, letters, marks, counts),
-        check_index(rank, index),
-    )
+    check_counted_tableau(rank, letters, marks, counts)?;
+    check_index(rank, index)
 }
 
 // How often the move of either side can be made, one after the other: never under an inversion, else once for each letter that it takes.
@@ -110,16 +103,14 @@ pub fn repeat_tableau(
     letters: &[u8],
     marks: &[u8],
     counts: &[u16; 64],
-) -> Repeat
-    ensures { said_repeat result ≡ repeat_tableau_says rank (move_by side index) letters.now marks.now counts.now }
+) -> Result<usize, Refusal>
+    ensures { said_value result ≡ repeat_tableau_says rank (move_by side index) letters.now marks.now counts.now }
 {
-    if let Verdict::Refused(refusal) = check_repeat(rank, index, letters, marks, counts) {
-        return Repeat::Refused(refusal);
-    }
+    check_repeat(rank, index, letters, marks, counts)?;
     if has_below(index, letters, marks) {
-        return Repeat::Times(0);
+        return Ok(0);
     }
-    Repeat::Times(count_taken(side, index, counts))
+    Ok(count_taken(side, index, counts))
 }
 
 // How often raising can be repeated.
@@ -129,8 +120,8 @@ pub fn raise_count_tableau(
     letters: &[u8],
     marks: &[u8],
     counts: &[u16; 64],
-) -> Repeat
-    ensures { said_repeat result
+) -> Result<usize, Refusal>
+    ensures { said_value result
         ≡ repeat_tableau_says rank (record { side = raising; index = index }) letters.now marks.now counts.now }
 {
     repeat_tableau(Side::Raising, rank, index, letters, marks, counts)
@@ -143,8 +134,8 @@ pub fn lower_count_tableau(
     letters: &[u8],
     marks: &[u8],
     counts: &[u16; 64],
-) -> Repeat
-    ensures { said_repeat result
+) -> Result<usize, Refusal>
+    ensures { said_value result
         ≡ repeat_tableau_says rank (record { side = lowering; index = index }) letters.now marks.now counts.now }
 {
     repeat_tableau(Side::Lowering, rank, index, letters, marks, counts)

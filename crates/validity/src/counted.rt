@@ -9,21 +9,18 @@ ghost use Rattle.refusals.specs.Said.{said_verdict};
 use crate::tableau::{check_pair_sizes, check_ribbon, check_tableau_sizes};
 use acceptance::letters::check_letters;
 use counts::shape::check_counted_shape;
-use refusals::answers::Verdict;
-use refusals::chains::or_else;
+use refusals::refusal::Refusal;
 
 // 4, 5, 6 and 17: the cells of a tableau or of a pair, and its letter counts.
-fn check_counted_cells(rank: usize, letters: &[u8], marks: &[u8], counts: &[u16; 64]) -> Verdict
+fn check_counted_cells(rank: usize, letters: &[u8], marks: &[u8], counts: &[u16; 64]) -> Result<(), Refusal>
     ensures { said_verdict result
         ≡ first
         (letters_judged rank letters.now ∷ rising_judged letters.now ∷ marks_judged letters.now marks.now
         ∷ counts_judged counts.now letters.now ∷ [])
         passed }
 {
-    or_else(
-        check_letters(rank, letters),
-        check_counted_shape(letters, marks, counts),
-    )
+    check_letters(rank, letters)?;
+    check_counted_shape(letters, marks, counts)
 }
 
 // 1 to 6 of a tableau, and 17.
@@ -32,12 +29,10 @@ pub fn check_counted_tableau(
     letters: &[u8],
     marks: &[u8],
     counts: &[u16; 64],
-) -> Verdict
+) -> Result<(), Refusal>
     ensures { said_verdict result ≡ first (counted_judgements rank letters.now marks.now counts.now) passed }
 {
-    if let Verdict::Refused(refusal) = check_tableau_sizes(rank, letters.len(), marks.len()) {
-        return Verdict::Refused(refusal);
-    }
+    check_tableau_sizes(rank, letters.len(), marks.len())?;
     check_counted_cells(rank, letters, marks, counts)
 }
 
@@ -48,20 +43,16 @@ pub fn check_counted_pair(
     marks: &[u8],
     entries: &[u16],
     counts: &[u16; 64],
-) -> Verdict
+) -> Result<(), Refusal>
     ensures { said_verdict result
         ≡ first (counted_pair_judgements rank letters.now marks.now entries.now counts.now) passed }
 {
-    if let Verdict::Refused(refusal) = check_pair_sizes(
+    check_pair_sizes(
         rank,
         letters.len(),
         marks.len(),
         entries.len(),
-    ) {
-        return Verdict::Refused(refusal);
-    }
-    or_else(
-        check_counted_cells(rank, letters, marks, counts),
-        check_ribbon(letters.len(), entries, marks),
-    )
+    )?;
+    check_counted_cells(rank, letters, marks, counts)?;
+    check_ribbon(letters.len(), entries, marks)
 }

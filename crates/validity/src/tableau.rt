@@ -7,79 +7,67 @@ ghost use Rattle.refusals.specs.Said.{said_verdict};
 
 use acceptance::letters::check_letters;
 use recordings::recording::{check_entries, check_recording};
-use refusals::answers::Verdict;
-use refusals::chains::{check_limits, or_else};
+use refusals::chains::check_limits;
 use refusals::numbers::{check_marks_alike, check_parts_alike};
 use shapes::marks::check_marks;
 use shapes::rising::check_rising;
+use refusals::refusal::Refusal;
 
 // 4, 5 and 6: the cells of a tableau or of a pair.
-fn check_cells(rank: usize, letters: &[u8], marks: &[u8]) -> Verdict
+fn check_cells(rank: usize, letters: &[u8], marks: &[u8]) -> Result<(), Refusal>
     ensures { said_verdict result
         ≡ first
         (letters_judged rank letters.now ∷ rising_judged letters.now ∷ marks_judged letters.now marks.now ∷ [])
         passed }
 {
-    let inside = check_letters(rank, letters);
-    let rising = check_rising(letters);
-    or_else(inside, or_else(rising, check_marks(letters, marks)))
+    check_letters(rank, letters)?;
+    check_rising(letters)?;
+    check_marks(letters, marks)
 }
 
 // 7 and 8: a recording ribbon beside marks.
-pub fn check_ribbon(limit: usize, entries: &[u16], marks: &[u8]) -> Verdict
+pub fn check_ribbon(limit: usize, entries: &[u16], marks: &[u8]) -> Result<(), Refusal>
     ensures { said_verdict result
         ≡ first (entries_judged limit entries.now ∷ recording_judged entries.now marks.now ∷ []) passed }
 {
-    or_else(
-        check_entries(limit, entries),
-        check_recording(entries, marks),
-    )
+    check_entries(limit, entries)?;
+    check_recording(entries, marks)
 }
 
 // 1, 2 and 3 of a tableau: what is judged before an element is read.
-pub(crate) fn check_tableau_sizes(rank: usize, letters: usize, marks: usize) -> Verdict
+pub(crate) fn check_tableau_sizes(rank: usize, letters: usize, marks: usize) -> Result<(), Refusal>
     ensures { said_verdict result ≡ first (rank_judged rank ∷ length_judged letters ∷ alike_judged letters (marks ∷ []) ∷ []) passed }
 {
-    or_else(
-        check_limits(rank, letters),
-        check_marks_alike(letters, marks),
-    )
+    check_limits(rank, letters)?;
+    check_marks_alike(letters, marks)
 }
 
 // 1 to 6 of a tableau.
-pub fn check_tableau(rank: usize, letters: &[u8], marks: &[u8]) -> Verdict
+pub fn check_tableau(rank: usize, letters: &[u8], marks: &[u8]) -> Result<(), Refusal>
     ensures { said_verdict result ≡ first (tableau_judgements rank letters.now marks.now) passed }
 {
-    if let Verdict::Refused(refusal) = check_tableau_sizes(rank, letters.len(), marks.len()) {
-        return Verdict::Refused(refusal);
-    }
+    check_tableau_sizes(rank, letters.len(), marks.len())?;
     check_cells(rank, letters, marks)
 }
 
 // 1, 2 and 3 of a pair.
-pub(crate) fn check_pair_sizes(rank: usize, letters: usize, marks: usize, entries: usize) -> Verdict
+pub(crate) fn check_pair_sizes(rank: usize, letters: usize, marks: usize, entries: usize) -> Result<(), Refusal>
     ensures { said_verdict result ≡ first (rank_judged rank ∷ length_judged letters ∷ alike_judged letters (marks ∷ entries ∷ []) ∷ []) passed }
 {
-    or_else(
-        check_limits(rank, letters),
-        check_parts_alike(letters, marks, entries),
-    )
+    check_limits(rank, letters)?;
+    check_parts_alike(letters, marks, entries)
 }
 
 // 1 to 8 of a pair.
-pub fn check_pair(rank: usize, letters: &[u8], marks: &[u8], entries: &[u16]) -> Verdict
+pub fn check_pair(rank: usize, letters: &[u8], marks: &[u8], entries: &[u16]) -> Result<(), Refusal>
     ensures { said_verdict result ≡ first (pair_judgements rank letters.now marks.now entries.now) passed }
 {
-    if let Verdict::Refused(refusal) = check_pair_sizes(
+    check_pair_sizes(
         rank,
         letters.len(),
         marks.len(),
         entries.len(),
-    ) {
-        return Verdict::Refused(refusal);
-    }
-    or_else(
-        check_cells(rank, letters, marks),
-        check_ribbon(letters.len(), entries, marks),
-    )
+    )?;
+    check_cells(rank, letters, marks)?;
+    check_ribbon(letters.len(), entries, marks)
 }

@@ -4,15 +4,16 @@ ghost use Rattle.outcomes.specs.TableauOperations.{look_says, through_says, view
 ghost use Rattle.refusals.specs.Said.{said_cell, said_verdict};
 
 use coordinates::cells::cell_through;
-use refusals::answers::{Cell, Verdict};
+use refusals::answers::Cell;
 use validity::tableau::check_tableau;
+use refusals::refusal::Refusal;
 
 // Letters and marks may be lent for different times.
 #[derive(Clone, Copy)]
 pub struct Viewer<'a, 'b> {
     pub letters: &'a [u8],
     pub marks: &'b [u8],
-    pub made: Verdict,
+    pub made: Result<(), Refusal>,
 }
 
 // A viewer of letters and marks at a rank. It is always made: whether they are a tableau of the rank, `made` says.
@@ -30,7 +31,7 @@ pub fn viewer_of<'a, 'b>(rank: usize, letters: &'a [u8], marks: &'b [u8]) -> Vie
 
 impl<'a, 'b> Viewer<'a, 'b> {
     // A look at the cell at a place.
-    pub fn look(self, place: usize) -> Cell
+    pub fn look(self, place: usize) -> Result<Option<Cell>, Refusal>
         ensures { said_cell result ≡ through_says (said_verdict self.entry.made) self.entry.letters.now self.entry.marks.now place }
     {
         cell_through(place, self.letters, self.marks, self.made)
@@ -38,7 +39,7 @@ impl<'a, 'b> Viewer<'a, 'b> {
 }
 
 // One look, through a viewer that is made for it.
-pub fn look_once(rank: usize, letters: &[u8], marks: &[u8], place: usize) -> Cell
+pub fn look_once(rank: usize, letters: &[u8], marks: &[u8], place: usize) -> Result<Option<Cell>, Refusal>
     ensures { said_cell result ≡ look_says rank letters.now marks.now place }
 {
     viewer_of(rank, letters, marks).look(place)

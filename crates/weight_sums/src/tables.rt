@@ -7,7 +7,8 @@ ghost use Rattle.refusals.specs.Said.{said_weights};
 ghost use Rattle.weight_sums.specs.Tables.{compare_tables};
 
 use crate::sums::{Sums, next_sums};
-use refusals::answers::Weights;
+use refusals::refusal::Refusal;
+use std::cmp::Ordering;
 
 // Whether every sum so far was at most the other word's, and this one is.
 fn still(before: bool, sum: usize, other: usize) -> bool
@@ -17,20 +18,20 @@ fn still(before: bool, sum: usize, other: usize) -> bool
 }
 
 // The answer from "at most" and "at least".
-fn answer(low: bool, high: bool) -> Weights
+fn answer(low: bool, high: bool) -> Result<Option<Ordering>, Refusal>
     ensures { said_weights result ≡ gives (comparison_number (comparison low high) ∷ []) }
 {
     if low {
-        if high { Weights::Equal } else { Weights::Lower }
+        if high { Ok(Some(Ordering::Equal)) } else { Ok(Some(Ordering::Less)) }
     } else if high {
-        Weights::Higher
+        Ok(Some(Ordering::Greater))
     } else {
-        Weights::Neither
+        Ok(None)
     }
 }
 
 // The comparison over all 64 letters.
-pub fn compare_counts(first: &[u16; 64], second: &[u16; 64]) -> Weights
+pub fn compare_counts(first: &[u16; 64], second: &[u16; 64]) -> Result<Option<Ordering>, Refusal>
     ensures { said_weights result ≡ gives (comparison_number (compare_tables first.now second.now) ∷ []) }
 {
     let mut sums = Sums {

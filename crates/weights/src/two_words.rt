@@ -6,13 +6,14 @@ ghost use Rattle.hypoplactic.specs.Weights.{compare_weights};
 ghost use Rattle.outcomes.specs.WordOperations.{comparison_number, weights_says};
 ghost use Rattle.refusals.specs.Said.{said_weights};
 
-use refusals::answers::{Verdict, Weights};
 use second_inputs::two_words::check_words;
 use weight_sums::tables::compare_counts;
 use words::tables::letter_counts;
+use refusals::refusal::Refusal;
+use std::cmp::Ordering;
 
 // The comparison of two accepted words.
-fn weigh(first_rank: usize, first: &[u8], second_rank: usize, second: &[u8]) -> Weights
+fn weigh(first_rank: usize, first: &[u8], second_rank: usize, second: &[u8]) -> Result<Option<Ordering>, Refusal>
     requires { Accepted first_rank first.now × Accepted second_rank second.now }
     ensures { said_weights result ≡ gives (comparison_number (compare_weights first.now second.now) ∷ []) }
 {
@@ -27,11 +28,9 @@ pub fn compare_weights(
     first: &[u8],
     second_rank: usize,
     second: &[u8],
-) -> Weights
+) -> Result<Option<Ordering>, Refusal>
     ensures { said_weights result ≡ weights_says first_rank first.now second_rank second.now }
 {
-    if let Verdict::Refused(refusal) = check_words(first_rank, first, second_rank, second) {
-        return Weights::Refused(refusal);
-    }
+    check_words(first_rank, first, second_rank, second)?;
     weigh(first_rank, first, second_rank, second)
 }

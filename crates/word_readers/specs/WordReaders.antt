@@ -5,6 +5,7 @@
 --                                   the line breaks the grammar; its limits are refused; what is said of its values is said of the line
 --     reading_words                 the ruleset of the reader
 -- What memory holds of a line that was scanned is said in line_items. Assumes nothing.
+use Rattle.std.specs.Prelude.{Option, Some, None, Result, Ok, Err}
 use Rattle.std.specs.Prelude.{ℕ, ◌-◌, ◌≡◌, true, false, List, [], ◌∷◌, map, length, take}
 use Rattle.std.proofs.Common.{sym, ap, ◌∙◌, rules}
 use Rattle.std.proofs.lemmas.List.{length-map}
@@ -17,8 +18,6 @@ use Rattle.buffers.specs.Copies.{copied, copied_all}
 use Rattle.refusals.specs.Running.{checks_then, run_passed, run_refused, run-stopped, then_passing}
 use Rattle.refusals.specs.Said.{said_refusal, said_verdict}
 use Rattle.refusals.specs.declared.refusal.Refusal.{Refusal}
-use Rattle.refusals.specs.declared.answers.Verdict.{Verdict}
-use Rattle.refusals.specs.declared.answers.Verdict.TheVariants.{Passed, Refused}
 use Rattle.scans.specs.Kept.{kept}
 use Rattle.scans.specs.Kinds.{word_whole}
 use Rattle.scans.specs.Scans.{Scanned, read_whole}
@@ -33,11 +32,11 @@ use Rattle.line_items.specs.Narrowed.{narrowed_run}
 -- ---- the values
 
 -- The verdict of 1, 2, 4 and 13.
-module _ {v : Verdict} (n : ℕ) (ws old : List ℕ) (e : said_verdict v ≡ checks_then (word_judgements n ws) (room_judged (length ws) (length old) ∷ [])) where
-  pub word_refused : (r : Refusal) → v ≡ Refused r → (said_refusal r, old) ≡ word_read old n ws
+module _ {v : Result (Unit {0}) Refusal} (n : ℕ) (ws old : List ℕ) (e : said_verdict v ≡ checks_then (word_judgements n ws) (room_judged (length ws) (length old) ∷ [])) where
+  pub word_refused : (r : Refusal) → v ≡ Err r → (said_refusal r, old) ≡ word_read old n ws
   word_refused r q = run_refused _ _ e _ _ old r q
 
-  pub word_passed : (now : List ℕ) → v ≡ Passed → now ≡ copied ws old → (gives (n ∷ length ws ∷ []), now) ≡ word_read old n ws
+  pub word_passed : (now : List ℕ) → v ≡ Ok tt → now ≡ copied ws old → (gives (n ∷ length ws ∷ []), now) ≡ word_read old n ws
   word_passed now q h =
       let (checks, (room, t)) = then_passing _ _ e q in run_passed _ _ e _ _ old now q (copied_all ws old now h ((room_judged_lem _ _).0 room))
 
@@ -56,15 +55,15 @@ module _ {text old_letters old_marks xs ms : List ℕ} {cells : List (ℕ × ℕ
     unfolding read_w_run
     word_is = rw (word_whole text, line_read s e)
 
-    module _ {v : Verdict} (h : said_verdict v ≡ first (rank_judged n ∷ length_judged k ∷ []) passed) where
-      pub word_stopped : {f : Refusal} → v ≡ Refused f → (said_refusal f, out) ≡ read_w_run text out
+    module _ {v : Result (Unit {0}) Refusal} (h : said_verdict v ≡ first (rank_judged n ∷ length_judged k ∷ []) passed) where
+      pub word_stopped : {f : Refusal} → v ≡ Err f → (said_refusal f, out) ≡ read_w_run text out
       word_stopped {f} q =
           let ws = letters cells in
           run-stopped (rank_judged n ∷ length_judged (length ws) ∷ []) (letters_judged n ws ∷ room_judged (length ws) (length out) ∷ []) (n ∷ length ws ∷ [])
           (written ws out) out f (rw (letters_long s e) h) q
           ∙ sym word_is
 
-      pub word_stored : (bytes : List ℕ) {said : Said × List ℕ} → v ≡ Passed → old_letters ≡ blank 1024
+      pub word_stored : (bytes : List ℕ) {said : Said × List ℕ} → v ≡ Ok tt → old_letters ≡ blank 1024
           → bytes ≡ kept (map narrowed (take (k - 0) xs)) (blank 1024) → said ≡ word_read out n (take (k - 0) bytes) → said ≡ read_w_run text out
       word_stored bytes q l a w =
           let is : take (k - 0) bytes ≡ map narrowed (letters cells) =

@@ -7,6 +7,7 @@
 --     counts-given                      and no other 64 numbers are the counts
 --     giving                            the ruleset of both
 -- Assumes nothing.
+use Rattle.std.specs.Prelude.{Option, Some, None, Result, Ok, Err}
 use Rattle.std.specs.Prelude.{ℕ, ◌≤◌, ◌≡◌, refl, List, length, replicate}
 use Rattle.std.proofs.Common.{sym, ap, ◌∙◌, rules}
 use Rattle.std.proofs.Math.ListN.{get_or-replicate}
@@ -19,8 +20,6 @@ use Rattle.outcomes.proofs.Theory.Counts.{counts_whole}
 use Rattle.outcomes.proofs.Theory.Judged.{word_judged}
 use Rattle.hypoplactic.proofs.Theory.Limits.{accepted_within}
 use Rattle.refusals.specs.declared.refusal.Refusal.{Refusal}
-use Rattle.refusals.specs.declared.answers.Verdict.{Verdict}
-use Rattle.refusals.specs.declared.answers.Verdict.TheVariants.{Passed, Refused}
 use Rattle.refusals.specs.Said.{said_verdict}
 use Rattle.acceptance.specs.Passed.{accepted_word}
 use Rattle.words.specs.Tables.{Table, Counts, true_counts}
@@ -36,32 +35,32 @@ unfoldable pub junction_given : ℕ → List ℕ → ℕ
 junction_given n w = given n w (junction_set w)
 
 -- By the verdict on the word.
-module _ {v : Verdict} (n : ℕ) (w : List ℕ) (e : said_verdict v ≡ first (word_judgements n w) passed) where
-  said : (u : Verdict) → v ≡ u → (k : ℕ) → after (said_verdict u) k 0 ≡ given n w k
+module _ {v : Result (Unit {0}) Refusal} (n : ℕ) (w : List ℕ) (e : said_verdict v ≡ first (word_judgements n w) passed) where
+  said : (u : Result (Unit {0}) Refusal) → v ≡ u → (k : ℕ) → after (said_verdict u) k 0 ≡ given n w k
   said u q k = ap (λ (s : Said). after s k 0) (ap said_verdict (sym q) ∙ e)
 
   -- What counting an accepted word asks.
-  pub passed-within : v ≡ Passed → Within 64 w
+  pub passed-within : v ≡ Ok tt → Within 64 w
   passed-within q = accepted_within (accepted_word n w e q)
 
-  pub passed-short : v ≡ Passed → length w ≤ 1024
+  pub passed-short : v ≡ Ok tt → length w ≤ 1024
   passed-short q = (accepted_word n w e q).short
 
-  pub refused_counts : (r : Refusal) → v ≡ Refused r → Table (count_given n w) (replicate 64 0)
+  pub refused_counts : (r : Refusal) → v ≡ Err r → Table (count_given n w) (replicate 64 0)
   unfolding count_given
-  refused_counts r q = record { size = refl; entry = λ j l. get_or-replicate {A = ℕ} 64 j 0 0 l ∙ said (Refused r) q _ }
+  refused_counts r q = record { size = refl; entry = λ j l. get_or-replicate {A = ℕ} 64 j 0 0 l ∙ said (Err r) q _ }
 
-  pub passed-counts : (xs : List ℕ) → v ≡ Passed → Counts w xs → Table (count_given n w) xs
+  pub passed-counts : (xs : List ℕ) → v ≡ Ok tt → Counts w xs → Table (count_given n w) xs
   unfolding count_given
-  passed-counts xs q t = record { size = t.size; entry = λ j l. t.entry j l ∙ said Passed q _ }
+  passed-counts xs q t = record { size = t.size; entry = λ j l. t.entry j l ∙ said (Ok tt) q _ }
 
-  pub refused_set : (r : Refusal) → v ≡ Refused r → 0 ≡ junction_given n w
+  pub refused_set : (r : Refusal) → v ≡ Err r → 0 ≡ junction_given n w
   unfolding junction_given
-  refused_set r q = said (Refused r) q (junction_set w)
+  refused_set r q = said (Err r) q (junction_set w)
 
-  pub passed-set : (s : ℕ) → v ≡ Passed → s ≡ junction_set w → s ≡ junction_given n w
+  pub passed-set : (s : ℕ) → v ≡ Ok tt → s ≡ junction_set w → s ≡ junction_given n w
   unfolding junction_given
-  passed-set s q h = h ∙ said Passed q (junction_set w)
+  passed-set s q h = h ∙ said (Ok tt) q (junction_set w)
 
 -- Of an accepted word.
 module _ {n : ℕ} {w : List ℕ} (h : Accepted n w) where

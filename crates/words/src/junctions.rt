@@ -9,7 +9,8 @@ ghost use Rattle.words.specs.Junctions.{bit_at};
 
 use crate::tables::{or_place, places_of};
 use acceptance::word::check_word;
-use refusals::answers::{Junctions, Verdict};
+use refusals::answers::Junctions;
+use refusals::refusal::Refusal;
 
 // The bit of a letter: the next larger letter that occurs has its first place left of the letter's last.
 fn bit(next: u16, last: u16) -> u64
@@ -41,7 +42,7 @@ fn junction_bits(rank: usize, word: &[u8]) -> u64
 pub fn junction_set(rank: usize, word: &[u8]) -> u64
     ensures { result ≡ junction_given rank word.now }
 {
-    if let Verdict::Refused(_) = check_word(rank, word) {
+    if check_word(rank, word).is_err() {
         return 0;
     }
     junction_bits(rank, word)
@@ -72,13 +73,11 @@ fn rows_of(word: &[u8], set: u64) -> usize
 }
 
 // The junction set and the rows of a word, or the refusal of 1, 2 or 4.
-pub fn junctions(rank: usize, word: &[u8]) -> Junctions
+pub fn junctions(rank: usize, word: &[u8]) -> Result<Junctions, Refusal>
     ensures { said_junctions result ≡ junction_says rank word.now }
 {
-    if let Verdict::Refused(refusal) = check_word(rank, word) {
-        return Junctions::Refused(refusal);
-    }
+    check_word(rank, word)?;
     let set = junction_bits(rank, word);
     let rows = rows_of(word, set);
-    Junctions::Found(set, rows)
+    Ok(Junctions { set, rows })
 }

@@ -7,6 +7,7 @@
 --     line_kept                              no store changes how many elements there are
 --     heading, lining                        the rulesets of the functions on parts of lines and on whole lines
 -- Assumes nothing.
+use Rattle.std.specs.Prelude.{Option, Some, None, Result, Ok, Err}
 use Rattle.std.specs.Prelude.{ℕ, ◌+◌, ◌≤◌, ◌<◌, min, ◌≡◌, T, leb, length, set}
 use Rattle.std.proofs.Common.{sym, ◌∙◌, arith, leb→le, length-append, length-set, rules}
 use mathlib.Core.List.{List, [], ◌∷◌, ◌++◌}
@@ -21,8 +22,6 @@ use Rattle.refusals.specs.Chains.{ends}
 use Rattle.refusals.specs.Running.{all_passing, run-stopped}
 use Rattle.refusals.specs.Said.{said_refusal, said_verdict}
 use Rattle.refusals.specs.declared.refusal.Refusal.{Refusal}
-use Rattle.refusals.specs.declared.answers.Verdict.{Verdict}
-use Rattle.refusals.specs.declared.answers.Verdict.TheVariants.{Passed, Refused}
 use Rattle.writers.specs.Laying.{Laid, laid_one, laid_then, laid_whole}
 
 -- A line whose first field is of the number n.
@@ -50,7 +49,7 @@ unfolding line_of
 length-line kind n y = omega (arith, length-append (field n ++ y) (10 ∷ []), length-append (field n) y)
 
 -- A verdict on the room that passes.
-room_passed : {v : Verdict} (need have : ℕ) → said_verdict v ≡ room_judged need have → v ≡ Passed → Passing (room_judged need have ∷ [])
+room_passed : {v : Result (Unit {0}) Refusal} (need have : ℕ) → said_verdict v ≡ room_judged need have → v ≡ Ok tt → Passing (room_judged need have ∷ [])
 room_passed {v} need have e q = all_passing (room_judged need have ∷ []) (ends v _ e) q
 
 -- What a writer replies then, and memory.
@@ -70,24 +69,24 @@ unfolding line_size
 size_of kind n y s k f = omega (arith, s, all-counted k f, length-line kind n y)
 
 -- The verdict on the room for a line,
-module _ {v : Verdict} {need : ℕ} (n rest : ℕ) (old : List ℕ) (e : said_verdict v ≡ room_judged need (length old)) (s : need ≡ line_size n (min rest 65536)) where
+module _ {v : Result (Unit {0}) Refusal} {need : ℕ} (n rest : ℕ) (old : List ℕ) (e : said_verdict v ≡ room_judged need (length old)) (s : need ≡ line_size n (min rest 65536)) where
   -- which refuses: memory is as it was,
-  pub line_refused : {most : ℕ} (kind : ℕ) (y : List ℕ) (r : Refusal) → Counted most y rest → T (leb most 65536) → v ≡ Refused r
+  pub line_refused : {most : ℕ} (kind : ℕ) (y : List ℕ) (r : Refusal) → Counted most y rest → T (leb most 65536) → v ≡ Err r
       → (said_refusal r, old) ≡ room_run (line_of kind n y) old
   unfolding room_run
   line_refused kind y r k f q =
       run-stopped (room_judged (length (line_of kind n y)) (length old) ∷ []) [] _ _ old r (rw (← (size_of kind n y s k f)) (ends v _ e)) q
 
   -- or passes: there is room for all bytes,
-  line_room : v ≡ Passed → 2 + length (field n) + min rest 65536 ≤ length old
+  line_room : v ≡ Ok tt → 2 + length (field n) + min rest 65536 ≤ length old
   unfolding line_size
   line_room q = omega (arith, s, (room_judged_lem _ _).0 (room_passed need (length old) e q).0)
 
   -- for the first field,
-  pub head_room : v ≡ Passed → 1 + length (field n) ≤ length old
+  pub head_room : v ≡ Ok tt → 1 + length (field n) ≤ length old
   head_room q = omega (arith, line_room q)
 
-  module _ {most : ℕ} {mid : List ℕ} {at : ℕ} (kind : ℕ) (y : List ℕ) (k : Counted most y rest) (f : T (leb most 65536)) (q : v ≡ Passed)
+  module _ {most : ℕ} {mid : List ℕ} {at : ℕ} (kind : ℕ) (y : List ℕ) (k : Counted most y rest) (f : T (leb most 65536)) (q : v ≡ Ok tt)
       (h : Laid (kind ∷ field n) old 0 mid at) where
     -- for what follows,
     pub rest_room : at + length y ≤ length mid
@@ -106,8 +105,8 @@ module _ {v : Verdict} {need : ℕ} (n rest : ℕ) (old : List ℕ) (e : said_ve
           run_laid (line_of kind n y) old (size_of kind n y s k f) (room_passed need (length old) e q) (laid_whole whole)
 
 -- The same where a field follows.
-pub second_room : {v : Verdict} {need : ℕ} {most : ℕ} {mid : List ℕ} {at : ℕ} (n rest : ℕ) (old : List ℕ) (kind m : ℕ)
-    → said_verdict v ≡ room_judged need (length old) → need ≡ line_size n (min rest 65536) → Counted most (field m) rest → T (leb most 65536) → v ≡ Passed
+pub second_room : {v : Result (Unit {0}) Refusal} {need : ℕ} {most : ℕ} {mid : List ℕ} {at : ℕ} (n rest : ℕ) (old : List ℕ) (kind m : ℕ)
+    → said_verdict v ≡ room_judged need (length old) → need ≡ line_size n (min rest 65536) → Counted most (field m) rest → T (leb most 65536) → v ≡ Ok tt
     → Laid (kind ∷ field n) old 0 mid at → at + length (field m) ≤ length mid
 second_room n rest old kind m e s k f q h = rest_room n rest old e s kind (field m) k f q h
 

@@ -4,35 +4,19 @@
 --     verdict_told, move_told, written-told, used_told, repeat_told, class_told, weights_told, junctions_told, numbered-told,
 --     read_line-told, cell-told     the answers
 -- Assumes nothing.
+use Rattle.std.specs.Prelude.{Option, Some, None, Result, Ok, Err}
+use Rattle.std.specs.declared.cmp.Ordering.{Ordering}
+use Rattle.std.specs.declared.cmp.Ordering.TheVariants.{Less, Equal, Greater}
+use Rattle.refusals.specs.declared.answers.Junctions.{Junctions}
+use Rattle.refusals.specs.declared.answers.Cell.{Cell}
+use Rattle.refusals.specs.declared.answers.Sizes.{Sizes}
 use Prim.Native.Nat.{ℕ, ◌≤◌}
 use mathlib.Core.Path.{◌≡◌, refl}
 use mathlib.Core.List.{List}
 use native.Mathlib.Omega.{arith}
-use Rattle.refusals.specs.Said.{number, place, said_refusal, said_verdict, said_move, said_written, said_used, said_repeat, said_class, said_weights, said_junctions, said_numbered, said_read_line, said_cell}
+use Rattle.refusals.specs.Said.{number, place, said_refusal, said_verdict, said_value, said_class, said_weights, said_junctions, said_sizes, said_cell}
 use Rattle.refusals.specs.declared.refusal.Refusal.{Refusal}
 use Rattle.refusals.specs.declared.refusal.Refusal.TheVariants.{Rank, Length, Parts, Letter, Falling, Mark, Entry, Step, Index, Inversion, NoLetter, Full, Room, Line, Large, PastLast, Count, Empty, Item, Sum}
-use Rattle.refusals.specs.declared.answers.Verdict.{Verdict}
-use Rattle.refusals.specs.declared.answers.Verdict.TheVariants as verdict
-use Rattle.refusals.specs.declared.answers.Move.{Move}
-use Rattle.refusals.specs.declared.answers.Move.TheVariants as move
-use Rattle.refusals.specs.declared.answers.Written.{Written}
-use Rattle.refusals.specs.declared.answers.Written.TheVariants as written
-use Rattle.refusals.specs.declared.answers.Used.{Used}
-use Rattle.refusals.specs.declared.answers.Used.TheVariants as used
-use Rattle.refusals.specs.declared.answers.Repeat.{Repeat}
-use Rattle.refusals.specs.declared.answers.Repeat.TheVariants as repeat
-use Rattle.refusals.specs.declared.answers.Class.{Class}
-use Rattle.refusals.specs.declared.answers.Class.TheVariants as class
-use Rattle.refusals.specs.declared.answers.Weights.{Weights}
-use Rattle.refusals.specs.declared.answers.Weights.TheVariants as weights
-use Rattle.refusals.specs.declared.answers.Junctions.{Junctions}
-use Rattle.refusals.specs.declared.answers.Junctions.TheVariants as junctions
-use Rattle.refusals.specs.declared.answers.Numbered.{Numbered}
-use Rattle.refusals.specs.declared.answers.Numbered.TheVariants as numbered
-use Rattle.refusals.specs.declared.answers.ReadLine.{ReadLine}
-use Rattle.refusals.specs.declared.answers.ReadLine.TheVariants as read_line
-use Rattle.refusals.specs.declared.answers.Cell.{Cell}
-use Rattle.refusals.specs.declared.answers.Cell.TheVariants as cell
 use Rattle.structs.specs.Replies.{done_of, move_of, count_of, class_of, order_of, junction_of, value_of, line_of, cell_of, tells, done_tells, move_tells, count_tells, class_tells, order_tells, junction_tells, value_tells, line_tells, cell_tells}
 
 -- ---- refusals
@@ -83,51 +67,51 @@ refusal_numbers Sum = (omega arith, omega arith)
 
 -- ---- answers
 
-pub verdict_told : (a : Verdict) → done_tells (done_of (said_verdict a)) ≡ said_verdict a
-verdict_told verdict.Passed = refl
-verdict_told (verdict.Refused r) = refused_told r _
+pub verdict_told : (a : Result (Unit {0}) Refusal) → done_tells (done_of (said_verdict a)) ≡ said_verdict a
+verdict_told (Ok tt) = refl
+verdict_told (Err r) = refused_told r _
 
-pub move_told : (a : Move) → move_tells (move_of (said_move a)) ≡ said_move a
-move_told (move.Made p) = refl
-move_told (move.Refused r) = refused_told r _
+pub move_told : (a : Result ℕ Refusal) → move_tells (move_of (said_value a)) ≡ said_value a
+move_told (Ok p) = refl
+move_told (Err r) = refused_told r _
 
-pub written-told : (a : Written) → count_tells (count_of (said_written a)) ≡ said_written a
-written-told (written.Elements n) = refl
-written-told (written.Refused r) = refused_told r _
+pub written-told : (a : Result ℕ Refusal) → count_tells (count_of (said_value a)) ≡ said_value a
+written-told (Ok n) = refl
+written-told (Err r) = refused_told r _
 
-pub used_told : (a : Used) → count_tells (count_of (said_used a)) ≡ said_used a
-used_told (used.Cells n) = refl
-used_told (used.Refused r) = refused_told r _
+pub used_told : (a : Result ℕ Refusal) → count_tells (count_of (said_value a)) ≡ said_value a
+used_told (Ok n) = refl
+used_told (Err r) = refused_told r _
 
-pub repeat_told : (a : Repeat) → count_tells (count_of (said_repeat a)) ≡ said_repeat a
-repeat_told (repeat.Times n) = refl
-repeat_told (repeat.Refused r) = refused_told r _
+pub repeat_told : (a : Result ℕ Refusal) → count_tells (count_of (said_value a)) ≡ said_value a
+repeat_told (Ok n) = refl
+repeat_told (Err r) = refused_told r _
 
-pub class_told : (a : Class) → class_tells (class_of (said_class a)) ≡ said_class a
-class_told class.Same = refl
-class_told class.Different = refl
-class_told (class.Refused r) = refused_told r _
+pub class_told : (a : Result Bool Refusal) → class_tells (class_of (said_class a)) ≡ said_class a
+class_told (Ok true) = refl
+class_told (Ok false) = refl
+class_told (Err r) = refused_told r _
 
-pub weights_told : (a : Weights) → order_tells (order_of (said_weights a)) ≡ said_weights a
-weights_told weights.Equal = refl
-weights_told weights.Lower = refl
-weights_told weights.Higher = refl
-weights_told weights.Neither = refl
-weights_told (weights.Refused r) = refused_told r _
+pub weights_told : (a : Result (Option Ordering) Refusal) → order_tells (order_of (said_weights a)) ≡ said_weights a
+weights_told (Ok (Some Equal)) = refl
+weights_told (Ok (Some Less)) = refl
+weights_told (Ok (Some Greater)) = refl
+weights_told (Ok None) = refl
+weights_told (Err r) = refused_told r _
 
-pub junctions_told : (a : Junctions) → junction_tells (junction_of (said_junctions a)) ≡ said_junctions a
+pub junctions_told : (a : Result Junctions Refusal) → junction_tells (junction_of (said_junctions a)) ≡ said_junctions a
 junctions_told (junctions.Found set rows) = refl
-junctions_told (junctions.Refused r) = refused_told r _
+junctions_told (Err r) = refused_told r _
 
-pub numbered-told : (a : Numbered) → value_tells (value_of (said_numbered a)) ≡ said_numbered a
-numbered-told (numbered.Number k) = refl
-numbered-told (numbered.Refused r) = refused_told r _
+pub numbered-told : (a : Result ℕ Refusal) → value_tells (value_of (said_value a)) ≡ said_value a
+numbered-told (Ok k) = refl
+numbered-told (Err r) = refused_told r _
 
-pub read_line-told : (a : ReadLine) → line_tells (line_of (said_read_line a)) ≡ said_read_line a
+pub read_line-told : (a : Result Sizes Refusal) → line_tells (line_of (said_sizes a)) ≡ said_sizes a
 read_line-told (read_line.Values n l) = refl
-read_line-told (read_line.Refused r) = refused_told r _
+read_line-told (Err r) = refused_told r _
 
-pub cell-told : (a : Cell) → cell_tells (cell_of (said_cell a)) ≡ said_cell a
+pub cell-told : (a : Result (Option Cell) Refusal) → cell_tells (cell_of (said_cell a)) ≡ said_cell a
 cell-told (cell.Found a r c) = refl
-cell-told cell.NoSuchCell = refl
-cell-told (cell.Refused r) = refused_told r _
+cell-told (Ok None) = refl
+cell-told (Err r) = refused_told r _
