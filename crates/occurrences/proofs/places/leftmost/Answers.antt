@@ -1,12 +1,7 @@
--- `occurrences::places::leftmost` meets its contract, by the laws of specs/Places. Assumes nothing.
-use Rattle.occurrences.specs.Places.{seeking}
+-- What `position` ensures is the first place.
+use Rattle.std.proofs.Common.{rules}
+use Rattle.occurrences.proofs.Told.{IsFirst, leftmost_told}
 use Rattle.occurrences.proofs.places.leftmost.Goals as goal
 
-pub place_of-place-requires : goal.place_of-place-requires
-place_of-place-requires c = search seeking
-
-pub returns-then-place-word : goal.returns-then-place-word
-returns-then-place-word c = search seeking
-
 pub returns : goal.returns
-returns c = search seeking
+returns c = let e : IsFirst c.args.letter c.args.word.now c.position.result = search rules in leftmost_told c.args.letter c.args.word.now c.position.result e

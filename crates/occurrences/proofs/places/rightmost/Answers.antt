@@ -1,24 +1,7 @@
--- `occurrences::places::rightmost` meets its contract. The invariant: the letter is not from place i on. Assumes nothing.
-use Rattle.occurrences.specs.Places.{returning}
+-- What `rposition` ensures is the last place.
+use Rattle.std.proofs.Common.{rules}
+use Rattle.occurrences.proofs.Told.{IsLast, rightmost_told}
 use Rattle.occurrences.proofs.places.rightmost.Goals as goal
 
-pub loop-i-init : goal.loop-i-init
-loop-i-init c = search returning
-
-pub overflow_sub-i : goal.overflow_sub-i
-overflow_sub-i c = search returning
-
-pub bounds-word-i : goal.bounds-word-i
-bounds-word-i c = search returning
-
-pub returns-then-word-i : goal.returns-then-word-i
-returns-then-word-i c = search returning
-
-pub loop-i-smaller : goal.loop-i-smaller
-loop-i-smaller c = search returning
-
-pub loop-i-preserved : goal.loop-i-preserved
-loop-i-preserved c = search returning
-
 pub returns : goal.returns
-returns c = search returning
+returns c = let e : IsLast c.args.letter c.args.word.now c.rposition.result = search rules in rightmost_told c.args.letter c.args.word.now c.rposition.result e
