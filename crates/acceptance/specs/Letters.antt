@@ -1,7 +1,6 @@
 -- The check 4: as a scan for the first letter outside 1 to rank, and by the least and the largest letter, since where both are inside, so is every
 -- letter, and the check passes.
---     letter_fault n xs p                     the letter at place p is outside 1 to n
---     scanning                               the ruleset of the scan
+--     letters_scanned                        the check is the search for the first letter that is outside
 --     Confirmed n xs b                       b is true only where each letter is inside 1 to n
 --     Bounding xs least largest i            the loop's invariant: the letters before i are from least to largest
 --     bounds_start, bounds_turn, bounds_end  where it begins, after one more letter, past the last one
@@ -9,34 +8,31 @@
 --     confirmed_passed                       confirmed letters pass the check
 --     bounding                               the ruleset of the check by bounds
 -- Assumes nothing.
-use Rattle.std.specs.Prelude.{ℕ, suc, ◌+◌, ◌<◌, ◌≤◌, max, min, ◌≡◌, refl, Bool, true, false, ◌||◌, List, [], ◌∷◌, ◌⊎◌, leb, ltb, length, get_or}
-use Rattle.std.proofs.Common.{not-suc-le-zero, arith, sym, ap, ◌∙◌, true≢false, inl, inr, rules, le-ltb, leb-true}
+use Rattle.std.specs.Prelude.{ℕ, suc, ◌+◌, ◌<◌, ◌≤◌, max, min, ◌≡◌, refl, Bool, true, false, List, [], ◌∷◌, ◌⊎◌, leb, length, get_or, cond, Option, Some}
+use Rattle.std.proofs.Common.{not-suc-le-zero, add-one, arith, sym, ap, ◌∙◌, true≢false, inl, inr, rules, le-ltb, leb-true}
 use Rattle.hypoplactic.specs.Words.{Within}
-use Rattle.outcomes.specs.Replies.{gives}
+use Rattle.outcomes.specs.Replies.{Said, gives, refuse_if}
 use Rattle.outcomes.specs.Judgements.{letters_from, letters_judged, outside}
-use Rattle.outcomes.proofs.Theory.FirstPlaces.{letters-scan}
 use Rattle.hypoplactic.proofs.Theory.Pairs.{le-or-lt}
-use Rattle.refusals.specs.Scanning.{Scanning, scan_from_lem, start, turn, found, none, fault_said, fault_decides}
+use Rattle.refusals.specs.Said.{said_fault}
+use Rattle.std.specs.List.{position, position_from}
+use Rattle.std.proofs.lemmas.Iterator.Adapters.{position_from-zero}
 
 -- ---- the scan
 
--- The letter at a place is outside 1 to rank.
-unfoldable pub letter_fault : ℕ → List ℕ → ℕ → Bool
-letter_fault n xs p = outside n (get_or xs p 0)
+-- One more letter of the scan.
+one_more : (b : Bool) (i : ℕ) (r : Option ℕ) (s : Said) → said_fault 4 r ≡ s → said_fault 4 (cond b (Some i) r) ≡ refuse_if b 4 i s
+one_more true i r s h = refl
+one_more false i r s h = h
 
-pub opens_letter : {b : Bool} {x : ℕ} (n : ℕ) (xs : List ℕ) (p : ℕ) → b ≡ (ltb x 1 || ltb n x) → x ≡ get_or xs p 0 → b ≡ letter_fault n xs p
-unfolding letter_fault
-opens_letter n xs p e is = rw (← is) e
+scan_letters : (n i : ℕ) (xs : List ℕ) → said_fault 4 (position_from (outside n) i xs) ≡ letters_from n i xs
+scan_letters n i [] = refl
+scan_letters n i (x ∷ xs) = one_more (outside n x) i _ _ (rw (add-one i) (scan_letters n (suc i) xs))
 
--- The check is the scan for that fault.
-pub start-letters : (n : ℕ) (xs : List ℕ) → Scanning 4 (letter_fault n xs) (length xs) (letters_judged n xs) 0
-unfolding letter_fault
-start-letters n xs =
-    start (length xs)
-    (letters-scan n xs ∙ scan_from_lem 4 0 (length xs) _ (letter_fault n xs) (λ q l. ap (λ (p : ℕ). outside n (get_or xs p 0)) (omega arith)))
-    (omega arith)
-
-pub ruleset scanning = (turn, found, none, start-letters, opens_letter, rules)
+-- The check is the search for the first letter that is outside.
+pub letters_scanned : {f : Option ℕ} (n : ℕ) (xs : List ℕ) → f ≡ position (outside n) xs → said_fault 4 f ≡ letters_judged n xs
+unfolding letters_judged
+letters_scanned n xs e = ap (said_fault 4) (e ∙ position_from-zero (outside n) xs) ∙ scan_letters n 0 xs
 
 -- ---- the bounds
 
@@ -88,4 +84,4 @@ pub confirmed_passed : {n : ℕ} {xs : List ℕ} {b : Bool} → Confirmed n xs b
 unfolding letters_judged
 confirmed_passed {n} {xs} c e = passed_from n 0 xs (c.inside e)
 
-pub ruleset bounding = (bounds_start, bounds_turn, bounds_end, unconfirmed, confirmed_passed, fault_said, fault_decides, rules)
+pub ruleset bounding = (bounds_start, bounds_turn, bounds_end, unconfirmed, confirmed_passed, letters_scanned, rules)

@@ -6,6 +6,5 @@ ghost use Rattle.acceptance.specs.Bytes.{narrowed};
 pub fn narrow(letter: u16) -> u8
     ensures { result ≡ narrowed letter }
 {
-    let low = (letter % 256) as u8;
-    if letter < 256 { low } else { 0 }
+    u8::try_from(letter).unwrap_or(0)
 }
