@@ -2,24 +2,12 @@
 ghost use Rattle.std.specs.Prelude.{◌≡◌};
 ghost use Rattle.buffers.specs.Pulls.{pulled};
 
-// A tail of letters or marks pulled by one.
-pub fn pull_bytes(tail: &mut [u8])
+// A tail of letters, marks or recording entries pulled by one.
+#[tactic(auto, using(crate::specs::Pulls::pulling))]
+pub fn pull<T: Copy>(tail: &mut [T])
     ensures { tail.new ≡ pulled tail.old }
 {
-    let mut i = 1;
-    while i < tail.len() {
-        tail[i - 1] = tail[i];
-        i += 1;
-    }
-}
-
-// A tail of recording entries pulled by one, in the same way.
-pub fn pull_entries(tail: &mut [u16])
-    ensures { tail.new ≡ pulled tail.old }
-{
-    let mut i = 1;
-    while i < tail.len() {
-        tail[i - 1] = tail[i];
-        i += 1;
+    if !tail.is_empty() {
+        tail.copy_within(1.., 0);
     }
 }

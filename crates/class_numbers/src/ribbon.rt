@@ -5,7 +5,7 @@ ghost use Rattle.numbering.specs.Orders.{place_of, word_at};
 ghost use Rattle.class_numbers.specs.Held.{Holds};
 ghost use Rattle.class_numbers.specs.NumberFound.{Placed};
 
-use buffers::copies::copy_bytes;
+use buffers::copies::copy;
 use taken_cells::first::{cell_of_letter, cell_of_number};
 use taken_cells::removal::{pulled, pulled_free};
 
@@ -14,7 +14,7 @@ pub(crate) fn held(bytes: &[u8]) -> [u8; 20]
     ensures { Holds bytes.now result }
 {
     let mut out = [0u8; 20];
-    copy_bytes(bytes, &mut out);
+    copy(bytes, &mut out);
     out
 }
 

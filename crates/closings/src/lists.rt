@@ -4,7 +4,7 @@ ghost use Rattle.std.specs.Prelude.{◌+◌, ◌-◌, ◌<◌, min, ◌≡◌, g
 ghost use Rattle.windows.specs.Gaps.{joint, lowered};
 ghost use Rattle.closings.specs.Closings.{closed_entries, closed_letters, closed_marks};
 
-use buffers::pulls::{pull_bytes, pull_entries};
+use buffers::pulls::pull;
 
 // A used entry, 0 beyond.
 fn entry_at(place: usize, used: usize, entries: &[u16]) -> u16
@@ -38,7 +38,7 @@ pub fn close_letters(at: usize, used: usize, letters: &mut [u8])
 {
     let end = used.min(letters.len());
     let from = at.min(end);
-    pull_bytes(&mut letters[from..end]);
+    pull(&mut letters[from..end]);
 }
 
 // The used marks without the one at this place. Where a cell follows, the step into it is set anew, by the entries as they are before any of them moves.
@@ -47,7 +47,7 @@ pub fn close_marks(at: usize, used: usize, marks: &mut [u8], entries: &[u16])
 {
     let end = used.min(marks.len());
     let from = at.min(end);
-    pull_bytes(&mut marks[from..end]);
+    pull(&mut marks[from..end]);
     if 1 < end - from {
         marks[at] = joint_mark(at, used, entries);
     }
@@ -85,6 +85,6 @@ pub fn close_entries(at: usize, used: usize, entries: &mut [u16])
     let end = used.min(entries.len());
     let from = at.min(end);
     let left = cells_left(at, end);
-    pull_entries(&mut entries[from..end]);
+    pull(&mut entries[from..end]);
     lower_entries(&mut entries[0..left]);
 }

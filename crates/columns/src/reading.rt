@@ -9,7 +9,7 @@ ghost use Rattle.refusals.specs.Running.{checks_then};
 ghost use Rattle.refusals.specs.Said.{said_verdict, said_value};
 ghost use Rattle.columns.specs.Columns.{Ended, Skipped};
 
-use buffers::copies::copy_bytes;
+use buffers::copies::copy;
 use refusals::numbers::check_room;
 use validity::counted::check_counted_tableau;
 use refusals::refusal::Refusal;
@@ -81,7 +81,7 @@ fn write_reading(letters: &[u8], marks: &[u8], word: &mut [u8])
     requires { (length marks.now ≡ length letters.now) × (length letters.now ≤ length word.old) }
     ensures { word.new ≡ written (column_reading letters.now marks.now) word.old }
 {
-    copy_bytes(letters, word);
+    copy(letters, word);
     let mut at = next_column(marks, 0);
     while at < letters.len() {
         let end = column_end(marks, at);

@@ -3,7 +3,7 @@
 ghost use Rattle.std.specs.Prelude.{◌≡◌};
 ghost use Rattle.openings.specs.Openings.{opened, opened_marks};
 
-use buffers::shifts::{shift_bytes, shift_entries};
+use buffers::shifts::shift;
 
 // The used letters with a new one.
 pub fn open_letters(at: usize, used: usize, letter: u8, letters: &mut [u8])
@@ -15,7 +15,7 @@ pub fn open_letters(at: usize, used: usize, letter: u8, letters: &mut [u8])
     if letters.len() <= used {
         return;
     }
-    shift_bytes(&mut letters[at..used + 1], letter);
+    shift(&mut letters[at..used + 1], letter);
 }
 
 // The used marks with that of a new cell: the step into it is right, and the step out of it, where a cell follows, becomes down.
@@ -28,7 +28,7 @@ pub fn open_marks(at: usize, used: usize, marks: &mut [u8])
     if marks.len() <= used {
         return;
     }
-    shift_bytes(&mut marks[at..used + 1], 0);
+    shift(&mut marks[at..used + 1], 0);
     if at < used {
         marks[at + 1] = 1;
     }
@@ -44,5 +44,5 @@ pub fn open_entries(at: usize, used: usize, entry: u16, entries: &mut [u16])
     if entries.len() <= used {
         return;
     }
-    shift_entries(&mut entries[at..used + 1], entry);
+    shift(&mut entries[at..used + 1], entry);
 }

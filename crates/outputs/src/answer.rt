@@ -8,7 +8,7 @@ ghost use Rattle.outputs.specs.Answer.{Begun, refused_line};
 ghost use Rattle.outputs.specs.Printing.{Printed};
 
 use crate::printing::print_word;
-use buffers::copies::copy_bytes;
+use buffers::copies::copy;
 use refusals::answers::Sizes;
 use refusals::numbers::check_room;
 use refusals::refusal::Refusal;
@@ -75,7 +75,7 @@ fn hand_over(bytes: &[u8], out: &mut [u8]) -> Result<usize, Refusal>
     ensures { (said_value result, out.new) ≡ room_run bytes.now out.old }
 {
     check_room(bytes.len(), out.len())?;
-    copy_bytes(bytes, out);
+    copy(bytes, out);
     Ok(bytes.len())
 }
 

@@ -7,7 +7,7 @@ ghost use Rattle.refusals.specs.Running.{checks_then};
 ghost use Rattle.refusals.specs.Said.{said_sizes, said_verdict};
 ghost use Rattle.readers.specs.PairStores.{PairCopied};
 
-use buffers::copies::{copy_bytes, copy_entries};
+use buffers::copies::copy;
 use line_items::letters::narrow_letters;
 use line_items::room::{no_letters, no_marks};
 use refusals::answers::Sizes;
@@ -48,9 +48,9 @@ fn copy_pair(
     ensures { PairCopied cells.now steps.now places.now
         letters.old marks.old entries.old letters.new marks.new entries.new }
 {
-    copy_bytes(cells, letters);
-    copy_bytes(steps, marks);
-    copy_entries(places, entries);
+    copy(cells, letters);
+    copy(steps, marks);
+    copy(places, entries);
 }
 
 // A pair that was read, into lent letters, marks, entries and letter counts.

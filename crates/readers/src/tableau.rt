@@ -6,7 +6,7 @@ ghost use Rattle.refusals.specs.Running.{checks_then};
 ghost use Rattle.refusals.specs.Said.{said_sizes, said_verdict};
 ghost use Rattle.readers.specs.Stores.{Copied};
 
-use buffers::copies::copy_bytes;
+use buffers::copies::copy;
 use line_items::letters::narrow_letters;
 use line_items::room::{no_letters, no_marks};
 use refusals::answers::Sizes;
@@ -38,8 +38,8 @@ fn check_tableau_read(
 fn copy_cells(cells: &[u8], steps: &[u8], letters: &mut [u8], marks: &mut [u8])
     ensures { Copied cells.now steps.now letters.old marks.old letters.new marks.new }
 {
-    copy_bytes(cells, letters);
-    copy_bytes(steps, marks);
+    copy(cells, letters);
+    copy(steps, marks);
 }
 
 // A tableau that was read, into lent letters, marks and letter counts.

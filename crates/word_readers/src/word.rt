@@ -6,7 +6,7 @@ ghost use Rattle.refusals.specs.Running.{checks_then};
 ghost use Rattle.refusals.specs.Said.{said_sizes, said_verdict};
 
 use acceptance::word::check_word;
-use buffers::copies::copy_bytes;
+use buffers::copies::copy;
 use line_items::letters::narrow_letters;
 use line_items::room::no_letters;
 use refusals::answers::Sizes;
@@ -29,7 +29,7 @@ fn store_word(rank: usize, word: &[u8], letters: &mut [u8]) -> Result<Sizes, Ref
     ensures { (said_sizes result, letters.new) ≡ word_read letters.old rank word.now }
 {
     check_word_read(rank, word, letters.len())?;
-    copy_bytes(word, letters);
+    copy(word, letters);
     Ok(Sizes { rank: rank, count: word.len() })
 }
 

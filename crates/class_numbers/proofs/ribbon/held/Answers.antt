@@ -2,11 +2,11 @@
 use Rattle.class_numbers.specs.Held.{holding}
 use Rattle.class_numbers.proofs.ribbon.held.Goals as goal
 
-pub slice_bounds-copy_bytes-end : goal.slice_bounds-copy_bytes-end
-slice_bounds-copy_bytes-end c = search holding
+pub slice_bounds-copy-end : goal.slice_bounds-copy-end
+slice_bounds-copy-end c = search holding
 
-pub copy_bytes-requires : goal.copy_bytes-requires
-copy_bytes-requires c = search holding
+pub copy-requires : goal.copy-requires
+copy-requires c = search holding
 
 pub returns : goal.returns
 returns c = search holding

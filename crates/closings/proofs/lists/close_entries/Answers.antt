@@ -14,17 +14,17 @@ cells_left-left-requires c = search closing
 pub offset_bounds-entries-from : goal.offset_bounds-entries-from
 offset_bounds-entries-from c = search closing
 
-pub slice_bounds-pull_entries-count : goal.slice_bounds-pull_entries-count
-slice_bounds-pull_entries-count c = search closing
+pub slice_bounds-pull-count : goal.slice_bounds-pull-count
+slice_bounds-pull-count c = search closing
 
-pub slice_bounds-pull_entries-start : goal.slice_bounds-pull_entries-start
-slice_bounds-pull_entries-start c = search closing
+pub slice_bounds-pull-start : goal.slice_bounds-pull-start
+slice_bounds-pull-start c = search closing
 
-pub slice_bounds-pull_entries-end : goal.slice_bounds-pull_entries-end
-slice_bounds-pull_entries-end c = search closing
+pub slice_bounds-pull-end : goal.slice_bounds-pull-end
+slice_bounds-pull-end c = search closing
 
-pub pull_entries-requires : goal.pull_entries-requires
-pull_entries-requires c = search closing
+pub pull-requires : goal.pull-requires
+pull-requires c = search closing
 
 pub slice_bounds-lower_entries-count : goal.slice_bounds-lower_entries-count
 slice_bounds-lower_entries-count c = search closing

@@ -8,17 +8,17 @@ least-end-requires c = search closing
 pub least-from-requires : goal.least-from-requires
 least-from-requires c = search closing
 
-pub slice_bounds-pull_bytes-count : goal.slice_bounds-pull_bytes-count
-slice_bounds-pull_bytes-count c = search closing
+pub slice_bounds-pull-count : goal.slice_bounds-pull-count
+slice_bounds-pull-count c = search closing
 
-pub slice_bounds-pull_bytes-start : goal.slice_bounds-pull_bytes-start
-slice_bounds-pull_bytes-start c = search closing
+pub slice_bounds-pull-start : goal.slice_bounds-pull-start
+slice_bounds-pull-start c = search closing
 
-pub slice_bounds-pull_bytes-end : goal.slice_bounds-pull_bytes-end
-slice_bounds-pull_bytes-end c = search closing
+pub slice_bounds-pull-end : goal.slice_bounds-pull-end
+slice_bounds-pull-end c = search closing
 
-pub pull_bytes-requires : goal.pull_bytes-requires
-pull_bytes-requires c = search closing
+pub pull-requires : goal.pull-requires
+pull-requires c = search closing
 
 pub shape_of-letters : goal.shape_of-letters
 shape_of-letters c = search closing

@@ -2,8 +2,8 @@
 use Rattle.columns.specs.Reading.{reading}
 use Rattle.columns.proofs.reading.write_reading.Goals as goal
 
-pub copy_bytes-requires : goal.copy_bytes-requires
-copy_bytes-requires c = search reading
+pub copy-requires : goal.copy-requires
+copy-requires c = search reading
 
 pub next_column-at-requires : goal.next_column-at-requires
 next_column-at-requires c = search reading

@@ -14,17 +14,17 @@ overflow_add-used c = search opening
 pub offset_bounds-entries-at : goal.offset_bounds-entries-at
 offset_bounds-entries-at c = search opening
 
-pub slice_bounds-shift_entries-count : goal.slice_bounds-shift_entries-count
-slice_bounds-shift_entries-count c = search opening
+pub slice_bounds-shift-count : goal.slice_bounds-shift-count
+slice_bounds-shift-count c = search opening
 
-pub slice_bounds-shift_entries-start : goal.slice_bounds-shift_entries-start
-slice_bounds-shift_entries-start c = search opening
+pub slice_bounds-shift-start : goal.slice_bounds-shift-start
+slice_bounds-shift-start c = search opening
 
-pub slice_bounds-shift_entries-end : goal.slice_bounds-shift_entries-end
-slice_bounds-shift_entries-end c = search opening
+pub slice_bounds-shift-end : goal.slice_bounds-shift-end
+slice_bounds-shift-end c = search opening
 
-pub shift_entries-requires : goal.shift_entries-requires
-shift_entries-requires c = search opening
+pub shift-requires : goal.shift-requires
+shift-requires c = search opening
 
 pub shape_of-entries : goal.shape_of-entries
 shape_of-entries c = search opening

@@ -11,17 +11,17 @@ returns-then-letters-used c = search opening
 pub overflow_add-used : goal.overflow_add-used
 overflow_add-used c = search opening
 
-pub slice_bounds-shift_bytes-count : goal.slice_bounds-shift_bytes-count
-slice_bounds-shift_bytes-count c = search opening
+pub slice_bounds-shift-count : goal.slice_bounds-shift-count
+slice_bounds-shift-count c = search opening
 
-pub slice_bounds-shift_bytes-start : goal.slice_bounds-shift_bytes-start
-slice_bounds-shift_bytes-start c = search opening
+pub slice_bounds-shift-start : goal.slice_bounds-shift-start
+slice_bounds-shift-start c = search opening
 
-pub slice_bounds-shift_bytes-end : goal.slice_bounds-shift_bytes-end
-slice_bounds-shift_bytes-end c = search opening
+pub slice_bounds-shift-end : goal.slice_bounds-shift-end
+slice_bounds-shift-end c = search opening
 
-pub shift_bytes-requires : goal.shift_bytes-requires
-shift_bytes-requires c = search opening
+pub shift-requires : goal.shift-requires
+shift-requires c = search opening
 
 pub shape_of-letters : goal.shape_of-letters
 shape_of-letters c = search opening

@@ -14,8 +14,8 @@ returns-in-Refused c = search answering
 pub enum_told-1 : goal.enum_told-1
 enum_told-1 c = search answering
 
-pub copy_bytes-requires : goal.copy_bytes-requires
-copy_bytes-requires c = search answering
+pub copy-requires : goal.copy-requires
+copy-requires c = search answering
 
 pub shape_of-out : goal.shape_of-out
 shape_of-out c = search answering

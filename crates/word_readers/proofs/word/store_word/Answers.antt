@@ -14,8 +14,8 @@ returns-in-Refused c = search storing_words
 pub enum_told-1 : goal.enum_told-1
 enum_told-1 c = search storing_words
 
-pub copy_bytes-requires : goal.copy_bytes-requires
-copy_bytes-requires c = search storing_words
+pub copy-requires : goal.copy-requires
+copy-requires c = search storing_words
 
 pub shape_of-letters : goal.shape_of-letters
 shape_of-letters c = search storing_words
