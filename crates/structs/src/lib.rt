@@ -1,8 +1,4 @@
-// The structs in which the C interface answers, and the functions that turn each kind of answer into its struct.
+// The structs in which the C interface answers, each with the conversion of the kernel's answer to it.
 #![tactic(auto)]
 
-pub mod comparisons;
-pub mod converters;
-pub mod counts;
-pub mod readings;
 pub mod replies;

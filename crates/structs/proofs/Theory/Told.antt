@@ -1,10 +1,9 @@
 -- Nothing of an answer is lost at the C interface: a struct, read as the C header says, says what the answer says, so no two answers share a struct. By
 -- refusals' Theory/Apart what is said fixes the answer.
 --     refusal_numbers                  a refusal's number is 1 to 20, never 0
---     verdict_told, move_told, written-told, used_told, repeat_told, class_told, weights_told, junctions_told, numbered-told,
---     read_line-told, cell-told     the answers
+--     verdict_told, move_told, count_told, class_told, weights_told, junctions_told, value_told, sizes_told, cell_told     the answers
 -- Assumes nothing.
-use Rattle.std.specs.Prelude.{Option, Some, None, Result, Ok, Err}
+use Rattle.std.specs.Prelude.{Bool, true, false, Option, Some, None, Result, Ok, Err}
 use Rattle.std.specs.declared.cmp.Ordering.{Ordering}
 use Rattle.std.specs.declared.cmp.Ordering.TheVariants.{Less, Equal, Greater}
 use Rattle.refusals.specs.declared.answers.Junctions.{Junctions}
@@ -75,17 +74,9 @@ pub move_told : (a : Result ℕ Refusal) → move_tells (move_of (said_value a))
 move_told (Ok p) = refl
 move_told (Err r) = refused_told r _
 
-pub written-told : (a : Result ℕ Refusal) → count_tells (count_of (said_value a)) ≡ said_value a
-written-told (Ok n) = refl
-written-told (Err r) = refused_told r _
-
-pub used_told : (a : Result ℕ Refusal) → count_tells (count_of (said_value a)) ≡ said_value a
-used_told (Ok n) = refl
-used_told (Err r) = refused_told r _
-
-pub repeat_told : (a : Result ℕ Refusal) → count_tells (count_of (said_value a)) ≡ said_value a
-repeat_told (Ok n) = refl
-repeat_told (Err r) = refused_told r _
+pub count_told : (a : Result ℕ Refusal) → count_tells (count_of (said_value a)) ≡ said_value a
+count_told (Ok n) = refl
+count_told (Err r) = refused_told r _
 
 pub class_told : (a : Result Bool Refusal) → class_tells (class_of (said_class a)) ≡ said_class a
 class_told (Ok true) = refl
@@ -100,18 +91,18 @@ weights_told (Ok None) = refl
 weights_told (Err r) = refused_told r _
 
 pub junctions_told : (a : Result Junctions Refusal) → junction_tells (junction_of (said_junctions a)) ≡ said_junctions a
-junctions_told (junctions.Found set rows) = refl
+junctions_told (Ok j) = refl
 junctions_told (Err r) = refused_told r _
 
-pub numbered-told : (a : Result ℕ Refusal) → value_tells (value_of (said_value a)) ≡ said_value a
-numbered-told (Ok k) = refl
-numbered-told (Err r) = refused_told r _
+pub value_told : (a : Result ℕ Refusal) → value_tells (value_of (said_value a)) ≡ said_value a
+value_told (Ok k) = refl
+value_told (Err r) = refused_told r _
 
-pub read_line-told : (a : Result Sizes Refusal) → line_tells (line_of (said_sizes a)) ≡ said_sizes a
-read_line-told (read_line.Values n l) = refl
-read_line-told (Err r) = refused_told r _
+pub sizes_told : (a : Result Sizes Refusal) → line_tells (line_of (said_sizes a)) ≡ said_sizes a
+sizes_told (Ok s) = refl
+sizes_told (Err r) = refused_told r _
 
-pub cell-told : (a : Result (Option Cell) Refusal) → cell_tells (cell_of (said_cell a)) ≡ said_cell a
-cell-told (cell.Found a r c) = refl
-cell-told (Ok None) = refl
-cell-told (Err r) = refused_told r _
+pub cell_told : (a : Result (Option Cell) Refusal) → cell_tells (cell_of (said_cell a)) ≡ said_cell a
+cell_told (Ok (Some c)) = refl
+cell_told (Ok None) = refl
+cell_told (Err r) = refused_told r _
