@@ -5,11 +5,9 @@
 --     starts_inside, digit_inside    where a byte or a digit stands is in the text
 --     left_there                     what is left there begins with the byte at that place
 --     after_there, after_none        a byte that the grammar asks for, and what follows
---     starts_within, next_fits       the place after it is in the text, and fits 64 bits
 -- Assumes nothing.
-use Rattle.std.specs.Prelude.{ℕ, ◌+◌, ◌-◌, ◌^◌, ◌≤◌, ◌<◌, ◌≡◌, refl, Bool, true, false, cond, ◌⊎◌, List, [], ◌∷◌, Option, Some, None, eqb, leb, length, get_or, drop}
-use Rattle.std.proofs.Common.{sym, ◌∙◌, true≢false, inl, inr, ⊎_elim, add-one, arith, drop_of_length-le, drop-cons, Fits, leb-false, leb-true}
-use Rattle.std.specs.Int.{w64}
+use Rattle.std.specs.Prelude.{ℕ, ◌+◌, ◌-◌, ◌≤◌, ◌<◌, ◌≡◌, refl, Bool, true, false, cond, ◌⊎◌, List, [], ◌∷◌, Option, Some, None, eqb, leb, length, get_or, drop}
+use Rattle.std.proofs.Common.{sym, ◌∙◌, true≢false, inl, inr, ⊎_elim, add-one, drop_of_length-le, drop-cons, leb-false, leb-true}
 use Rattle.grammar.specs.Reading.{Read, after, broken, digit}
 
 -- Order is decided.
@@ -55,19 +53,11 @@ module _ (text : List ℕ) (at : ℕ) where
   pub left_there : at < length text → drop at text ≡ get_or text at 0 ∷ drop (at + 1) text
   left_there l = rw (add-one at) (drop-cons text at 0 l)
 
-  -- A byte that the grammar asks for: what follows is read on,
+  -- A byte that the grammar asks for: what follows is read on.
   pub after_there : {A : Type 0} (k : ℕ) (r : List ℕ → Read A) → starts_with k (drop at text) ≡ true → after k r (drop at text) ≡ r (drop (at + 1) text)
   after_there k r e =
       let is : eqb (get_or text at 0) k ≡ true = stands_byte text at k (starts_inside k e) ∙ e in
       rw (left_there (starts_inside k e), is)
-
-  -- and the place after it is in the text.
-  pub starts_within : (k : ℕ) {b : Bool} → b ≡ starts_with k (drop at text) → b ≡ true → at + 1 ≤ length text
-  starts_within k is e = let l : at < length text = starts_inside k (sym is ∙ e) in omega arith
-
--- The place after it fits 64 bits, as the text's length does.
-pub next_fits : (text : List ℕ) (at k : ℕ) {b : Bool} → b ≡ starts_with k (drop at text) → b ≡ true → length text < 2 ^ 64 → Fits w64 (at + 1)
-next_fits text at k is e l = record { fits = omega (arith, starts_within text at k is e) }
 
 -- Where it does not stand the grammar breaks.
 pub after_none : {A : Type 0} (k : ℕ) (r : List ℕ → Read A) (t : List ℕ) → starts_with k t ≡ false → after k r t ≡ broken t

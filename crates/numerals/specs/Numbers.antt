@@ -2,17 +2,15 @@
 --     Told text x s p          the reading x is what s says, at the place p of the text
 --     said_number, number_place  what a number that was read, or a break, says in the grammar's terms, and its place
 --     Numbered text x r        r says the reading x
---     left_within              past the end of the text no more is left than at its end
+--     passed                   a break that `?` passes on is the same break
 --     Digiting                 the loop over further digits: what is left of them gives the whole
 -- Single bytes are in Bytes. Assumes nothing.
-use Rattle.std.specs.Prelude.{ℕ, zero, suc, ◌+◌, ◌-◌, ◌*◌, ◌^◌, ◌≤◌, ◌<◌, min, ◌≡◌, refl, Bool, true, false, cond, List, [], ◌∷◌, Some, None, Result, Ok, Err, length, get_or, drop}
-use Rattle.std.proofs.Common.{sym, ap, ◌∙◌, true≢false, arith, drop_of_length-le, Fits, eq-eqb, ne_eqb}
-use Rattle.std.proofs.Math.Decide.{dec_le}
-use Rattle.std.proofs.Math.Nat.{min-eq_left, min-eq_right}
+use Rattle.std.specs.Prelude.{ℕ, IsErrAnd, zero, suc, ◌+◌, ◌-◌, ◌*◌, ◌^◌, ◌≤◌, ◌<◌, ◌≡◌, refl, Bool, true, false, cond, List, [], ◌∷◌, Some, None, Result, Ok, Err, length, get_or, drop}
+use Rattle.std.proofs.Common.{sym, ap, ◌∙◌, arith, Fits, eq-eqb, ne_eqb}
 use Rattle.std.specs.Int.{w16}
 use Rattle.grammar.specs.Reading.{Read, broken, digit, further_digits, got, more_digits, read_field, read_number}
 use Rattle.grammar.proofs.Theory.NumbersExact.{digit_range}
-use Rattle.numerals.specs.Bytes.{after_none, after_there, digit_inside, digit_of, left_there, starts_with}
+use Rattle.numerals.specs.Bytes.{after_there, digit_inside, digit_of, left_there, starts_with}
 use Rattle.numerals.specs.declared.numbers.Broken.{Broken}
 use Rattle.numerals.specs.declared.numbers.Number.{Number}
 
@@ -36,6 +34,11 @@ number_place (Err b) = b.place
 -- It says a reading.
 abbrev pub Numbered : List ℕ → Read ℕ → Result Number Broken → Type 0
 Numbered text reading r = Told text reading (said_number text r) (number_place r)
+
+-- A break that `?` passes on is the same break.
+pub passed : {T E : Type 0} {e : E} (r : Result T E) → IsErrAnd r (λ y. y ≡ e) → r ≡ Err e
+passed (Err y) h = rw h
+passed (Ok x) h = absurd h
 
 -- ---- digits
 
@@ -69,13 +72,6 @@ digit_not b t h = go (digit b) h
     go : (r : Bool) → None ≡ cond r (Some (b - 48)) None → r ≡ false
     go true h = cc
     go false h = refl
-
-none_read : (t : List ℕ) → None ≡ digit_of t → read_number t ≡ broken t
-none_read [] h = refl
-none_read (b ∷ t) h =
-    let e : digit b ≡ false = digit_not b t h in
-    let apart : b ≡ 48 → ⊥ = λ q. true≢false (rw q at e) in
-    rw (ne_eqb b 48 apart, e)
 
 last_read : (k n : ℕ) (t : List ℕ) → None ≡ digit_of t → more_digits k n t ≡ got n t
 last_read zero n t h = refl
@@ -142,45 +138,24 @@ module _ {text : List ℕ} {whole : Read ℕ} {left n at : ℕ} (g : Digiting te
 
 -- ---- numbers and fields
 
-module _ (text : List ℕ) (at : ℕ) where
-  pub number_broken : None ≡ digit_of (drop at text) → at ≤ length text → Told text (read_number (drop at text)) (broken (drop at text)) at
-  number_broken is l = record { says = none_read (drop at text) is; within = l }
+module _ (text : List ℕ) (at : ℕ) {d : ℕ} (is : Some d ≡ digit_of (drop at text)) where
+  number_within : at < length text
+  number_within = digit_inside text at is
 
-  module _ {d : ℕ} (is : Some d ≡ digit_of (drop at text)) where
-    -- A first digit stands in the text.
-    pub number_begun : at + 1 ≤ length text
-    number_begun = let l : at < length text = digit_inside text at is in omega arith
+  number_left : drop at text ≡ get_or text at 0 ∷ drop (at + 1) text
+  number_left = left_there text at number_within
 
-    number_left : drop at text ≡ get_or text at 0 ∷ drop (at + 1) text
-    number_left = left_there text at (digit_inside text at is)
-
-    pub digit_small : d < 10
-    digit_small = digit_under (get_or text at 0) d (drop (at + 1) text) (rw number_left at is)
-
-    pub number_zero : d ≡ 0 → Told text (read_number (drop at text)) (got 0 (drop (at + 1) text)) (at + 1)
-    number_zero z = record { says = rw number_left (zero_read (get_or text at 0) d (drop (at + 1) text) (rw number_left at is) z); within = number_begun }
-
-    pub number_more : {s : Read ℕ} {p : ℕ} → (d ≡ 0 → ⊥) → Told text (more_digits further_digits d (drop (at + 1) text)) s p
-        → Told text (read_number (drop at text)) s p
-    number_more z t = record { says = rw number_left (begun_read (get_or text at 0) d (drop (at + 1) text) (rw number_left at is) z) ∙ t.says; within = t.within }
-
--- Past the end of the text no more is left than at its end.
-pub left_within : (at : ℕ) (text : List ℕ) → drop at text ≡ drop (min at (length text)) text
-left_within at text =
-    elim (dec_le at (length text)) [
-      | yes h ↦ rw (min-eq_left h)
-      | no h ↦
-          let past : length text ≤ at = omega arith in
-          let end : length text ≤ length text = omega arith in
-          rw (min-eq_right past, drop_of_length-le text past, drop_of_length-le text end)
-    ]
-
-module _ (text : List ℕ) (at : ℕ) {b : Bool} (is : b ≡ starts_with 44 (drop at text)) where
-  pub field_number : {s : Read ℕ} {p : ℕ} → b ≡ true → Told text (read_number (drop (at + 1) text)) s p → Told text (read_field (drop at text)) s p
-  field_number e t = record { says = after_there text at 44 read_number (sym is ∙ e) ∙ t.says; within = t.within }
-
-  pub field_broken : {p : ℕ} → b ≡ false → p ≡ min at (length text) → Told text (read_field (drop at text)) (broken (drop p text)) p
-  field_broken e q = record {
-    says = after_none 44 read_number (drop at text) (sym is ∙ e) ∙ ap broken (rw q (left_within at text));
-    within = omega arith;
+  pub number_zero : d ≡ 0 → Told text (read_number (drop at text)) (got 0 (drop (at + 1) text)) (at + 1)
+  number_zero z = record {
+    says = rw number_left (zero_read (get_or text at 0) d (drop (at + 1) text) (rw number_left at is) z);
+    within = omega (arith, number_within);
   }
+
+  pub number_more : {s : Read ℕ} {p : ℕ} → (d ≡ 0 → ⊥) → Told text (more_digits further_digits d (drop (at + 1) text)) s p
+      → Told text (read_number (drop at text)) s p
+  number_more z t = record { says = rw number_left (begun_read (get_or text at 0) d (drop (at + 1) text) (rw number_left at is) z) ∙ t.says; within = t.within }
+
+-- A number after a comma.
+pub field_number : (text : List ℕ) (at : ℕ) {s : Read ℕ} {p : ℕ} → true ≡ starts_with 44 (drop at text)
+    → Told text (read_number (drop (at + 1) text)) s p → Told text (read_field (drop at text)) s p
+field_number text at is t = record { says = after_there text at 44 read_number (sym is) ∙ t.says; within = t.within }

@@ -1,33 +1,16 @@
--- `cell_scans::cells::step_at` meets its contract, by the laws of specs/Cells. Assumes nothing.
-use Rattle.cell_scans.specs.Cells.{celling}
+-- A step, or none, stands after the comma.
+use Rattle.std.proofs.Common.{◌≡◌, ◌+◌, sym, ◌∙◌}
+use Rattle.numerals.specs.Numbers.{passed}
+use Rattle.numerals.specs.declared.numbers.Broken.{Broken}
+use Rattle.cell_scans.specs.Cells.{step_broken_lem, step_read}
 use Rattle.cell_scans.proofs.cells.step_at.Goals as goal
 
-pub stands-requires : goal.stands-requires
-stands-requires c = search celling
-
-pub overflow_add-at : goal.overflow_add-at
-overflow_add-at c = search celling
-
-pub mark_at-mark-requires : goal.mark_at-mark-requires
-mark_at-mark-requires c = search celling
-
-pub overflow_add-at-then-mark-lt2 : goal.overflow_add-at-then-mark-lt2
-overflow_add-at-then-mark-lt2 c = search celling
-
-pub letter_at-requires : goal.letter_at-requires
-letter_at-requires c = search celling
-
-pub returns-then-mark-lt2 : goal.returns-then-mark-lt2
-returns-then-mark-lt2 c = search celling
-
-pub overflow_add-result : goal.overflow_add-result
-overflow_add-result c = search celling
-
-pub returns-then-stands : goal.returns-then-stands
-returns-then-stands c = search celling
-
-pub within-requires : goal.within-requires
-within-requires c = search celling
+pub returns-in_err-mark : goal.returns-in_err-mark
+returns-in_err-mark c =
+    let k = rw c.in_err-mark.ensures.ok_part at c.in_err-mark.ensures.value in
+    let e : ◌≡◌ {A = Broken} c.in_err-mark.field-0.0 (record { place = c.args.at + 1 }) = cc in
+    rw (passed c.from_residual.result c.from_residual.ensures.1, e)
+    (step_broken_lem _ _ c.if-not-stands.ensures (sym c.in_err-mark.ensures.ok_part ∙ c.mark_at.ensures))
 
 pub returns : goal.returns
-returns c = search celling
+returns c = step_read _ _ c.if-not-stands.ensures (sym c.in_ok-mark.ensures.ok_part ∙ c.mark_at.ensures)
