@@ -1,3 +1,2 @@
 -- What the contracts of the table's notation cite. Assumes nothing.
-pub mod Bounds
 pub mod Digits

@@ -3,7 +3,8 @@
 #![tactic(auto)]
 
 pub mod answers;
-pub mod fields;
-pub mod lists;
+pub mod arguments;
+mod items;
 pub mod printing;
 pub mod source;
+pub mod texts;
