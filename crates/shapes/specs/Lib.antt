@@ -1,3 +1,4 @@
 pub mod Clear
 pub mod Faults
+pub mod Found
 pub mod Rising

@@ -9,13 +9,15 @@ ghost use Rattle.refusals.specs.Said.{said_fault, said_verdict};
 use refusals::refusal::Refusal;
 
 // The largest mark of a step between two letters: none goes down between equals.
+#[tactic(auto, using(crate::specs::Faults::scanning))]
 fn largest_mark(before: u8, here: u8) -> u8
     ensures { result ≡ largest_mark before here }
 {
-    if before == here { 0 } else { 1 }
+    u8::from(before != here)
 }
 
 // Whether the mark at a place is not 0 or 1, not 0 at the first place, or down between equals.
+#[tactic(auto, using(crate::specs::Faults::scanning))]
 fn mark_wrong(letters: &[u8], marks: &[u8], place: usize) -> bool
     requires { (place < length letters.now) × (place < length marks.now) }
     ensures { result ≡ mark_fault letters.now marks.now place }
@@ -28,20 +30,20 @@ fn mark_wrong(letters: &[u8], marks: &[u8], place: usize) -> bool
 }
 
 // Whether a mark is wrong at any of the places that both lists have. The loop leaves at no place, so that the compiled code takes many marks at once.
+#[tactic(auto, using(crate::specs::Faults::scanning))]
 fn some_mark_wrong(letters: &[u8], marks: &[u8], size: usize) -> bool
     requires { size ≡ min (length letters.now) (length marks.now) }
     ensures { Cleared (marks_judged letters.now marks.now) result }
 {
     let mut wrong = false;
-    let mut place = 0;
-    while place < size {
-        wrong = wrong | mark_wrong(letters, marks, place);
-        place += 1;
+    for place in 0..size {
+        wrong |= mark_wrong(letters, marks, place);
     }
     wrong
 }
 
 // Where the first wrong mark stands, if there is one.
+#[tactic(auto, using(crate::specs::Faults::scanning))]
 pub fn mark_fault(letters: &[u8], marks: &[u8]) -> Option<usize>
     ensures { said_fault 6 result ≡ marks_judged letters.now marks.now }
 {
@@ -49,14 +51,7 @@ pub fn mark_fault(letters: &[u8], marks: &[u8]) -> Option<usize>
     if !some_mark_wrong(letters, marks, size) {
         return None;
     }
-    let mut i = 0;
-    while i < size {
-        if mark_wrong(letters, marks, i) {
-            return Some(i);
-        }
-        i += 1;
-    }
-    None
+    (0..size).find(|place| mark_wrong(letters, marks, *place))
 }
 
 // The verdict of 6 from that place.

@@ -8,6 +8,7 @@ ghost use Rattle.shapes.specs.Faults.{fall_fault};
 use refusals::refusal::Refusal;
 
 // Whether the letter at a place is smaller than the one before it.
+#[tactic(auto, using(crate::specs::Faults::scanning))]
 fn letter_falls(letters: &[u8], place: usize) -> bool
     requires { (1 ≤ place) × (place < length letters.now) }
     ensures { result ≡ fall_fault letters.now place }
@@ -16,33 +17,26 @@ fn letter_falls(letters: &[u8], place: usize) -> bool
 }
 
 // Whether a letter falls anywhere. The loop leaves at no place, so that the compiled code takes many letters at once.
+#[tactic(auto, using(crate::specs::Faults::scanning))]
 fn some_letter_falls(letters: &[u8]) -> bool
     ensures { Cleared (rising_judged letters.now) result }
 {
     let mut wrong = false;
-    let mut place = 1;
-    while place < letters.len() {
-        wrong = wrong | letter_falls(letters, place);
-        place += 1;
+    for place in 1..letters.len() {
+        wrong |= letter_falls(letters, place);
     }
     wrong
 }
 
 // Where the first letter that is smaller than the one before it stands, if there is one.
+#[tactic(auto, using(crate::specs::Faults::scanning))]
 pub fn rising_fault(letters: &[u8]) -> Option<usize>
     ensures { said_fault 5 result ≡ rising_judged letters.now }
 {
     if !some_letter_falls(letters) {
         return None;
     }
-    let mut i = 1;
-    while i < letters.len() {
-        if letter_falls(letters, i) {
-            return Some(i);
-        }
-        i += 1;
-    }
-    None
+    (1..letters.len()).find(|place| letter_falls(letters, *place))
 }
 
 // The verdict of 5 from that place.
@@ -56,6 +50,7 @@ pub fn rising_verdict(fault: Option<usize>) -> Result<(), Refusal>
 }
 
 // 5: the letters never fall along the ribbon.
+#[tactic(auto, using(crate::specs::Faults::scanning))]
 pub fn check_rising(letters: &[u8]) -> Result<(), Refusal>
     ensures { said_verdict result ≡ rising_judged letters.now }
 {

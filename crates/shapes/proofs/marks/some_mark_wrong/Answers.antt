@@ -2,23 +2,5 @@
 use Rattle.shapes.specs.Faults.{scanning}
 use Rattle.shapes.proofs.marks.some_mark_wrong.Goals as goal
 
-pub loop-place-init : goal.loop-place-init
-loop-place-init c = search scanning
-
-pub mark_wrong-requires : goal.mark_wrong-requires
-mark_wrong-requires c = search scanning
-
-pub either-wrong-requires : goal.either-wrong-requires
-either-wrong-requires c = search scanning
-
-pub overflow_add-place : goal.overflow_add-place
-overflow_add-place c = search scanning
-
-pub loop-place-smaller : goal.loop-place-smaller
-loop-place-smaller c = search scanning
-
 pub loop-place-preserved : goal.loop-place-preserved
 loop-place-preserved c = search scanning
-
-pub returns : goal.returns
-returns c = search scanning

@@ -1,30 +1,15 @@
--- `shapes::rising::rising_fault` meets its contract, by the laws of specs/Faults and Clear, and refusals' specs/Scanning. Assumes nothing.
-use Rattle.shapes.specs.Faults.{scanning}
+-- `shapes::rising::rising_fault` meets its contract: what `find` ensures is the first fault, and without one the first pass has told so. Assumes nothing.
+use borrow.Author.Tests.{tests}
+use Rattle.std.proofs.Common.{rules, length}
+use Rattle.std.specs.Prelude.{◌≡◌, true, false}
+use Rattle.std.proofs.lemmas.Iterator.{first_from_Range}
+use Rattle.shapes.specs.Faults.{fall_fault, start-rising}
+use Rattle.shapes.specs.Found.{IsFirst, first_said}
 use Rattle.shapes.proofs.rising.rising_fault.Goals as goal
 
-pub some_letter_falls-requires : goal.some_letter_falls-requires
-some_letter_falls-requires c = search scanning
-
-pub returns-then-not-some_letter_falls : goal.returns-then-not-some_letter_falls
-returns-then-not-some_letter_falls c = search scanning
-
-pub loop-i-init : goal.loop-i-init
-loop-i-init c = search scanning
-
-pub letter_falls-requires : goal.letter_falls-requires
-letter_falls-requires c = search scanning
-
-pub returns-then-letter_falls : goal.returns-then-letter_falls
-returns-then-letter_falls c = search scanning
-
-pub overflow_add-i : goal.overflow_add-i
-overflow_add-i c = search scanning
-
-pub loop-i-smaller : goal.loop-i-smaller
-loop-i-smaller c = search scanning
-
-pub loop-i-preserved : goal.loop-i-preserved
-loop-i-preserved c = search scanning
-
 pub returns : goal.returns
-returns c = search scanning
+returns c =
+    let e : IsFirst (fall_fault c.args.letters.now) 1 (length c.args.letters.now) c.find.result =
+    first_from_Range _ _ _ _ (λ k. fall_fault c.args.letters.now k ≡ true) (λ k. fall_fault c.args.letters.now k ≡ false) c.find.ensures.ran
+    (λ x q k. search (rules, tests)) (λ x q k. search (rules, tests)) in
+    first_said c.find.result (start-rising c.args.letters.now) e
