@@ -16,6 +16,7 @@ use Rattle.std.specs.Int.Bits.{bit_or, bit_and}
 use Rattle.std.proofs.lemmas.Nat.{and_mask}
 use Rattle.std.specs.Int.Count.{ones}
 use Rattle.std.specs.Int.{w64}
+use mir.Val.{bool_byte}
 use Rattle.hypoplactic.specs.Words.{Accepted, Within, count, occurs, tick}
 use Rattle.hypoplactic.specs.Places.{first_place, last_place, or_place}
 use Rattle.hypoplactic.specs.Junctions.{next_larger, left_of, junction, number, junction_set, rows_of}
@@ -67,13 +68,6 @@ bit_masked set zero h = let z : ⊥ = omega arith in absurd z
 bit_masked set (suc a) h =
     let e : suc a - 1 ≡ a = omega arith in
     rw (e, and_mask (set / 2 ^ a) 1)
-
--- A test as a bit.
-pub bit_set : (x y : ℕ) → x < y → 1 ≡ tick (ltb x y) 0
-bit_set x y h = rw (lt-ltb x y h)
-
-pub bit_clear : (x y : ℕ) → y ≤ x → 0 ≡ tick (ltb x y) 0
-bit_clear x y h = rw (le-ltb x y h)
 
 -- ---- one letter more
 
@@ -132,9 +126,14 @@ building_start n w h = record {
   ahead = rw (none_above n n w h.letters (omega arith)) (omega (arith, h.short));
 }
 
+-- A bit of code is that of its test.
+byte : (b : Bool) → bool_byte b ≡ tick b 0
+byte true = refl
+byte false = refl
+
 -- One letter down: its bit by its last place, and its first place unless it does not occur.
 pub building_turn : (w : List ℕ) (a set next b n : ℕ) (first last : List ℕ) → Placed w first last → Building w a set next → 0 < a
-    → b ≡ tick (ltb next (get_or last (a - 1) 0)) 0 → n ≡ or_place (get_or first (a - 1) 0) next → Building w (a - 1) (bit_or (set * 2 ^ 1 % 2 ^ 64) b) n
+    → b ≡ bool_byte (ltb next (get_or last (a - 1) 0)) → n ≡ or_place (get_or first (a - 1) 0) next → Building w (a - 1) (bit_or (set * 2 ^ 1 % 2 ^ 64) b) n
 building_turn w zero set next b n first last p t h e o = let z : ⊥ = omega arith in absurd z
 building_turn w (suc a) set next b n first last p t h e o = rw down record {
   reached = omega (arith, t.reached);
@@ -151,7 +150,7 @@ building_turn w (suc a) set next b n first last p t h e o = rw down record {
     under = omega (arith, t.reached)
 
     bit : b ≡ tick (junction w (suc a)) 0
-    bit = rw (junction-places w (suc a) next t.ahead, ← (p.lasts.entry a under), ← down) e
+    bit = rw (junction-places w (suc a) next t.ahead, ← (p.lasts.entry a under), ← down) (e ∙ byte (ltb next (get_or last (suc a - 1) 0)))
 
     place : n ≡ or_place (first_place (suc a) w) next
     place = rw (← (p.firsts.entry a under), ← down) o
@@ -190,8 +189,6 @@ pub ruleset building = (
   bit_none,
   bit_above,
   bit_masked,
-  bit_set,
-  bit_clear,
   building_start,
   building_turn,
   building_end,
