@@ -1,19 +1,18 @@
 -- The tally of a ribbon's marks in a row of 21 numbers, one more mark for each turn, from the last mark to the first.
 --     orders_given ms                the orders of at most 20 marks, and 0 of more
---     Rowing ms row numbers i       the row has the tally of the marks from i on, so many numbers, and zeros after it
+--     Rowing ms row numbers left     the row has the tally of the marks behind those left, so many numbers, and zeros after it
 --     rowing                        the ruleset of the count
 -- Assumes nothing.
-use Rattle.std.specs.Prelude.{ℕ, suc, ◌+◌, ◌-◌, ◌≤◌, ◌<◌, ◌≡◌, refl, cond, List, [], ◌∷◌, ◌++◌, ltb, length, get_or, set, take, drop, replicate}
-use Rattle.std.proofs.Common.{sym, ap, ap₂, ◌∙◌, add-one, arith, drop_of_length-le, length-append, length-drop, drop-cons, Fits, rules, le-ltb, lt-ltb}
-use Rattle.std.proofs.lemmas.List.{length-replicate}
+use Rattle.std.specs.Prelude.{ℕ, suc, ◌+◌, ◌-◌, ◌^◌, ◌≤◌, ◌<◌, ◌≡◌, refl, cond, List, [], ◌∷◌, ◌++◌, ltb, length, get_or, set, sum, take, drop, replicate}
+use Rattle.std.proofs.Common.{sym, ap, ap₂, ◌∙◌, add-one, append_assoc, append-nil, arith, drop_of_length-le, length-append, length-drop, drop-cons, Fits, rules, le-ltb, lt-ltb}
+use Rattle.std.proofs.lemmas.List.{length-replicate, nil_from_length}
 use Rattle.std.proofs.Math.Seq.{drop-append-add, take-append-add}
 use Rattle.std.specs.Int.{w64}
-use borrow.Rule.Slice.PartMut.{mid_of, put_mid}
 use Rattle.numbering.specs.Compositions.{total}
-use Rattle.numbering.specs.Orders.{across, head_of, orders, tally}
+use Rattle.numbering.specs.Orders.{head_of, orders, tally}
 use Rattle.numbering.proofs.Theory.Counting.{length-tally}
 use Rattle.numbering.proofs.Theory.Bounds.{tally_19}
-use Rattle.ribbon_orders.specs.Sweeps.{swept, swept_across, total_zero}
+use Rattle.ribbon_orders.specs.Sweeps.{swept, swept_across, total_told, total_zero}
 
 unfoldable pub orders_given : List ℕ → ℕ
 orders_given ms = cond (ltb 20 (length ms)) 0 (orders ms)
@@ -28,92 +27,81 @@ pub orders-some : (ms : List ℕ) → length ms ≤ 20 → orders_given ms ≡ o
 unfolding orders_given
 orders-some ms l = rw (le-ltb 20 (length ms) l)
 
--- The tally of the marks from i on, and zeros.
-pub record Rowing (ms row : List ℕ) (numbers i : ℕ) : Type 0 where
+-- Of marks of which `left` are still to pass: the tally of those behind them, and zeros.
+pub record Rowing (ms row : List ℕ) (numbers : ℕ) (left : List ℕ) : Type 0 where
+  pub passed : List ℕ
   pub short : length ms ≤ 20
-  pub reached : i ≤ length ms
-  pub counted : numbers + i ≡ suc (length ms)
-  pub is : row ≡ tally (drop i ms) ++ replicate (21 - numbers) 0
+  pub whole : ms ≡ left ++ passed
+  pub counted : numbers ≡ suc (length passed)
+  pub is : row ≡ tally passed ++ replicate (21 - numbers) 0
 
-pub rowing_start : (ms : List ℕ) → length ms ≤ 20 → Rowing ms (set (replicate 21 0) 0 1) 1 (length ms)
-rowing_start ms l =
-    let all : length ms ≤ length ms = omega arith in
-    record {
-      short = l;
-      reached = omega arith;
-      counted = omega arith;
-      is = sym (ap (λ (ns : List ℕ). tally ns ++ replicate 20 0) (drop_of_length-le ms all));
-    }
+pub rowing_start : (ms : List ℕ) → length ms ≤ 20 → Rowing ms (set (replicate 21 0) 0 1) 1 ms
+rowing_start ms l = record { passed = []; short = l; whole = sym (append-nil ms); counted = refl; is = refl }
 
-module _ {ms row : List ℕ} {numbers i : ℕ} (h : Rowing ms row numbers i) where
-  tallied : length (tally (drop i ms)) ≡ numbers
-  tallied = length-tally (drop i ms) ∙ omega (arith, length-drop i ms, h.counted, h.reached)
+module _ {ms row left : List ℕ} {numbers : ℕ} (h : Rowing ms row numbers left) where
+  reached : numbers + length left ≡ suc (length ms)
+  reached = omega (arith, ap length h.whole, length-append left h.passed, h.counted)
 
-  long : length row ≡ 21
-  long =
-      ap length h.is ∙ length-append (tally (drop i ms)) _
-      ∙ omega (arith, tallied, length-replicate {A = ℕ} (21 - numbers) 0, h.counted, h.short)
+  tallied : length (tally h.passed) ≡ numbers
+  tallied = length-tally h.passed ∙ sym h.counted
 
-  pub row_begun : 0 < length row
-  row_begun = omega (arith, long)
+  pub row_long : length row ≡ 21
+  row_long =
+      ap length h.is ∙ length-append (tally h.passed) _ ∙ omega (arith, tallied, length-replicate {A = ℕ} (21 - numbers) 0, reached, h.short)
 
-  pub numbers_fit : Fits w64 (numbers + 1)
-  numbers_fit = record { fits = omega (arith, h.counted, h.short) }
+  -- One mark more is to pass.
+  module _ (more : List ℕ) (m : ℕ) (e : left ≡ more ++ (m ∷ [])) where
+    below : numbers ≤ 20
+    below = omega (arith, reached, h.short, ap length e, length-append more (m ∷ []))
 
-  module _ (l : 0 < i) where
+    pub numbers_fit : Fits w64 (numbers + 1)
+    numbers_fit = record { fits = omega (arith, below) }
+
     pub part_within : numbers + 1 ≤ length row
-    part_within = omega (arith, long, h.counted, h.short)
+    part_within = omega (arith, row_long, below)
 
     zeros : replicate {A = ℕ} (21 - numbers) 0 ≡ 0 ∷ replicate (21 - suc numbers) 0
-    zeros = let e : 21 - numbers ≡ suc (21 - suc numbers) = omega (arith, h.counted, h.short) in ap (λ (k : ℕ). replicate {A = ℕ} k 0) e
-
-    part : numbers + 1 - 0 ≡ numbers + 1
-    part = omega arith
+    zeros = let n : 21 - numbers ≡ suc (21 - suc numbers) = omega (arith, below) in ap (λ (k : ℕ). replicate {A = ℕ} k 0) n
 
     -- The part that a sweep is lent is the tally and an unused 0.
-    lent : mid_of 0 (numbers + 1 - 0) row ≡ tally (drop i ms) ++ (0 ∷ [])
+    lent : take (numbers + 1) row ≡ tally h.passed ++ (0 ∷ [])
     lent =
-        ap₂ take (part ∙ ap (λ (k : ℕ). k + 1) (sym tallied)) (h.is ∙ ap (λ (zs : List ℕ). tally (drop i ms) ++ zs) zeros)
-        ∙ take-append-add (tally (drop i ms)) (0 ∷ replicate (21 - suc numbers) 0) 1
+        ap₂ take (ap (λ (k : ℕ). k + 1) (sym tallied)) (h.is ∙ ap (λ (zs : List ℕ). tally h.passed ++ zs) zeros)
+        ∙ take-append-add (tally h.passed) (0 ∷ replicate (21 - suc numbers) 0) 1
 
     -- Its sum fits 64 bits.
-    pub part_fits : Fits w64 (total (mid_of 0 (numbers + 1 - 0) row))
+    pub part_fits : sum (take (numbers + 1) row) < 2 ^ 64
     part_fits =
-        let sum : total (mid_of 0 (numbers + 1 - 0) row) ≡ total (tally (drop i ms)) = ap total lent ∙ total_zero (tally (drop i ms)) in
-        record { fits = omega (arith, sum, tally_19 (drop i ms) (omega (arith, length-drop i ms, h.short))) }
+        let all : total (take (numbers + 1) row) ≡ total (tally h.passed) = ap total lent ∙ total_zero (tally h.passed) in
+        let few : length h.passed ≤ 19 = omega (arith, h.counted, below) in
+        omega (arith, total_told (take (numbers + 1) row), all, tally_19 h.passed few)
 
     -- Swept, it is the tally of one mark more.
-    pub rowing_turn : {ys : List ℕ} → ys ≡ swept (get_or ms (i - 1) 0) 0 (mid_of 0 (numbers + 1 - 0) row)
-        → Rowing ms (put_mid 0 (numbers + 1 - 0) row ys) (numbers + 1) (i - 1)
-    rowing_turn {ys} e =
-        let past : i - 1 < length ms = omega (arith, h.reached) in
-        let next : suc (i - 1) ≡ i = omega arith in
-        record {
-          short = h.short;
-          reached = omega arith;
-          counted = omega (arith, h.counted);
-          is = ap₂ ◌++◌ (e ∙ ap (swept (get_or ms (i - 1) 0) 0) lent ∙ swept_across (get_or ms (i - 1) 0) 0 (tally (drop i ms)) ∙ one past next) rest;
-        }
+    pub rowing_turn : {ys : List ℕ} → ys ≡ swept m 0 (take (numbers + 1) row) → Rowing ms (ys ++ drop (numbers + 1) row) (numbers + 1) more
+    rowing_turn {ys} s = record {
+      passed = m ∷ h.passed;
+      short = h.short;
+      whole = h.whole ∙ ap (λ (xs : List ℕ). xs ++ h.passed) e ∙ append_assoc more (m ∷ []) h.passed;
+      counted = omega (arith, h.counted);
+      is = ap₂ ◌++◌ (s ∙ ap (swept m 0) lent ∙ swept_across m 0 (tally h.passed)) rest;
+    }
       where
-        one : i - 1 < length ms → suc (i - 1) ≡ i → across (get_or ms (i - 1) 0) 0 (tally (drop i ms)) ≡ tally (drop (i - 1) ms)
-        one past next = sym (ap tally (drop-cons ms (i - 1) 0 past ∙ ap (λ (k : ℕ). get_or ms (i - 1) 0 ∷ drop k ms) next))
-
-        rest : drop (numbers + 1 - 0) row ≡ replicate (21 - (numbers + 1)) 0
+        rest : drop (numbers + 1) row ≡ replicate (21 - (numbers + 1)) 0
         rest =
-            ap₂ drop (part ∙ ap (λ (k : ℕ). k + 1) (sym tallied)) (h.is ∙ ap (λ (zs : List ℕ). tally (drop i ms) ++ zs) zeros)
-            ∙ drop-append-add (tally (drop i ms)) (0 ∷ replicate (21 - suc numbers) 0) 1
+            ap₂ drop (ap (λ (k : ℕ). k + 1) (sym tallied)) (h.is ∙ ap (λ (zs : List ℕ). tally h.passed ++ zs) zeros)
+            ∙ drop-append-add (tally h.passed) (0 ∷ replicate (21 - suc numbers) 0) 1
             ∙ rw (add-one numbers) refl
 
 -- All marks are passed.
-pub rowing_end : {ms row : List ℕ} {numbers i : ℕ} → Rowing ms row numbers i → i ≤ 0 → get_or row 0 0 ≡ orders_given ms
+pub rowing_end : {ms row left : List ℕ} {numbers : ℕ} → Rowing ms row numbers left → length left ≡ 0 → get_or row 0 0 ≡ orders_given ms
 unfolding orders
-rowing_end {ms} {row} {numbers} {i} h l =
-    let all : i ≡ 0 = omega arith in
-    ap (λ (xs : List ℕ). get_or xs 0 0) (h.is ∙ ap (λ (k : ℕ). tally (drop k ms) ++ replicate (21 - numbers) 0) all)
+rowing_end {ms} {row} {left} {numbers} h l =
+    let all : ms ≡ h.passed = h.whole ∙ ap (λ (xs : List ℕ). xs ++ h.passed) (nil_from_length left l) in
+    ap (λ (xs : List ℕ). get_or xs 0 0) (h.is ∙ ap (λ (xs : List ℕ). tally xs ++ replicate (21 - numbers) 0) (sym all))
     ∙ begins (tally ms) (replicate (21 - numbers) 0) (length-tally ms) ∙ sym (orders-some ms h.short)
   where
     begins : (xs ys : List ℕ) → length xs ≡ suc (length ms) → get_or (xs ++ ys) 0 0 ≡ head_of xs
     begins [] ys e = let z : ⊥ = omega arith in absurd z
     begins (x ∷ xs) ys e = refl
 
-pub ruleset rowing = (orders-none, rowing_start, row_begun, numbers_fit, part_within, part_fits, rowing_turn, rowing_end, rules)
+pub ruleset rowing = (orders-none, rowing_start, row_long, numbers_fit, part_within, part_fits, rowing_turn, rowing_end, rules)

@@ -3,12 +3,13 @@
 --     total_zero                           an unused 0 adds nothing
 --     swept_across                         of a tally and an unused 0 that is the tally across the step
 --     allowed_right, allowed_down, allowed_free      what a step allows, by cases of its mark
---     Adding xs i sum                      the first i numbers are added up
+--     total_told                           a total is what std calls a sum
 --     Sweeping m xs now i before           the first i numbers are replaced, and before is their old sum
---     sweeping                             the ruleset of sums and sweeps
+--     sweeping                             the ruleset of sweeps
 -- Assumes nothing.
-use Rattle.std.specs.Prelude.{ℕ, zero, suc, ◌+◌, ◌-◌, ◌≤◌, ◌<◌, ◌≡◌, refl, List, [], ◌∷◌, ◌++◌, length, get_or, set, take, drop}
+use Rattle.std.specs.Prelude.{ℕ, zero, suc, ◌+◌, ◌-◌, ◌^◌, ◌≤◌, ◌<◌, ◌≡◌, refl, List, [], ◌∷◌, ◌++◌, length, get_or, set, sum, take, drop}
 use Rattle.std.proofs.Common.{sym, ap, ap₂, ◌∙◌, append-nil, add-zero, add-one, arith, length-set, drop_of_length-le, drop-cons, drop-drop, drop-set-lt, get_or-drop, take_all, take-suc-set, Fits, rules}
+use Rattle.std.proofs.lemmas.List.Recursion.{is_sum_by}
 use Rattle.std.proofs.Math.Seq.{append_snoc}
 use Rattle.std.specs.Int.{w64}
 use Rattle.numbering.specs.Compositions.{total}
@@ -29,28 +30,13 @@ allowed_free (suc (suc m)) before all e f l = omega arith
 
 -- ---- sums
 
--- The first i numbers are added up.
-pub record Adding (xs : List ℕ) (i sum : ℕ) : Type 0 where
-  pub fits : Fits w64 (total xs)
-  pub reached : i ≤ length xs
-  pub is : sum + total (drop i xs) ≡ total xs
-
-pub adding_start : (xs : List ℕ) → Fits w64 (total xs) → Adding xs 0 0
-adding_start xs f = record { fits = f; reached = omega arith; is = omega arith }
+-- As std says it.
+pub total_told : (xs : List ℕ) → total xs ≡ sum xs
+total_told xs = is_sum_by total (λ x. x) refl (λ x xs. refl) xs
 
 -- What is left begins with the number at place i.
 total_next : (xs : List ℕ) (i : ℕ) → i < length xs → total (drop i xs) ≡ get_or xs i 0 + total (drop (suc i) xs)
 total_next xs i l = ap total (drop-cons xs i 0 l)
-
-module _ {xs : List ℕ} {i sum : ℕ} (h : Adding xs i sum) where
-  pub adding_fits : i < length xs → Fits w64 (sum + get_or xs i 0)
-  adding_fits l = record { fits = omega (arith, h.is, h.fits.fits, total_next xs i l) }
-
-  pub adding_turn : i < length xs → Adding xs (i + 1) (sum + get_or xs i 0)
-  adding_turn l = rw (add-one i) (record { fits = h.fits; reached = l; is = omega (arith, h.is, total_next xs i l) })
-
-  pub adding_end : length xs ≤ i → sum ≡ total xs
-  adding_end l = let none : total (drop i xs) ≡ 0 = ap total (drop_of_length-le xs l) in omega (arith, h.is)
 
 -- ---- sweeps
 
@@ -69,7 +55,7 @@ swept_across m before (x ∷ xs) = ap₂ (λ (k : ℕ) (ys : List ℕ). allowed 
 
 -- The first i numbers are replaced.
 pub record Sweeping (m : ℕ) (xs now : List ℕ) (all i before : ℕ) : Type 0 where
-  pub fits : Fits w64 (total xs)
+  pub fits : total xs < 2 ^ 64
   pub whole : all ≡ total xs
   pub reached : i ≤ length xs
   pub long : length now ≡ length xs
@@ -77,9 +63,16 @@ pub record Sweeping (m : ℕ) (xs now : List ℕ) (all i before : ℕ) : Type 0 
   pub kept : drop i now ≡ drop i xs
   pub done : take i now ++ swept m before (drop i xs) ≡ swept m 0 xs
 
-pub sweeping_start : (m : ℕ) (xs : List ℕ) (all : ℕ) → Fits w64 (total xs) → all ≡ total xs → Sweeping m xs xs all 0 0
-sweeping_start m xs all f e =
-    record { fits = f; whole = e; reached = omega arith; long = refl; passed = omega (arith, e); kept = refl; done = refl }
+pub sweeping_start : (m : ℕ) (xs : List ℕ) (all : ℕ) → sum xs < 2 ^ 64 → all ≡ sum xs → Sweeping m xs xs all 0 0
+sweeping_start m xs all f e = record {
+  fits = rw (total_told xs) f;
+  whole = rw (total_told xs) e;
+  reached = omega arith;
+  long = refl;
+  passed = omega (arith, e, total_told xs);
+  kept = refl;
+  done = refl;
+}
 
 module _ {m : ℕ} {xs now : List ℕ} {all i before : ℕ} (h : Sweeping m xs now all i before) where
   -- The number in hand is still the old one.
@@ -95,7 +88,7 @@ module _ {m : ℕ} {xs now : List ℕ} {all i before : ℕ} (h : Sweeping m xs n
   pub before_fits : i < length now → Fits w64 (before + get_or now i 0)
   before_fits l =
       let m : i < length xs = omega (arith, h.long) in
-      record { fits = omega (arith, here m, h.passed, h.whole, h.fits.fits, total_next xs i m) }
+      record { fits = omega (arith, here m, h.passed, h.whole, h.fits, total_next xs i m) }
 
   pub sweeping_turn : {v : ℕ} → i < length now → v ≡ allowed m before (all - before) → Sweeping m xs (set now i v) all (i + 1) (before + get_or now i 0)
   sweeping_turn {v} l e =
@@ -132,10 +125,6 @@ pub ruleset sweeping = (
   allowed_right,
   allowed_down,
   allowed_free,
-  adding_start,
-  adding_fits,
-  adding_turn,
-  adding_end,
   sweeping_start,
   before_under,
   before_fits,

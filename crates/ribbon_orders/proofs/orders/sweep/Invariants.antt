@@ -1,11 +1,10 @@
--- `ribbon_orders::orders::sweep` meets its contract, by the laws of specs/Sweeps. The invariant: the first i numbers are replaced. Assumes nothing.
-use Prim.Native.Nat.{◌-◌}
-use lib.ListN.{length}
+-- The invariants: the numbers before the index are added up; the numbers before place i are replaced.
+use Rattle.std.specs.Prelude.{◌≡◌, sum, take}
 use Rattle.ribbon_orders.specs.Sweeps.{Sweeping}
 use Rattle.ribbon_orders.proofs.orders.sweep.Given as goal
 
-abbrev pub invariant-loop-i : goal.invariant-loop-i
-invariant-loop-i l = Sweeping l.mark l.initial.row l.row l.all l.i l.before
+abbrev pub invariant-loop-number : goal.invariant-loop-number
+invariant-loop-number l = l.all ≡ sum (take l.number-index l.fn.row)
 
-abbrev pub decreases-loop-i : goal.decreases-loop-i
-decreases-loop-i l = length l.initial.row - l.i
+abbrev pub invariant-loop-place : goal.invariant-loop-place
+invariant-loop-place l = Sweeping l.mark l.initial.row l.row l.all l.place-index l.before
