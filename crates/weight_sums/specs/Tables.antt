@@ -5,7 +5,6 @@
 --     Summing                  both sums and both answers so far
 --     sum_small                what the step asks
 --     start, turn, end         no letter; one letter more; past the last
---     answered, next_decides   what tests decide
 --     summing                  the ruleset of the comparison of tables
 -- Assumes nothing.
 use Rattle.std.specs.Prelude.{ℕ, zero, suc, ◌+◌, ◌*◌, ◌≤◌, ◌<◌, ◌≡◌, refl, List, [], ◌∷◌, Bool, true, ◌&&◌, leb, get_or}
@@ -76,15 +75,4 @@ end cs ds i a b low high h l e =
     e ∙ ap₂ (λ (p q : Bool). gives (comparison_number (comparison p q) ∷ []))
     (h.at_most ∙ ap (λ (k : ℕ). sums_at_most k cs ds) all) (h.at_least ∙ ap (λ (k : ℕ). sums_at_most k ds cs) all)
 
--- ---- tests
-
--- The answer from the two tests.
-pub answered : {low high p q : Bool} {k : ℕ} → low ≡ p → high ≡ q → comparison_number (comparison p q) ≡ k
-    → gives (k ∷ []) ≡ gives (comparison_number (comparison low high) ∷ [])
-answered e f g = rw (e, f, g)
-
--- A test that passed leaves the next to decide.
-pub next_decides : (a b : Bool) → a ≡ true → b ≡ (a && b)
-next_decides a b e = rw e
-
-pub ruleset summing = (sum_small, start, turn, end, answered, next_decides, rules)
+pub ruleset summing = (sum_small, start, turn, end, rules)

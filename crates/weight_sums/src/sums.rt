@@ -18,7 +18,7 @@ pub(crate) fn next_sums(sums: Sums, first_count: u16, second_count: u16) -> Sums
         × Grown sums.second result.second }
 {
     Sums {
-        first: sums.first + first_count as usize,
-        second: sums.second + second_count as usize,
+        first: sums.first + usize::from(first_count),
+        second: sums.second + usize::from(second_count),
     }
 }
