@@ -12,7 +12,7 @@ use Rattle.outcomes.specs.Judgements.{outside, entries_judged, step_broken, reco
 use Rattle.outcomes.specs.FirstPlaces.{shorter}
 use Rattle.outcomes.specs.Replies.{gives, refused}
 use Rattle.outcomes.proofs.Theory.FirstPlaces.{entries_scan, recording_scan}
-use Rattle.refusals.specs.Scanning.{Scanning, scan_from, scan_from_lem, start, turn, found, none}
+use Rattle.refusals.specs.Scanning.{Scanning, scan_from, scan_from_lem, start, turn, found, none, fault_said, fault_decides}
 use Rattle.shapes.specs.Clear.{clearing}
 use Rattle.recordings.specs.Seen.{InTable, Judged, Met, Reaches, Seen}
 use Rattle.shapes.specs.Faults.{shorter_size}
@@ -100,4 +100,4 @@ start_steps (r ∷ rs) (m ∷ ms) e =
     (λ q l. let e : 1 + q - 1 ≡ q = omega arith in let f : 1 + q ≡ suc q = omega arith in rw (e, f)))
     (omega (arith, shorter_size rs ms))
 
-pub ruleset stepping = (turn, found, none, start_steps, step_right, step_down, clearing, rules)
+pub ruleset stepping = (turn, found, none, fault_said, fault_decides, start_steps, step_right, step_down, clearing, rules)

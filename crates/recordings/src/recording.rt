@@ -4,59 +4,9 @@ ghost use Rattle.outcomes.specs.Judgements.{entries_judged, outside, recording_j
 ghost use Rattle.shapes.specs.Clear.{Cleared};
 ghost use Rattle.recordings.specs.Entries.{step_fault};
 ghost use Rattle.recordings.specs.Seen.{InTable, Judged, Met, Reaches, Seen};
-ghost use Rattle.refusals.specs.Said.{said_verdict};
+ghost use Rattle.refusals.specs.Said.{said_fault, said_verdict};
 
 use refusals::refusal::Refusal;
-
-// Whether an entry is 0, above the limit, or met before: its bit in the table, bit (entry - 1) % 64 of word (entry - 1) / 64.
-fn entry_wrong(limit: usize, seen: &[u64], entry: u16) -> bool
-    requires { Reaches (length seen.now) limit }
-    ensures { Judged limit seen.now entry result }
-{
-    let number = entry as usize;
-    if number < 1 {
-        return true;
-    }
-    if limit < number {
-        return true;
-    }
-    let at = number - 1;
-    ((seen[at / 64] >> (at % 64)) & 1) == 1
-}
-
-// Sets the bit of an entry.
-fn meet(seen: &mut [u64], entry: u16)
-    requires { InTable (length seen.old) entry }
-    ensures { Met seen.old entry seen.new }
-{
-    let at = entry as usize - 1;
-    seen[at / 64] = seen[at / 64] | (1 << (at % 64));
-}
-
-// 7 with a table of bits, one for each entry that can pass, all 0 at first.
-fn scan_entries(limit: usize, entries: &[u16], seen: &mut [u64]) -> Result<(), Refusal>
-    requires seen { Seen seen.old [] }
-    requires reaches { Reaches (length seen.old) limit }
-    ensures { said_verdict result ≡ entries_judged limit entries.now }
-{
-    let mut i = 0;
-    while i < entries.len() {
-        let entry = entries[i];
-        if entry_wrong(limit, seen, entry) {
-            return Err(Refusal::Entry(i));
-        }
-        meet(seen, entry);
-        i += 1;
-    }
-    Ok(())
-}
-
-// An entry as a number that is compared and counted with.
-fn wide(entry: u16) -> usize
-    ensures { result ≡ entry }
-{
-    entry as usize
-}
 
 // Whether a number is 0 or above the limit.
 fn number_outside(limit: usize, number: usize) -> bool
@@ -65,26 +15,65 @@ fn number_outside(limit: usize, number: usize) -> bool
     (number < 1) | (limit < number)
 }
 
+// Whether an entry is 0, above the limit, or met before: its bit in the table, bit (entry - 1) % 64 of word (entry - 1) / 64.
+#[tactic(auto, using(crate::specs::Seen::entering))]
+fn entry_wrong(limit: usize, seen: &[u64], entry: u16) -> bool
+    requires { Reaches (length seen.now) limit }
+    ensures { Judged limit seen.now entry result }
+{
+    let number = usize::from(entry);
+    if number_outside(limit, number) {
+        return true;
+    }
+    let at = number - 1;
+    ((seen[at / 64] >> (at % 64)) & 1) == 1
+}
+
+// Sets the bit of an entry.
+#[tactic(auto, using(crate::specs::Seen::entering))]
+fn meet(seen: &mut [u64], entry: u16)
+    requires { InTable (length seen.old) entry }
+    ensures { Met seen.old entry seen.new }
+{
+    let at = usize::from(entry) - 1;
+    seen[at / 64] |= 1 << (at % 64);
+}
+
+// 7 with a table of bits, one for each entry that can pass, all 0 at first.
+#[tactic(auto, using(crate::specs::Entries::meeting))]
+fn scan_entries(limit: usize, entries: &[u16], seen: &mut [u64]) -> Result<(), Refusal>
+    requires seen { Seen seen.old [] }
+    requires reaches { Reaches (length seen.old) limit }
+    ensures { said_verdict result ≡ entries_judged limit entries.now }
+{
+    for (place, entry) in entries.iter().enumerate() {
+        if entry_wrong(limit, seen, *entry) {
+            return Err(Refusal::Entry(place));
+        }
+        meet(seen, *entry);
+    }
+    Ok(())
+}
+
 // Whether an entry is 0, above the limit, or noted where one before it is: at its remainder by 1,024, which no two entries from 1 to 1,024 share. The loop leaves at
 // no place.
+#[tactic(auto, using(crate::specs::Noted::noting))]
 fn some_entry_wrong(limit: usize, entries: &[u16]) -> bool
     ensures { Cleared (entries_judged limit entries.now) result }
 {
     let mut noted = [false; 1024];
     let mut wrong = false;
-    let mut i = 0;
-    while i < entries.len() {
-        let number = wide(entries[i]);
+    for entry in entries {
+        let number = usize::from(*entry);
         let at = number % 1024;
-        let here = number_outside(limit, number) | (noted[at]);
-        wrong = wrong | here;
+        wrong |= number_outside(limit, number) | noted[at];
         noted[at] = true;
-        i += 1;
     }
     wrong
 }
 
 // 7: each entry is 1 to limit, and none is met twice.
+#[tactic(auto, using(crate::specs::Noted::noting))]
 pub fn check_entries(limit: usize, entries: &[u16]) -> Result<(), Refusal>
     ensures { said_verdict result ≡ entries_judged limit entries.now }
 {
@@ -96,6 +85,7 @@ pub fn check_entries(limit: usize, entries: &[u16]) -> Result<(), Refusal>
 }
 
 // Whether the entry at a place breaks the step into its cell.
+#[tactic(auto, using(crate::specs::Entries::stepping))]
 fn step_broken(entries: &[u16], marks: &[u8], place: usize) -> bool
     requires { (1 ≤ place) × (place < length entries.now) × (place < length marks.now) }
     ensures { result ≡ step_fault entries.now marks.now place }
@@ -109,33 +99,37 @@ fn step_broken(entries: &[u16], marks: &[u8], place: usize) -> bool
 }
 
 // Whether a step is broken at any of the places that both lists have. The loop leaves at no place, so that the compiled code takes many entries at once.
+#[tactic(auto, using(crate::specs::Entries::stepping))]
 fn some_step_broken(entries: &[u16], marks: &[u8], size: usize) -> bool
     requires { size ≡ min (length entries.now) (length marks.now) }
     ensures { Cleared (recording_judged entries.now marks.now) result }
 {
     let mut wrong = false;
-    let mut place = 1;
-    while place < size {
-        wrong = wrong | step_broken(entries, marks, place);
-        place += 1;
+    for place in 1..size {
+        wrong |= step_broken(entries, marks, place);
     }
     wrong
 }
 
-// 8: the entries rise at right steps and fall at down steps.
-pub fn check_recording(entries: &[u16], marks: &[u8]) -> Result<(), Refusal>
-    ensures { said_verdict result ≡ recording_judged entries.now marks.now }
+// Where the first broken step stands, if there is one.
+#[tactic(auto, using(crate::specs::Entries::stepping))]
+fn step_fault(entries: &[u16], marks: &[u8]) -> Option<usize>
+    ensures { said_fault 8 result ≡ recording_judged entries.now marks.now }
 {
     let size = entries.len().min(marks.len());
     if !some_step_broken(entries, marks, size) {
-        return Ok(());
+        return None;
     }
-    let mut i = 1;
-    while i < size {
-        if step_broken(entries, marks, i) {
-            return Err(Refusal::Step(i));
-        }
-        i += 1;
+    (1..size).find(|place| step_broken(entries, marks, *place))
+}
+
+// 8: the entries rise at right steps and fall at down steps.
+#[tactic(auto, using(crate::specs::Entries::stepping))]
+pub fn check_recording(entries: &[u16], marks: &[u8]) -> Result<(), Refusal>
+    ensures { said_verdict result ≡ recording_judged entries.now marks.now }
+{
+    match step_fault(entries, marks) {
+        Some(place) => Err(Refusal::Step(place)),
+        None => Ok(()),
     }
-    Ok(())
 }

@@ -1,11 +1,6 @@
 -- `recordings::recording::some_entry_wrong` meets its contract, by the laws of specs/Noted. Assumes nothing.
-use Prim.Native.Nat.{◌-◌}
-use lib.ListN.{length}
 use Rattle.recordings.specs.Noted.{Noting}
 use Rattle.recordings.proofs.recording.some_entry_wrong.Given as goal
 
-abbrev pub invariant-loop-i : goal.invariant-loop-i
-invariant-loop-i l = Noting l.limit l.entries l.noted l.i l.wrong
-
-abbrev pub decreases-loop-i : goal.decreases-loop-i
-decreases-loop-i l = length l.entries - l.i
+abbrev pub invariant-loop-entry : goal.invariant-loop-entry
+invariant-loop-entry l = Noting l.limit l.entries l.noted l.entry-index l.wrong
