@@ -1,30 +1,9 @@
--- `fillings::steps::fill_runs` meets its contract, by the laws of specs/Filled. Assumes nothing.
-use Rattle.fillings.specs.Filled.{filling-runs}
+-- `fillings::steps::fill_runs` meets its contract, by the laws of specs. Assumes nothing.
+use Rattle.fillings.specs.Filled.{filling_runs}
 use Rattle.fillings.proofs.steps.fill_runs.Goals as goal
 
-pub returns-then-rank-gt64 : goal.returns-then-rank-gt64
-returns-then-rank-gt64 c = search filling-runs
-
-pub cells_of-cells-requires : goal.cells_of-cells-requires
-cells_of-cells-requires c = search filling-runs
-
-pub returns-then-letters-cells : goal.returns-then-letters-cells
-returns-then-letters-cells c = search filling-runs
-
-pub returns-then-marks-cells : goal.returns-then-marks-cells
-returns-then-marks-cells c = search filling-runs
-
-pub write_letters-requires : goal.write_letters-requires
-write_letters-requires c = search filling-runs
-
-pub write_steps-requires : goal.write_steps-requires
-write_steps-requires c = search filling-runs
-
-pub shape_of-letters : goal.shape_of-letters
-shape_of-letters c = search filling-runs
-
-pub shape_of-marks : goal.shape_of-marks
-shape_of-marks c = search filling-runs
+pub returns-then-min-cells : goal.returns-then-min-cells
+returns-then-min-cells c = search filling_runs
 
 pub returns : goal.returns
-returns c = search filling-runs
+returns c = search filling_runs
