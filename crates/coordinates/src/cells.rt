@@ -1,5 +1,5 @@
 // A cell by its place, over any two slices: they may be of unequal lengths, and need be no tableau.
-ghost use Rattle.std.specs.Prelude.{◌≡◌};
+ghost use Rattle.std.specs.Prelude.{◌≡◌, Ok};
 ghost use Rattle.outcomes.specs.Replies.{gives};
 ghost use Rattle.hypoplactic.specs.Ribbons.{steps_to};
 ghost use Rattle.outcomes.specs.TableauOperations.{cell_at, through_says};
@@ -13,33 +13,39 @@ use refusals::refusal::Refusal;
 fn steps_to(mark: u8, marks: &[u8], place: usize) -> usize
     ensures { result ≡ steps_to mark marks.now place }
 {
-    if marks.len() == 0 {
+    let Some((_first, steps)) = marks.split_first() else {
         return 0;
-    }
-    if place < marks.len() {
-        return count_letters(mark, &marks[1..place + 1]);
-    }
-    count_letters(mark, &marks[1..marks.len()])
+    };
+    count_letters(mark, &steps[..place.min(steps.len())])
 }
 
-// The cell at a place.
-pub fn cell_at(letters: &[u8], marks: &[u8], place: usize) -> Result<Option<Cell>, Refusal>
-    ensures { said_cell result ≡ gives (cell_at letters.now marks.now place) }
+// The cell at a place, if there is one.
+pub fn cell_at(letters: &[u8], marks: &[u8], place: usize) -> Option<Cell>
+    ensures { said_cell (Ok result) ≡ gives (cell_at letters.now marks.now place) }
 {
     if place < letters.len() {
         let row = steps_to(1, marks, place);
         let column = steps_to(0, marks, place);
-        return Ok(Some(Cell { letter: letters[place], row, column }));
+        Some(Cell {
+            letter: letters[place],
+            row,
+            column,
+        })
+    } else {
+        None
     }
-    Ok(None)
 }
 
 // The cell at a place, through a viewer whose making gave the verdict `made`: a refusal is passed on, so that no cell is called missing for it.
-pub fn cell_through(place: usize, letters: &[u8], marks: &[u8], made: Result<(), Refusal>) -> Result<Option<Cell>, Refusal>
+#[tactic(auto, unfolding(outcomes::specs::TableauOperations::through_says))]
+pub fn cell_through(
+    place: usize,
+    letters: &[u8],
+    marks: &[u8],
+    made: Result<(), Refusal>,
+) -> Result<Option<Cell>, Refusal>
     ensures { said_cell result ≡ through_says (said_verdict made) letters.now marks.now place }
 {
-    match made {
-        Ok(()) => cell_at(letters, marks, place),
-        Err(refusal) => Err(refusal),
-    }
+    made?;
+    Ok(cell_at(letters, marks, place))
 }
