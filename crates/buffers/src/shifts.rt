@@ -2,14 +2,13 @@
 ghost use Rattle.std.specs.Prelude.{◌≡◌};
 ghost use Rattle.buffers.specs.Shifts.{pushed};
 
-use std::mem::replace;
-
-// A tail of letters, marks or recording entries shifted by one. Each turn lays the element that it carries and takes up the one that lay there.
+// A tail of letters, marks or recording entries shifted by one.
+#[tactic(auto, using(crate::specs::Shifts::shifting))]
 pub fn shift<T: Copy>(tail: &mut [T], new: T)
     ensures { tail.new ≡ pushed new tail.old }
 {
-    let mut carried = new;
-    for place in tail {
-        carried = replace(place, carried);
+    if let Some(last) = tail.len().checked_sub(1) {
+        tail.copy_within(..last, 1);
+        tail[0] = new;
     }
 }
