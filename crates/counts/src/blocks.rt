@@ -5,46 +5,29 @@ ghost use Rattle.outcomes.specs.Judgements.{rising_judged};
 ghost use Rattle.outcomes.specs.Replies.{passed};
 ghost use Rattle.counts.specs.Blocks.{Block, Confirmed};
 
-use crate::tally::place_of;
-
-// A count, wide enough to be added up.
-fn wide(count: u16) -> usize
-    ensures { (result ≡ count) × (result < 65536) }
-{
-    count as usize
-}
-
 // Whether the letters from one place up to another are there, and begin and end with a letter, where there are any. Most counts are 0: that is asked first.
 fn block_agrees(letters: &[u8], at: usize, end: usize, letter: usize) -> bool
     ensures { Block letters.now at end letter result }
 {
-    if end <= at {
-        return true;
-    }
-    if letters.len() < end {
-        return false;
-    }
-    if place_of(letters[at]) != letter {
-        return false;
-    }
-    place_of(letters[end - 1]) == letter
+    end <= at
+        || (end <= letters.len()
+            && usize::from(letters[at]) == letter
+            && usize::from(letters[end - 1]) == letter)
 }
 
 // Whether the blocks that the counts cut off rising letters agree and use up all letters. Then every count is true; else nothing is said.
+#[tactic(auto, using(crate::specs::Blocks::agreeing))]
 pub(crate) fn confirmed(letters: &[u8], counts: &[u16; 64]) -> bool
     requires { rising_judged letters.now ≡ passed }
     ensures { Confirmed letters.now counts.now result }
 {
     let mut at = 0;
-    let mut a = 0;
-    while a < 64 {
-        let end = at + wide(counts[a]);
-        a += 1;
-        if block_agrees(letters, at, end, a) {
-            at = end;
-        } else {
+    for (a, count) in counts.iter().enumerate() {
+        let end = at + usize::from(*count);
+        if !block_agrees(letters, at, end, a + 1) {
             return false;
         }
+        at = end;
     }
     at == letters.len()
 }

@@ -14,7 +14,7 @@ use shapes::rising::rising_fault;
 fn number_wrong(number: u16, count: usize) -> bool
     ensures { result ≡ not (eqb number count) }
 {
-    number as usize != count
+    usize::from(number) != count
 }
 
 // Where the first wrong number stands, if there is one, by a count of all letters.
@@ -22,17 +22,11 @@ fn first_wrong(letters: &[u8], counts: &[u16; 64]) -> Option<usize>
     ensures { said_fault 17 result ≡ counts_judged counts.now letters.now }
 {
     let table = tally(letters);
-    let mut i = 0;
-    while i < 64 {
-        if number_wrong(counts[i], table[i + 1]) {
-            return Some(i);
-        }
-        i += 1;
-    }
-    None
+    (0..64).find(|i| number_wrong(counts[*i], table[*i + 1]))
 }
 
 // The same of letters that rise, which are counted only where the first pass did not confirm the numbers.
+#[tactic(auto, using(crate::specs::Comparing::counting))]
 fn rising_count_fault(letters: &[u8], counts: &[u16; 64]) -> Option<usize>
     requires { rising_judged letters.now ≡ passed }
     ensures { said_fault 17 result ≡ counts_judged counts.now letters.now }
@@ -47,10 +41,10 @@ fn rising_count_fault(letters: &[u8], counts: &[u16; 64]) -> Option<usize>
 pub fn count_fault(letters: &[u8], counts: &[u16; 64]) -> Option<usize>
     ensures { said_fault 17 result ≡ counts_judged counts.now letters.now }
 {
-    if let Some(_) = rising_fault(letters) {
-        return first_wrong(letters, counts);
+    match rising_fault(letters) {
+        Some(_) => first_wrong(letters, counts),
+        None => rising_count_fault(letters, counts),
     }
-    rising_count_fault(letters, counts)
 }
 
 // The verdict of 17 from that place.

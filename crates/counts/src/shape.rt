@@ -6,9 +6,9 @@ ghost use Rattle.outcomes.specs.Replies.{first, passed};
 ghost use Rattle.refusals.specs.Said.{said_verdict};
 
 use crate::check::check_rising_counts;
+use refusals::refusal::Refusal;
 use shapes::marks::check_marks;
 use shapes::rising::check_rising;
-use refusals::refusal::Refusal;
 
 // 5, 6 and 17.
 pub fn check_counted_shape(letters: &[u8], marks: &[u8], counts: &[u16; 64]) -> Result<(), Refusal>
