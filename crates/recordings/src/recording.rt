@@ -73,7 +73,6 @@ fn some_entry_wrong(limit: usize, entries: &[u16]) -> bool
 }
 
 // 7: each entry is 1 to limit, and none is met twice.
-#[tactic(auto, using(crate::specs::Noted::noting))]
 pub fn check_entries(limit: usize, entries: &[u16]) -> Result<(), Refusal>
     ensures { said_verdict result ≡ entries_judged limit entries.now }
 {
@@ -112,7 +111,6 @@ fn some_step_broken(entries: &[u16], marks: &[u8], size: usize) -> bool
 }
 
 // Where the first broken step stands, if there is one.
-#[tactic(auto, using(crate::specs::Entries::stepping))]
 fn step_fault(entries: &[u16], marks: &[u8]) -> Option<usize>
     ensures { said_fault 8 result ≡ recording_judged entries.now marks.now }
 {
@@ -124,7 +122,6 @@ fn step_fault(entries: &[u16], marks: &[u8]) -> Option<usize>
 }
 
 // 8: the entries rise at right steps and fall at down steps.
-#[tactic(auto, using(crate::specs::Entries::stepping))]
 pub fn check_recording(entries: &[u16], marks: &[u8]) -> Result<(), Refusal>
     ensures { said_verdict result ≡ recording_judged entries.now marks.now }
 {

@@ -43,7 +43,6 @@ fn some_mark_wrong(letters: &[u8], marks: &[u8], size: usize) -> bool
 }
 
 // Where the first wrong mark stands, if there is one.
-#[tactic(auto, using(crate::specs::Faults::scanning))]
 pub fn mark_fault(letters: &[u8], marks: &[u8]) -> Option<usize>
     ensures { said_fault 6 result ≡ marks_judged letters.now marks.now }
 {

@@ -29,7 +29,6 @@ fn some_letter_falls(letters: &[u8]) -> bool
 }
 
 // Where the first letter that is smaller than the one before it stands, if there is one.
-#[tactic(auto, using(crate::specs::Faults::scanning))]
 pub fn rising_fault(letters: &[u8]) -> Option<usize>
     ensures { said_fault 5 result ≡ rising_judged letters.now }
 {
@@ -50,7 +49,6 @@ pub fn rising_verdict(fault: Option<usize>) -> Result<(), Refusal>
 }
 
 // 5: the letters never fall along the ribbon.
-#[tactic(auto, using(crate::specs::Faults::scanning))]
 pub fn check_rising(letters: &[u8]) -> Result<(), Refusal>
     ensures { said_verdict result ≡ rising_judged letters.now }
 {
