@@ -15,6 +15,7 @@ use refusals::numbers::check_index;
 use refusals::refusal::Refusal;
 
 // 1, 2, 4 and 9: what a move and a repeat count check first.
+#[tactic(auto, using(crate::specs::Moves::judging))]
 fn check_move(rank: usize, index: usize, word: &[u8]) -> Result<(), Refusal>
     ensures { said_verdict result ≡ checks_then (word_judgements rank word.now) (index_judged rank index ∷ []) }
 {
@@ -23,6 +24,7 @@ fn check_move(rank: usize, index: usize, word: &[u8]) -> Result<(), Refusal>
 }
 
 // Whether some i+1 stands left of some i, adjacent or not.
+#[tactic(auto, using(crate::specs::Moves::inverting))]
 fn has_inversion(index: u8, word: &[u8]) -> bool
     requires { index < 64 }
     ensures { result ≡ inverted index word.now }
@@ -31,6 +33,7 @@ fn has_inversion(index: u8, word: &[u8]) -> bool
 }
 
 // The move of either side, in the lent letters.
+#[tactic(auto, using(crate::specs::Moves::moving))]
 pub fn move_word(side: Side, rank: usize, index: usize, word: &mut [u8]) -> Result<usize, Refusal>
     ensures { (said_value result, word.new) ≡ move_word_run rank (move_by side index) word.old }
 {
@@ -54,6 +57,7 @@ pub fn lower_word(rank: usize, index: usize, word: &mut [u8]) -> Result<usize, R
 }
 
 // How often the move of either side can be made, one after the other.
+#[tactic(auto, using(crate::specs::Moves::repeating))]
 pub fn repeat_word(side: Side, rank: usize, index: usize, word: &[u8]) -> Result<usize, Refusal>
     ensures { said_value result ≡ repeat_word_says rank (move_by side index) word.now }
 {
