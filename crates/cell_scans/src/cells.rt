@@ -5,12 +5,12 @@ ghost use Rattle.cell_scans.specs.Cells.{Celled, Stepped, mark_of, read_item, re
 
 use numerals::numbers::{Broken, Number, field_at, stands};
 
-// A cell, and the place after it.
+// A cell, and the place after it, which stands between letter and mark so that the compiled code does not pack these into one register.
 #[derive(Clone, Copy, Debug, PartialEq, Eq)]
 pub struct Cell {
     pub letter: u16,
-    pub mark: u8,
     pub next: usize,
+    pub mark: u8,
 }
 
 // A step, and the place after it.

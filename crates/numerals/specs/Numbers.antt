@@ -6,9 +6,9 @@
 --     Digiting                 the loop over further digits: what is left of them gives the whole
 -- Single bytes are in Bytes. Assumes nothing.
 use Rattle.std.specs.Prelude.{ℕ, IsErrAnd, zero, suc, ◌+◌, ◌-◌, ◌*◌, ◌^◌, ◌≤◌, ◌<◌, ◌≡◌, refl, Bool, true, false, cond, List, [], ◌∷◌, Some, None, Result, Ok, Err, length, get_or, drop}
-use Rattle.std.proofs.Common.{sym, ap, ◌∙◌, arith, Fits, eq-eqb, ne_eqb}
+use Rattle.std.proofs.Common.{sym, ◌∙◌, arith, Fits}
 use Rattle.std.specs.Int.{w16}
-use Rattle.grammar.specs.Reading.{Read, broken, digit, further_digits, got, more_digits, read_field, read_number}
+use Rattle.grammar.specs.Reading.{Read, broken, digit, got, more_digits, read_field, read_number}
 use Rattle.grammar.proofs.Theory.NumbersExact.{digit_range}
 use Rattle.numerals.specs.Bytes.{after_there, digit_inside, digit_of, left_there, starts_with}
 use Rattle.numerals.specs.declared.numbers.Broken.{Broken}
@@ -54,14 +54,6 @@ module _ (b d : ℕ) (t : List ℕ) (is : Some d ≡ digit_of (b ∷ t)) where
   digit_under : d < 10
   digit_under = let (low, high) = digit_range b digit_here.0 in omega (arith, digit_here.1)
 
-  zero_read : d ≡ 0 → read_number (b ∷ t) ≡ got 0 t
-  zero_read z = rw (eq-eqb b 48 (omega (arith, digit_here.1)))
-
-  begun_read : (d ≡ 0 → ⊥) → read_number (b ∷ t) ≡ more_digits further_digits d t
-  begun_read z =
-      let v : b - 48 ≡ d = omega (arith, digit_here.1) in
-      rw (ne_eqb b 48 (λ e. z (omega (arith, digit_here.1))), digit_here.0) (ap (λ (n : ℕ). more_digits further_digits n t) v)
-
   next_read : (k n : ℕ) → more_digits (suc k) n (b ∷ t) ≡ more_digits k (n * 10 + d) t
   next_read k n = let v : b - 48 ≡ d = omega (arith, digit_here.1) in rw (digit_here.0, v)
 
@@ -86,10 +78,6 @@ pub record Digiting (text : List ℕ) (whole : Read ℕ) (left n at : ℕ) : Typ
   pub within : at ≤ length text
   pub few : left ≤ 3
   pub short : n < 10 ^ (4 - left)
-
--- After the first digit.
-pub digits_start : (text : List ℕ) (from d : ℕ) → from ≤ length text → d < 10 → Digiting text (more_digits further_digits d (drop from text)) 3 d from
-digits_start text from d l h = record { left_over = refl; within = l; few = omega arith; short = h }
 
 few_digits : (left n : ℕ) → 0 < left → left ≤ 3 → n < 10 ^ (4 - left) → n < 1000
 few_digits zero n l f h = let z : ⊥ = omega arith in absurd z
@@ -136,24 +124,7 @@ module _ {text : List ℕ} {whole : Read ℕ} {left n at : ℕ} (g : Digiting te
   pub digits_end : left ≤ 0 → Told text whole (got n (drop at text)) at
   digits_end l = let none : left ≡ 0 = omega arith in record { says = rw none at g.left_over; within = g.within }
 
--- ---- numbers and fields
-
-module _ (text : List ℕ) (at : ℕ) {d : ℕ} (is : Some d ≡ digit_of (drop at text)) where
-  number_within : at < length text
-  number_within = digit_inside text at is
-
-  number_left : drop at text ≡ get_or text at 0 ∷ drop (at + 1) text
-  number_left = left_there text at number_within
-
-  pub number_zero : d ≡ 0 → Told text (read_number (drop at text)) (got 0 (drop (at + 1) text)) (at + 1)
-  number_zero z = record {
-    says = rw number_left (zero_read (get_or text at 0) d (drop (at + 1) text) (rw number_left at is) z);
-    within = omega (arith, number_within);
-  }
-
-  pub number_more : {s : Read ℕ} {p : ℕ} → (d ≡ 0 → ⊥) → Told text (more_digits further_digits d (drop (at + 1) text)) s p
-      → Told text (read_number (drop at text)) s p
-  number_more z t = record { says = rw number_left (begun_read (get_or text at 0) d (drop (at + 1) text) (rw number_left at is) z) ∙ t.says; within = t.within }
+-- ---- fields
 
 -- A number after a comma.
 pub field_number : (text : List ℕ) (at : ℕ) {s : Read ℕ} {p : ℕ} → true ≡ starts_with 44 (drop at text)

@@ -54,13 +54,13 @@ fn number_at(text: &[u8], at: usize) -> Result<Number, Broken>
     requires { at ≤ length text.now }
     ensures { Numbered text.now (read_number (drop at text.now)) result }
 {
-    match digit_at(text, at) {
-        None => Err(Broken { place: at }),
-        Some(0) => Ok(Number {
+    match text.get(at) {
+        Some(b'0') => Ok(Number {
             value: 0,
             next: at + 1,
         }),
-        Some(digit) => Ok(further_digits(text, at + 1, digit)),
+        Some(first @ b'1'..=b'9') => Ok(further_digits(text, at + 1, u16::from(*first - b'0'))),
+        _ => Err(Broken { place: at }),
     }
 }
 

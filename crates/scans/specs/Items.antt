@@ -4,40 +4,31 @@
 --     said_items, items_place, items_count, Gathered   what all items that were read, or a break, say in the grammar's terms, and what memory then holds
 --     turned_same, turned_more                      a value turned into itself; one item more
 --     Gathering                                     the loop over items: those read so far, and what is left, give the whole
---     items_ribbon, items_letters                   the items of a line, by whether it has steps
---     gathering                                     the ruleset of both loops, over letters and over letters with steps
 -- One cell is in Cells. Assumes nothing.
-use Rattle.std.specs.Prelude.{ℕ, zero, suc, ◌+◌, ◌-◌, ◌≤◌, ◌<◌, ◌≡◌, refl, Bool, true, false, List, [], ◌∷◌, ◌++◌, map, length, drop, set}
-use Rattle.std.proofs.Common.{ap, sym, ◌∙◌, append-nil, arith, length-append, rules}
+use Rattle.std.specs.Prelude.{ℕ, zero, suc, ◌+◌, ◌-◌, ◌≤◌, ◌<◌, ◌≡◌, refl, Bool, true, false, List, [], ◌∷◌, ◌++◌, Result, Ok, Err, map, length, drop, set}
+use Rattle.std.proofs.Common.{ap, sym, ◌∙◌, append-nil, arith, length-append}
 use Rattle.std.proofs.lemmas.List.{map-append, length-map}
-use Rattle.std.proofs.Math.Seq.{append_snoc, set_out}
+use Rattle.std.proofs.Math.Seq.{append_snoc}
 use Rattle.grammar.specs.Reading.{Read, broken, got, letters, many, marks, onward, read_first, turned}
 use Rattle.numerals.specs.Numbers.{Told}
 use Rattle.scans.specs.Kept.{kept, kept_next, length-kept}
-use Rattle.cell_scans.specs.Cells.{Celled, item_first, read_item}
-use Rattle.cell_scans.specs.declared.cells.Cell.{Cell}
-use Rattle.cell_scans.specs.declared.cells.Cell.TheVariants as cell
-use Rattle.scans.specs.declared.cells.Items.{Items}
-use Rattle.scans.specs.declared.cells.Items.TheVariants as items
-
--- Nothing is kept beyond the last element.
-pub keep-none : (xs : List ℕ) (i v : ℕ) → length xs ≤ i → xs ≡ set xs i v
-keep-none xs i v l = sym (set_out xs i v l)
+use Rattle.numerals.specs.declared.numbers.Broken.{Broken}
+use Rattle.cell_scans.specs.Cells.{read_item}
 
 -- All items that were read, or a break, in the grammar's terms.
-abbrev pub said_items : List ℕ → List (ℕ × ℕ) → Items → Read (List (ℕ × ℕ))
-said_items text cells (items.Read next) = got cells (drop next text)
-said_items text cells (items.Broken p) = broken (drop p text)
+abbrev pub said_items : List ℕ → List (ℕ × ℕ) → Result ℕ Broken → Read (List (ℕ × ℕ))
+said_items text cells (Ok next) = got cells (drop next text)
+said_items text cells (Err b) = broken (drop b.place text)
 
 -- The place after them, or of the break.
-abbrev pub items_place : Items → ℕ
-items_place (items.Read next) = next
-items_place (items.Broken p) = p
+abbrev pub items_place : Result ℕ Broken → ℕ
+items_place (Ok next) = next
+items_place (Err b) = b.place
 
 -- How many cells were read: all, or as many as there were before the break.
-abbrev pub items_count : ℕ → List (ℕ × ℕ) → Items → ℕ
-items_count count cells (items.Read next) = count
-items_count count cells (items.Broken p) = length cells
+abbrev pub items_count : ℕ → List (ℕ × ℕ) → Result ℕ Broken → ℕ
+items_count count cells (Ok next) = count
+items_count count cells (Err b) = length cells
 
 -- All items of a line, with or without steps.
 abbrev pub read_items : Bool → ℕ → List ℕ → Read (List (ℕ × ℕ))
@@ -64,7 +55,7 @@ kept_mark false ms i m = ms
 
 -- All items, which begin where t is left of the text, are read, or the grammar breaks; the letters of the cells that were read, and on a line with steps their
 -- marks, are kept as far as there is room.
-pub record Gathered (text t : List ℕ) (steps : Bool) (count : ℕ) (old_letters old_marks xs ms : List ℕ) (r : Items) : Type 0 where
+pub record Gathered (text t : List ℕ) (steps : Bool) (count : ℕ) (old_letters old_marks xs ms : List ℕ) (r : Result ℕ Broken) : Type 0 where
   pub told : Told text (read_items steps count t) (said_items text (begun false steps count t) r) (items_place r)
   pub long : length (begun false steps count t) ≡ items_count count (begun false steps count t) r
   pub letters_are : xs ≡ kept (letters (begun false steps count t)) old_letters
@@ -111,24 +102,6 @@ pub marks_none : (steps : Bool) (old : List ℕ) → old ≡ kept (step_marks st
 marks_none true old = refl
 marks_none false old = refl
 
--- Before the first item.
-pub gather_start : (text : List ℕ) (steps : Bool) (count from : ℕ) (xs ms : List ℕ) → from ≤ length text
-    → Gathering text (drop from text) steps count xs ms xs ms false 0 from
-gather_start text steps count from xs ms l =
-    let all : count - 0 ≡ count = omega arith in
-    record {
-      sofar = [];
-      left_over = rw all (turned_same (read_items steps count (drop from text)));
-      cells_are = rw all;
-      long = refl;
-      reached = omega arith;
-      within = l;
-      letters_size = refl;
-      marks_size = refl;
-      letters_are = refl;
-      marks_are = marks_none steps ms;
-    }
-
 module _ {text t : List ℕ} {steps : Bool} {count : ℕ} {old_letters old_marks xs ms : List ℕ} {stepped : Bool} {i at : ℕ}
     (g : Gathering text t steps count old_letters old_marks xs ms stepped i at) where
   -- What is left, from its first item on.
@@ -138,10 +111,9 @@ module _ {text t : List ℕ} {steps : Bool} {count : ℕ} {old_letters old_marks
   item_left l = let more : count - i ≡ suc (count - (i + 1)) = omega arith in (rw more at g.left_over, rw more at g.cells_are)
 
   -- One item more is read and kept,
-  pub gather_turn : {r : Cell} {xs' ms' : List ℕ} {x m next : ℕ} → i < count → Celled text (read_item stepped (drop at text)) r → r ≡ cell.Read x m next
+  pub gather_turn : {xs' ms' : List ℕ} {x m next : ℕ} → i < count → Told text (read_item stepped (drop at text)) (got (x, m) (drop next text)) next
       → xs' ≡ set xs i x → ms' ≡ kept_mark steps ms i m → Gathering text t steps count old_letters old_marks xs' ms' steps (i + 1) next
-  gather_turn {r} {xs'} {ms'} {x} {m} {next} l c e k j =
-      let h : Told text (read_item stepped (drop at text)) (got (x, m) (drop next text)) next = rw e at c in
+  gather_turn {xs'} {ms'} {x} {m} {next} l h k j =
       let letters-kept = k ∙ kept_more (λ c. c.0) g.sofar (x, m) xs old_letters i g.long g.letters_are in
       let marks-kept = j ∙ marks_more steps g.sofar (x, m) ms old_marks i g.long g.marks_are in
       record {
@@ -162,11 +134,10 @@ module _ {text t : List ℕ} {steps : Bool} {count : ℕ} {old_letters old_marks
       → (xs ≡ kept (letters (begun false steps count t)) old_letters) × (ms ≡ kept (step_marks steps (begun false steps count t)) old_marks)
   gathered e = let is : begun false steps count t ≡ g.sofar = e ∙ append-nil g.sofar in (rw is g.letters_are, rw is g.marks_are)
 
-  -- or breaks the grammar,
-  pub gather_broken : {r : Cell} {p : ℕ} → i < count → Celled text (read_item stepped (drop at text)) r → r ≡ cell.Broken p
-      → Gathered text t steps count old_letters old_marks xs ms (items.Broken p)
-  gather_broken {r} {p} l c e =
-      let h : Told text (read_item stepped (drop at text)) (broken (drop p text)) p = rw e at c in
+  -- or breaks the grammar.
+  pub gather_broken : {b : Broken} → i < count → Told text (read_item stepped (drop at text)) (broken (drop b.place text)) b.place
+      → Gathered text t steps count old_letters old_marks xs ms (Err b)
+  gather_broken l h =
       let kept_are = gathered ((item_left l).1 ∙ rw h.says) in
       record {
         told = record { says = (item_left l).0 ∙ rw h.says; within = h.within };
@@ -174,27 +145,3 @@ module _ {text t : List ℕ} {steps : Bool} {count : ℕ} {old_letters old_marks
         letters_are = kept_are.0;
         marks_are = kept_are.1;
       }
-
-  -- or there is none left.
-  pub gather_end : count ≤ i → Gathered text t steps count old_letters old_marks xs ms (items.Read at)
-  gather_end l =
-      let none : count - i ≡ 0 = omega arith in
-      let all : begun false steps count t ≡ g.sofar ++ [] = rw none at g.cells_are in
-      let is : begun false steps count t ≡ g.sofar = all ∙ append-nil g.sofar in
-      record {
-        told = record { says = rw is (rw (none, append-nil g.sofar) at g.left_over); within = g.within };
-        long = rw is (omega (arith, g.long));
-        letters_are = (gathered all).0;
-        marks_are = (gathered all).1;
-      }
-
--- The items of a line, with steps or without: to letters alone no marks are lent, so all marks are as they were.
-module _ {text t xs old_letters : List ℕ} {steps : Bool} {count : ℕ} {r : Items} where
-  pub items_ribbon : {old_marks ms : List ℕ} → steps ≡ true → Gathered text t true count old_letters old_marks xs ms r
-      → Gathered text t steps count old_letters old_marks xs ms r
-  items_ribbon e h = rw e h
-
-  pub items_letters : (ms : List ℕ) → steps ≡ false → Gathered text t false count old_letters [] xs [] r → Gathered text t steps count old_letters ms xs ms r
-  items_letters ms e h = rw e (record { told = h.told; long = h.long; letters_are = h.letters_are; marks_are = refl })
-
-pub ruleset gathering = (keep-none, gather_start, item_first, gather_turn, gather_broken, gather_end, items_ribbon, items_letters, rules)

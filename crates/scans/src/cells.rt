@@ -3,81 +3,58 @@ ghost use Rattle.std.specs.Prelude.{◌≤◌, true, false, [], ◌≡◌, drop,
 ghost use Rattle.scans.specs.Items.{Gathered};
 
 use cell_scans::cells::{Cell, item_at, letter_at};
+use numerals::numbers::Broken;
 
-// The place after all cells, or the place of the byte that breaks the grammar.
-#[derive(Clone, Copy)]
-pub enum Items {
-    Read(usize),
-    Broken(usize),
-}
-
-// Keeps a letter where there is room for it.
-fn keep_letter(letters: &mut [u16], place: usize, letter: u16)
-    ensures { letters.new ≡ set letters.old place letter }
+// Keeps a value where there is room for it.
+fn keep<T: Copy>(values: &mut [T], place: usize, value: T)
+    ensures { values.new ≡ set values.old place value }
 {
-    if place < letters.len() {
-        letters[place] = letter;
+    if place < values.len() {
+        values[place] = value;
     }
 }
 
-// Keeps a mark where there is room for it.
-fn keep_mark(marks: &mut [u8], place: usize, mark: u8)
-    ensures { marks.new ≡ set marks.old place mark }
-{
-    if place < marks.len() {
-        marks[place] = mark;
-    }
-}
-
-// Letters only, so many from a place on: no step stands before any, and no marks are lent. All are read, and those that fit are kept.
-fn letters_at(text: &[u8], from: usize, count: usize, letters: &mut [u16]) -> Items
+// Letters only, so many from a place on, and the place after them: no step stands before any, and no marks are lent. All are read, and those that fit are kept.
+fn letters_at(text: &[u8], from: usize, count: usize, letters: &mut [u16]) -> Result<usize, Broken>
     requires { from ≤ length text.now }
     ensures { Gathered text.now (drop from text.now) false count
         letters.old [] letters.new [] result }
 {
     let mut at = from;
-    let mut i = 0;
-    while i < count {
-        let cell = letter_at(text, at, 0);
-        match cell {
-            Cell::Broken(place) => return Items::Broken(place),
-            Cell::Read(letter, _, next) => {
-                keep_letter(letters, i, letter);
-                at = next;
-                i += 1;
-            }
-        }
+    for i in 0..count {
+        let Cell { letter, next, .. } = letter_at(text, at, 0)?;
+        keep(letters, i, letter);
+        at = next;
     }
-    Items::Read(at)
+    Ok(at)
 }
 
-// Letters with a step before each but the first, so many from a place on. All are read, and those that fit are kept with their marks. Past the first letter
-// `stepped` stays true, so the compiler takes the first turn out of the loop and tests nothing in it.
-fn ribbon_at(text: &[u8], from: usize, count: usize, letters: &mut [u16], marks: &mut [u8]) -> Items
+// Letters with a step before each but the first, so many from a place on, and the place after them. All are read, and those that fit are kept with their marks.
+// Past the first letter `stepped` stays true, so the compiler takes the first turn out of the loop and tests nothing in it.
+fn ribbon_at(
+    text: &[u8],
+    from: usize,
+    count: usize,
+    letters: &mut [u16],
+    marks: &mut [u8],
+) -> Result<usize, Broken>
     requires { from ≤ length text.now }
     ensures { Gathered text.now (drop from text.now) true count
         letters.old marks.old letters.new marks.new result }
 {
     let mut stepped = false;
     let mut at = from;
-    let mut i = 0;
-    while i < count {
-        let cell = item_at(text, at, stepped);
-        match cell {
-            Cell::Broken(place) => return Items::Broken(place),
-            Cell::Read(letter, mark, next) => {
-                keep_letter(letters, i, letter);
-                keep_mark(marks, i, mark);
-                stepped = true;
-                at = next;
-                i += 1;
-            }
-        }
+    for i in 0..count {
+        let Cell { letter, mark, next } = item_at(text, at, stepped)?;
+        keep(letters, i, letter);
+        keep(marks, i, mark);
+        stepped = true;
+        at = next;
     }
-    Items::Read(at)
+    Ok(at)
 }
 
-// So many items from a place on, with or without steps. A line of too many items is refused for that only when all of it was read.
+// So many items from a place on, with or without steps, and the place after them. A line of too many items is refused for that only when all of it was read.
 pub(crate) fn cells_at(
     text: &[u8],
     from: usize,
@@ -85,13 +62,14 @@ pub(crate) fn cells_at(
     steps: bool,
     letters: &mut [u16],
     marks: &mut [u8],
-) -> Items
+) -> Result<usize, Broken>
     requires { from ≤ length text.now }
     ensures { Gathered text.now (drop from text.now) steps count
         letters.old marks.old letters.new marks.new result }
 {
     if steps {
-        return ribbon_at(text, from, count, letters, marks);
+        ribbon_at(text, from, count, letters, marks)
+    } else {
+        letters_at(text, from, count, letters)
     }
-    letters_at(text, from, count, letters)
 }

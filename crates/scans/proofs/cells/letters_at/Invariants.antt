@@ -1,5 +1,4 @@
 -- `scans::cells::letters_at` meets its contract, by the laws of specs/Items. The invariant: the items before i are read, and what is left gives the whole. Assumes nothing.
-use Prim.Native.Nat.{◌-◌}
 use mathlib.Core.Bool.{false}
 use mathlib.Core.List.{[]}
 use lib.ListN.{drop}
@@ -8,6 +7,3 @@ use Rattle.scans.proofs.cells.letters_at.Given as goal
 
 abbrev pub invariant-loop-i : goal.invariant-loop-i
 invariant-loop-i l = Gathering l.text (drop l.from l.text) false l.count l.initial.letters [] l.letters [] false l.i l.at
-
-abbrev pub decreases-loop-i : goal.decreases-loop-i
-decreases-loop-i l = l.count - l.i

@@ -1,48 +1,13 @@
--- `scans::cells::ribbon_at` meets its contract, by the laws of specs/Items. The invariant: the items before i are read, and what is left gives the whole. Assumes nothing.
-use Rattle.scans.specs.Items.{gathering}
+-- An item breaks the grammar, or is read.
+use Rattle.std.proofs.Common.{arith}
+use Rattle.numerals.specs.Numbers.{passed}
+use Rattle.scans.specs.Items.{gather_broken, gather_turn}
 use Rattle.scans.proofs.cells.ribbon_at.Goals as goal
 
-pub loop-i-init : goal.loop-i-init
-loop-i-init c = search gathering
-
-pub item_at-cell-requires : goal.item_at-cell-requires
-item_at-cell-requires c = search gathering
-
-pub enum_known-cell : goal.enum_known-cell
-enum_known-cell c = search gathering
-
-pub shape_of-letters-in-Broken : goal.shape_of-letters-in-Broken
-shape_of-letters-in-Broken c = search gathering
-
-pub shape_of-marks-in-Broken : goal.shape_of-marks-in-Broken
-shape_of-marks-in-Broken c = search gathering
-
-pub returns-in-Broken : goal.returns-in-Broken
-returns-in-Broken c = search gathering
-
-pub enum_known-cell-in-Read-1 : goal.enum_known-cell-in-Read-1
-enum_known-cell-in-Read-1 c = search gathering
-
-pub keep_letter-requires : goal.keep_letter-requires
-keep_letter-requires c = search gathering
-
-pub keep_mark-requires : goal.keep_mark-requires
-keep_mark-requires c = search gathering
-
-pub overflow_add-i : goal.overflow_add-i
-overflow_add-i c = search gathering
-
-pub loop-i-smaller : goal.loop-i-smaller
-loop-i-smaller c = search gathering
+pub returns-in_err-letter : goal.returns-in_err-letter
+returns-in_err-letter c =
+    rw (passed c.from_residual.result c.from_residual.ensures.1)
+    (gather_broken c.loop-i.invariant (omega arith) c.in_err-letter.ensures)
 
 pub loop-i-preserved : goal.loop-i-preserved
-loop-i-preserved c = search gathering
-
-pub shape_of-letters : goal.shape_of-letters
-shape_of-letters c = search gathering
-
-pub shape_of-marks : goal.shape_of-marks
-shape_of-marks c = search gathering
-
-pub returns : goal.returns
-returns c = search gathering
+loop-i-preserved c = gather_turn c.loop-i.invariant (omega arith) c.in_ok-letter.ensures c.keep.ensures c.keep-in-loop-i.ensures

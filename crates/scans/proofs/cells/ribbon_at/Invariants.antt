@@ -1,5 +1,4 @@
 -- `scans::cells::ribbon_at` meets its contract, by the laws of specs/Items. The invariant: the items before i are read, and what is left gives the whole. Assumes nothing.
-use Prim.Native.Nat.{◌-◌}
 use mathlib.Core.Bool.{true}
 use lib.ListN.{drop}
 use Rattle.scans.specs.Items.{Gathering}
@@ -7,6 +6,3 @@ use Rattle.scans.proofs.cells.ribbon_at.Given as goal
 
 abbrev pub invariant-loop-i : goal.invariant-loop-i
 invariant-loop-i l = Gathering l.text (drop l.from l.text) true l.count l.initial.letters l.initial.marks l.letters l.marks l.stepped l.i l.at
-
-abbrev pub decreases-loop-i : goal.decreases-loop-i
-decreases-loop-i l = l.count - l.i

@@ -1,27 +1,21 @@
--- `scans::line::head_at` meets its contract, by the laws of specs/Heads. Assumes nothing.
-use Rattle.scans.specs.Heads.{heading}
+-- The letter of the kind does not stand first, or the rank breaks the grammar, or the number of items does, or both are read.
+use Rattle.numerals.specs.Numbers.{passed}
+use Rattle.scans.specs.Heads.{head_broken, head_counted, head_none}
 use Rattle.scans.proofs.line.head_at.Goals as goal
 
-pub stands-requires : goal.stands-requires
-stands-requires c = search heading
+pub returns-then-not-stands : goal.returns-then-not-stands
+returns-then-not-stands c = head_none _ _ c.args.ranked c.if-not-stands.ensures
 
-pub rank_at-rank-requires : goal.rank_at-rank-requires
-rank_at-rank-requires c = search heading
+pub returns-in_err-rank : goal.returns-in_err-rank
+returns-in_err-rank c =
+    rw (passed c.from_residual.result c.from_residual.ensures.1) (head_broken c.args.text.now c.args.kind c.args.ranked c.if-not-stands.ensures c.in_err-rank.ensures)
 
-pub enum_known-rank : goal.enum_known-rank
-enum_known-rank c = search heading
-
-pub count_at-requires : goal.count_at-requires
-count_at-requires c = search heading
-
-pub returns-in-Read : goal.returns-in-Read
-returns-in-Read c = search heading
-
-pub enum_known-rank-in-Broken-1 : goal.enum_known-rank-in-Broken-1
-enum_known-rank-in-Broken-1 c = search heading
-
-pub returns-in-Broken : goal.returns-in-Broken
-returns-in-Broken c = search heading
+pub returns-in_err-count : goal.returns-in_err-count
+returns-in_err-count c =
+    rw (passed c.from_residual-in_err-count.result c.from_residual-in_err-count.ensures.1)
+    (head_counted c.args.text.now c.args.kind c.args.ranked c.if-not-stands.ensures c.in_ok-rank.ensures c.in_err-count.ensures)
 
 pub returns : goal.returns
-returns c = search heading
+returns c =
+    rw (c.from.ensures, c.from-2.ensures)
+    (head_counted c.args.text.now c.args.kind c.args.ranked c.if-not-stands.ensures c.in_ok-rank.ensures c.in_ok-count.ensures)

@@ -1,30 +1,11 @@
--- `scans::pair::scan_pair` meets its contract, by the laws of specs/PairScans. Assumes nothing.
-use Rattle.scans.specs.PairScans.{pairing}
+-- The beginning breaks the grammar, or the line goes on from it.
+use Rattle.numerals.specs.Numbers.{passed}
+use Rattle.scans.specs.PairScans.{pair_broken, pair_parts}
 use Rattle.scans.proofs.pair.scan_pair.Goals as goal
 
-pub head_at-head-requires : goal.head_at-head-requires
-head_at-head-requires c = search pairing
+pub returns-in_err-head : goal.returns-in_err-head
+returns-in_err-head c =
+    rw (passed c.from_residual.result c.from_residual.ensures.1) (pair_broken c.args.text.now _ _ _ c.in_err-head.ensures)
 
-pub enum_known-head : goal.enum_known-head
-enum_known-head c = search pairing
-
-pub parts_at-requires : goal.parts_at-requires
-parts_at-requires c = search pairing
-
-pub enum_known-head-in-Broken-1 : goal.enum_known-head-in-Broken-1
-enum_known-head-in-Broken-1 c = search pairing
-
-pub shape_of-letters : goal.shape_of-letters
-shape_of-letters c = search pairing
-
-pub shape_of-marks : goal.shape_of-marks
-shape_of-marks c = search pairing
-
-pub shape_of-entries : goal.shape_of-entries
-shape_of-entries c = search pairing
-
-pub returns-in-Read : goal.returns-in-Read
-returns-in-Read c = search pairing
-
-pub returns-in-Broken : goal.returns-in-Broken
-returns-in-Broken c = search pairing
+pub returns : goal.returns
+returns c = pair_parts c.args.text.now c.in_ok-head.ensures c.parts_at.ensures
