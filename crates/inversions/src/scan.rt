@@ -2,8 +2,8 @@
 ghost use Rattle.std.specs.Prelude.{◌≡◌, ◌+◌, ◌<◌, ◌&&◌, eqb};
 ghost use Rattle.quasi_crystal.specs.Moves.{below, from_to};
 
-
 // Whether a step goes down from the letter `here` to `next`, the one after it. A mark 1 is a step down. Every test is made, so that no branch is left.
+#[tactic(auto, using(crate::specs::Walking::stepping))]
 fn steps_below(here: u8, next: u8, upper: u8, lower: u8, mark: u8) -> bool
     requires { next ≡ here + 1 }
     ensures { result ≡ (from_to here upper lower && eqb mark 1) }
@@ -13,6 +13,7 @@ fn steps_below(here: u8, next: u8, upper: u8, lower: u8, mark: u8) -> bool
 
 // Whether the letter after `here` stands directly below it. The first cell has no step into it; places that only one of the lists has are no cells. The
 // loop compares bytes and leaves at no cell, so that the compiled code takes many cells at once.
+#[tactic(auto, using(crate::specs::Walking::walking))]
 fn some_step_below(here: u8, letters: &[u8], marks: &[u8]) -> bool
     requires { here < 255 }
     ensures { result ≡ below here letters.now marks.now }
@@ -20,15 +21,14 @@ fn some_step_below(here: u8, letters: &[u8], marks: &[u8]) -> bool
     let size = letters.len().min(marks.len());
     let next = here + 1;
     let mut found = false;
-    let mut i = 1;
-    while i < size {
-        found = found | steps_below(here, next, letters[i - 1], letters[i], marks[i]);
-        i += 1;
+    for i in 1..size {
+        found |= steps_below(here, next, letters[i - 1], letters[i], marks[i]);
     }
     found
 }
 
 // Whether i+1 stands directly below i. From 255 on, i+1 is no byte, and so no letter.
+#[tactic(auto, using(crate::specs::Walking::walking))]
 pub fn has_below(index: usize, letters: &[u8], marks: &[u8]) -> bool
     ensures { result ≡ below index letters.now marks.now }
 {
