@@ -4,6 +4,7 @@ ghost use Rattle.grammar.specs.Lines.{field};
 ghost use Rattle.line_sizes.specs.Sizes.{Counted, line_size};
 
 // How many bytes the field of a number takes: a comma, and one for each digit. Letters have at most two digits, so that no loop counts them.
+#[tactic(auto, using(crate::specs::Sizes::sizing))]
 pub fn field_size(value: usize) -> usize
     ensures { Counted 21 (field value) result }
 {
@@ -16,23 +17,17 @@ pub fn field_size(value: usize) -> usize
     let mut size = 4;
     let mut left = value / 100;
     while 10 <= left {
-        left = left / 10;
+        left /= 10;
         size += 1;
     }
     size
 }
 
-// The smaller of a number and 65,536.
-fn limited(number: usize) -> usize
-    ensures { result ≡ min number 65536 }
-{
-    if number < 65536 { number } else { 65536 }
-}
-
 // How many bytes a line takes whose first field is of this number, with so many bytes after it before the line feed. More than 65,536 of them are taken for
 // 65,536, so that the sum fits; no line has as many.
+#[tactic(auto, using(crate::specs::Sizes::sizing))]
 pub fn line_size(first: usize, rest: usize) -> usize
     ensures { result ≡ line_size first (min rest 65536) }
 {
-    2 + field_size(first) + limited(rest)
+    2 + field_size(first) + rest.min(65536)
 }

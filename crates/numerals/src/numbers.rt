@@ -28,8 +28,12 @@ pub fn stands(text: &[u8], at: usize, byte: u8) -> bool
 fn digit_at(text: &[u8], at: usize) -> Option<u16>
     ensures { result ≡ digit_of (drop at text.now) }
 {
-    let digit = u16::from(*text.get(at)?).wrapping_sub(48);
-    if digit <= 9 { Some(digit) } else { None }
+    let byte = *text.get(at)?;
+    if byte.is_ascii_digit() {
+        Some(u16::from(byte - b'0'))
+    } else {
+        None
+    }
 }
 
 // The digits after the first, of which there are at most three.

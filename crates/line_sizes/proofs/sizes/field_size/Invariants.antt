@@ -1,4 +1,4 @@
--- `line_sizes::sizes::field_size` meets its contract, by the laws of specs/Sizes. The invariant: the digits of what is left are not counted yet. Assumes nothing.
+-- The digits of what is left are not counted yet.
 use Rattle.line_sizes.specs.Sizes.{Shrinking}
 use Rattle.line_sizes.proofs.sizes.field_size.Given as goal
 
