@@ -1,17 +1,15 @@
 -- Places in a second word or tableau.
 --     further k f                             the fault f at a place k further on
 --     FurtherFits k f                         that place fits 64 bits
---     further-fits, further_at                the step from a fault to that one
 --     judged-further                          what a check says that takes it
 --     letter_fits, rising-fits, mark_fits     the place that 4, 5 or 6 names fits, counted on from the length of a slice
 --     count_fits                              so does the place that 17 names, counted on from 64
 --     counting                                the ruleset of the checks that count on
 -- Assumes nothing.
-use Rattle.std.specs.Prelude.{Option, Some, None, Result, Ok, Err}
+use Rattle.std.specs.Prelude.{Option, Some, None, Result}
 use Rattle.refusals.specs.declared.refusal.Refusal.{Refusal}
 use Rattle.std.specs.Prelude.{ℕ, ◌+◌, ◌*◌, ◌^◌, ◌<◌, ◌≤◌, ◌≡◌, refl, Bool, false, List, [], ◌∷◌, length}
 use Rattle.std.proofs.Common.{sym, ap, ◌∙◌, arith, Fits, rules}
-use Rattle.std.specs.Int.{w64}
 use Rattle.outcomes.specs.Counts.{count_fault, counts_judged}
 use Rattle.outcomes.specs.Replies.{Said, count_on}
 use Rattle.outcomes.specs.Judgements.{letters_judged, marks_judged, rising_judged}
@@ -29,16 +27,6 @@ further k None = None
 abbrev pub FurtherFits : ℕ → Option ℕ → Type 0
 FurtherFits k (Some p) = k + p < 2 ^ 64
 FurtherFits k None = Unit {0}
-
--- ---- the step, by the fault's case
-
--- The sum fits,
-pub further-fits : {f : Option ℕ} (k p : ℕ) → FurtherFits k f → f ≡ Some p → Fits w64 (k + p)
-further-fits k p h e = record { fits = rw e at h }
-
--- and is the place.
-pub further_at : {f : Option ℕ} (k p : ℕ) → f ≡ Some p → Some (k + p) ≡ further k f
-further_at k p e = rw e
 
 -- ---- what a check says that counts on
 
@@ -77,4 +65,4 @@ pub count_fits : (f : Option ℕ) (xs cs : List ℕ) → said_fault 17 f ≡ cou
 unfolding counts_judged
 count_fits f xs cs e = named_fits 17 0 64 (count_fault cs xs) f 64 e (omega arith)
 
-pub ruleset counting = (further-fits, further_at, judged-further, letter_fits, rising-fits, mark_fits, count_fits, rules)
+pub ruleset counting = (judged-further, letter_fits, rising-fits, mark_fits, count_fits, rules)

@@ -9,22 +9,20 @@ ghost use Rattle.second_inputs.specs.Counting.{FurtherFits, further};
 
 use acceptance::letters::{letter_fault, letters_verdict};
 use counts::check::{count_fault, counts_verdict};
+use refusals::refusal::Refusal;
 use shapes::marks::{mark_fault, marks_verdict};
 use shapes::rising::{rising_fault, rising_verdict};
-use refusals::refusal::Refusal;
 
 // The same fault, so many places further on.
 fn counted_on(before: usize, fault: Option<usize>) -> Option<usize>
     requires { FurtherFits before fault }
     ensures { result ≡ further before fault }
 {
-    match fault {
-        Some(place) => Some(before + place),
-        None => None,
-    }
+    fault.map(|place| before + place)
 }
 
 // 4 of a second word or tableau.
+#[tactic(auto, using(crate::specs::Counting::counting))]
 pub fn check_second_letters(first: &[u8], rank: usize, second: &[u8]) -> Result<(), Refusal>
     ensures { said_verdict result ≡ count_on (length first.now) (letters_judged rank second.now) }
 {
@@ -33,6 +31,7 @@ pub fn check_second_letters(first: &[u8], rank: usize, second: &[u8]) -> Result<
 }
 
 // 5 of a second tableau.
+#[tactic(auto, using(crate::specs::Counting::counting))]
 pub fn check_second_rising(first: &[u8], second: &[u8]) -> Result<(), Refusal>
     ensures { said_verdict result ≡ count_on (length first.now) (rising_judged second.now) }
 {
@@ -41,6 +40,7 @@ pub fn check_second_rising(first: &[u8], second: &[u8]) -> Result<(), Refusal>
 }
 
 // 6 of a second tableau.
+#[tactic(auto, using(crate::specs::Counting::counting))]
 pub fn check_second_marks(first: &[u8], second: &[u8], marks: &[u8]) -> Result<(), Refusal>
     ensures { said_verdict result ≡ count_on (length first.now) (marks_judged second.now marks.now) }
 {
@@ -49,6 +49,7 @@ pub fn check_second_marks(first: &[u8], second: &[u8], marks: &[u8]) -> Result<(
 }
 
 // 17 of a second tableau.
+#[tactic(auto, using(crate::specs::Counting::counting))]
 pub fn check_second_counts(second: &[u8], counts: &[u16; 64]) -> Result<(), Refusal>
     ensures { said_verdict result ≡ count_on 64 (counts_judged counts.now second.now) }
 {

@@ -39,12 +39,7 @@ pub fn check_words(
     ensures { said_verdict result
         ≡ first (words_judgements first_rank first_word.now second_rank second_word.now) passed }
 {
-    check_two_limits(
-        first_rank,
-        first_word.len(),
-        second_rank,
-        second_word.len(),
-    )?;
+    check_two_limits(first_rank, first_word.len(), second_rank, second_word.len())?;
     check_letters(first_rank, first_word)?;
     check_second_letters(first_word, second_rank, second_word)
 }
