@@ -1,17 +1,18 @@
 -- The same-class test of two words, from their letter counts and their junction sets.
---     other_counts, other_set, one_class     the answer from what the tests find
---     opens_class            the reply from the verdict on both words and the test
+--     other_counts, by_sets           the answer from what the tests find
+--     class_tested, class_refused     the reply past the checks of both words, from the test, and where they refuse
 --     matching               the ruleset of the same-class test
 -- Assumes nothing.
-use Rattle.std.specs.Prelude.{ℕ, ◌≡◌, List, [], ◌∷◌, Bool, true, false}
-use Rattle.std.proofs.Common.{sym, ◌∙◌}
-use Rattle.std.proofs.Math.Bool.{and-false}
-use borrow.Author.Tests.{eq-eqb, ne_eqb, not-false, not-true}
+use Rattle.std.specs.Prelude.{ℕ, ◌≡◌, refl, List, [], ◌∷◌, Bool, true, false, eqb, Ok}
+use Rattle.std.proofs.Common.{sym, ap, ◌∙◌}
 use Rattle.hypoplactic.specs.Words.{Accepted, tick}
 use Rattle.hypoplactic.specs.Junctions.{same_class, same_counts}
-use Rattle.outcomes.specs.Replies.{Said, gives, passed, or_else, first}
+use Rattle.outcomes.specs.Replies.{gives, passed, first}
 use Rattle.outcomes.specs.WordOperations.{same_class_says, words_judgements}
 use Rattle.outcomes.proofs.Theory.Passing.{first_else}
+use Rattle.refusals.specs.Chains.{halts, proceeds}
+use Rattle.refusals.specs.Said.{said_class, said_refusal}
+use Rattle.refusals.specs.declared.refusal.Refusal.{Refusal}
 use Rattle.second_inputs.specs.Passed.{judging}
 use Rattle.words.specs.Given.{accepted_set, accepted_true, count_given, junction_given}
 use Rattle.words.specs.Tables.{Table}
@@ -26,27 +27,33 @@ module _ {n m : ℕ} (u v : List ℕ) (h : Accepted n u) (g : Accepted m v) wher
 
   -- Words whose tables differ are not of one class;
   pub other_counts : {b : Bool} {cs ds : List ℕ} → Table (count_given n u) cs → Table (count_given m v) ds → b ≡ same_tables cs ds → b ≡ false
-      → gives (0 ∷ []) ≡ gives (tick (same_class u v) 0 ∷ [])
+      → b ≡ same_class u v
   unfolding same_class
   other_counts f e p q = rw (counts-told f e p, q)
 
-  -- nor are words whose junction sets differ.
-  pub other_set : {j k : ℕ} → j ≡ junction_given n u → k ≡ junction_given m v → (j ≡ k → ⊥) → gives (0 ∷ []) ≡ gives (tick (same_class u v) 0 ∷ [])
+  -- where they agree, the junction sets decide.
+  pub by_sets : {j k : ℕ} {b : Bool} {cs ds : List ℕ} → Table (count_given n u) cs → Table (count_given m v) ds → b ≡ same_tables cs ds → b ≡ true
+      → j ≡ junction_given n u → k ≡ junction_given m v → eqb j k ≡ same_class u v
   unfolding same_class
-  other_set {j} {k} e f d = rw (← accepted_set h e, ← accepted_set g f, ne_eqb j k d, and-false)
-
-  -- Words whose tables agree, and whose junction sets are equal, are of one class.
-  pub one_class : {j k : ℕ} {b : Bool} {cs ds : List ℕ} → Table (count_given n u) cs → Table (count_given m v) ds → b ≡ same_tables cs ds → b ≡ true
-      → j ≡ junction_given n u → k ≡ junction_given m v → j ≡ k → gives (1 ∷ []) ≡ gives (tick (same_class u v) 0 ∷ [])
-  unfolding same_class
-  one_class {j} {k} f e p q s t d = rw (counts-told f e p, q, ← accepted_set h s, ← accepted_set g t, eq-eqb j k d)
+  by_sets {j} {k} f e p q s t = rw (counts-told f e p, q, ← accepted_set h s, ← accepted_set g t)
 
 -- ---- two words
 
--- The reply from the verdict on both words and the test.
-pub opens_class : {r : Said} (n : ℕ) (u : List ℕ) (m : ℕ) (v : List ℕ)
-    → r ≡ or_else (first (words_judgements n u m v) passed) (gives (tick (same_class u v) 0 ∷ [])) → r ≡ same_class_says n u m v
-unfolding same_class_says
-opens_class n u m v e = e ∙ first_else (words_judgements n u m v) _
+-- Yes or no, as a number.
+class_said : (b : Bool) → said_class (Ok b) ≡ gives (tick b 0 ∷ [])
+class_said true = refl
+class_said false = refl
 
-pub ruleset matching = (other_counts, other_set, one_class, opens_class, not-true, not-false, judging)
+-- The reply past the checks, from the test,
+pub class_tested : {b : Bool} (n : ℕ) (u : List ℕ) (m : ℕ) (v : List ℕ) → gives [] ≡ first (words_judgements n u m v) passed → b ≡ same_class u v
+    → said_class (Ok b) ≡ same_class_says n u m v
+unfolding same_class_says
+class_tested {b} n u m v e h = class_said b ∙ proceeds e (ap (λ (c : Bool). gives (tick c 0 ∷ [])) h) ∙ first_else (words_judgements n u m v) _
+
+-- and where they refuse.
+pub class_refused : (r : Refusal) (n : ℕ) (u : List ℕ) (m : ℕ) (v : List ℕ) → said_refusal r ≡ first (words_judgements n u m v) passed
+    → said_refusal r ≡ same_class_says n u m v
+unfolding same_class_says
+class_refused r n u m v e = halts r _ e ∙ first_else (words_judgements n u m v) _
+
+pub ruleset matching = (other_counts, by_sets, class_tested, class_refused, judging)

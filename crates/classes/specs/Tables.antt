@@ -2,13 +2,11 @@
 --     same_from n j cs ds     n numbers, from place j on, are equal
 --     same_tables cs ds       all 64 are
 --     same_true              of true letter counts: each letter stands equally often in both words
---     Matching               the loop over the letters: whether all numbers so far are equal, and what is left, decide
---     start, turn, end       the loop
---     and_join, and_last     two tests in one
---     comparing              the ruleset of the comparison
--- Elements are looked up and none is counted: lent memory has 64, and nothing rests on how many there are. Assumes nothing.
-use Rattle.std.specs.Prelude.{ℕ, zero, suc, ◌+◌, ◌-◌, ◌≤◌, ◌<◌, ◌≡◌, refl, List, Bool, true, false, ◌&&◌, eqb, get_or}
-use Rattle.std.proofs.Common.{arith, add-one, sym, ap₂, ◌∙◌, rules}
+--     tables_equal           the library's test of two arrays of 64 numbers
+-- Assumes nothing.
+use Rattle.std.specs.Prelude.{ℕ, zero, suc, ◌+◌, ◌≤◌, ◌<◌, ◌≡◌, refl, List, Bool, true, ◌&&◌, eqb, length, get_or, drop}
+use Rattle.std.specs.Cmp.Lexicographic.{pointwise}
+use Rattle.std.proofs.Common.{arith, ap, ap₂, drop_of_length-le, drop-cons}
 use Rattle.outcomes.specs.Counts.{TrueCounts}
 use Rattle.hypoplactic.specs.Junctions.{same_counts}
 
@@ -33,42 +31,21 @@ pub same_true : (u v : List ℕ) {cs ds : List ℕ} → TrueCounts u cs → True
 unfolding same_tables
 same_true u v f g = same_from_lem u v f g 64 0 (omega arith)
 
--- ---- the loop
+-- ---- the test
 
--- A test more,
-pub and_join : (a b c : Bool) → (a && (b && c)) ≡ ((a && b) && c)
-and_join true b c = refl
-and_join false b c = refl
+-- From place j on, n numbers, which are the last.
+tables_from : (n j : ℕ) (cs ds : List ℕ) → length cs ≡ j + n → length ds ≡ j + n → pointwise eqb (drop j cs) (drop j ds) ≡ same_from n j cs ds
+tables_from zero j cs ds p q =
+    let none : length cs ≤ j = omega arith in
+    let none' : length ds ≤ j = omega arith in
+    rw (drop_of_length-le cs none, drop_of_length-le ds none')
+tables_from (suc n) j cs ds p q =
+    let more : j < length cs = omega arith in
+    let more' : j < length ds = omega arith in
+    rw (drop-cons cs j 0 more, drop-cons ds j 0 more')
+    (ap (λ (b : Bool). eqb (get_or cs j 0) (get_or ds j 0) && b) (tables_from n (suc j) cs ds (omega arith) (omega arith)))
 
--- and one that passes.
-pub and_last : (a : Bool) → (a && true) ≡ a
-and_last true = refl
-and_last false = refl
-
--- At place i the numbers so far and those left decide.
-pub record Matching (cs ds : List ℕ) (i : ℕ) (same : Bool) : Type 0 where
-  pub within : i ≤ 64
-  pub whole : same_tables cs ds ≡ (same && same_from (64 - i) i cs ds)
-
-pub start : (cs ds : List ℕ) → Matching cs ds 0 true
+-- The test of two arrays of 64 numbers.
+pub tables_equal : (cs ds : List ℕ) → length cs ≡ 64 → length ds ≡ 64 → pointwise eqb cs ds ≡ same_tables cs ds
 unfolding same_tables
-start cs ds = record { within = omega arith; whole = refl }
-
--- The next two numbers,
-pub turn : (cs ds : List ℕ) (i : ℕ) {same next : Bool} → Matching cs ds i same → i < 64
-    → next ≡ (same && eqb (get_or cs i 0) (get_or ds i 0)) → Matching cs ds (i + 1) next
-turn cs ds i {same} {next} h l e =
-    let more : 64 - i ≡ suc (64 - suc i) = omega arith in
-    let first : same_tables cs ds ≡ (same && (eqb (get_or cs i 0) (get_or ds i 0) && same_from (64 - suc i) (suc i) cs ds)) = rw more at h.whole in
-    rw (add-one i) (record {
-      within = omega arith;
-      whole = first ∙ rw e (and_join same (eqb (get_or cs i 0) (get_or ds i 0)) (same_from (64 - suc i) (suc i) cs ds));
-    })
-
--- and past the last none is left.
-pub end : (cs ds : List ℕ) (i : ℕ) {same : Bool} → Matching cs ds i same → 64 ≤ i → same ≡ same_tables cs ds
-end cs ds i {same} h l =
-    let none : 64 - i ≡ 0 = omega arith in
-    sym (rw none at h.whole ∙ and_last same)
-
-pub ruleset comparing = (start, turn, end, rules)
+tables_equal = tables_from 64 0
