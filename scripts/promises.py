@@ -14,9 +14,10 @@ from page_texts import CRATES, PROMISES, code, find, paths, promises, prose, row
 PROGRAMS = {
     "ribbon", "cases", "operations", "brute", "notation", "plain_words",
 }
-# How a name stands in a text; a function with its contract, if it has one; a theorem with its type; how a definition is declared.
+# How a name stands in a text; a function with its contract, if it has one; what is converted into a type, with its contract; a theorem with its type; how a definition is declared.
 STANDS = r"(?<![\w'-])NAME(?![\w'-])"
 FUNCTION = r"\bfn NAME\b(?:[^{]*?\bensures)?(.*?)(?:^ *| )\{$"
+CONVERSION = r"^impl From<[^{]*> for NAME \{\n *ghost from_gives = \{(.*?)\};$"
 THEOREM = r"^ *pub NAME :(.*?)^ *(?:unfolding|NAME) "
 DECLARED = r"\b(fn|struct|enum) NAME\b|^ *pub NAME:|^ *(abbrev |unfoldable )?(pub )?((record|data) )?NAME [:({]"
 REQUIRED = """
@@ -36,9 +37,9 @@ NUMBERS = r"\d+(?:,? (?:to |and )?\d+)*"  # as in: 14, 1 to 6, 13
 
 
 def claims(row):
-    """What a row is about: functions or theorems, each with the form of its declaration and the definitions that it cites."""
+    """What a row is about: functions, types that are converted into, or theorems, each with the form of its declaration and the definitions that it cites."""
     if len(row) == 4:
-        return [(name, FUNCTION, code(row[2])) for name in code(row[0].split(":")[0])]
+        return [(name, CONVERSION if name[0].isupper() else FUNCTION, code(row[2])) for name in code(row[0].split(":")[0])]
     parts = [part.partition(":") for part in row[1].split(";")]
     return [(name, THEOREM, code(cited)) for names, _, cited in parts for name in code(names)]
 
