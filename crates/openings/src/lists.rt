@@ -5,44 +5,25 @@ ghost use Rattle.openings.specs.Openings.{opened, opened_marks};
 
 use buffers::shifts::shift;
 
-// The used letters with a new one.
-pub fn open_letters(at: usize, used: usize, letter: u8, letters: &mut [u8])
-    ensures { letters.new ≡ opened at used letter letters.old }
+// The used letters or entries with a new one.
+#[tactic(auto, using(crate::specs::Openings::opening))]
+pub fn open_elements<T: Copy>(at: usize, used: usize, new: T, elements: &mut [T])
+    ensures { elements.new ≡ opened at used new elements.old }
 {
-    if used < at {
-        return;
+    if at <= used && used < elements.len() {
+        shift(&mut elements[at..=used], new);
     }
-    if letters.len() <= used {
-        return;
-    }
-    shift(&mut letters[at..used + 1], letter);
 }
 
 // The used marks with that of a new cell: the step into it is right, and the step out of it, where a cell follows, becomes down.
+#[tactic(auto, using(crate::specs::Openings::opening))]
 pub fn open_marks(at: usize, used: usize, marks: &mut [u8])
     ensures { marks.new ≡ opened_marks at used marks.old }
 {
-    if used < at {
-        return;
+    if at <= used && used < marks.len() {
+        shift(&mut marks[at..=used], 0);
+        if at < used {
+            marks[at + 1] = 1;
+        }
     }
-    if marks.len() <= used {
-        return;
-    }
-    shift(&mut marks[at..used + 1], 0);
-    if at < used {
-        marks[at + 1] = 1;
-    }
-}
-
-// The used entries with a new one.
-pub fn open_entries(at: usize, used: usize, entry: u16, entries: &mut [u16])
-    ensures { entries.new ≡ opened at used entry entries.old }
-{
-    if used < at {
-        return;
-    }
-    if entries.len() <= used {
-        return;
-    }
-    shift(&mut entries[at..used + 1], entry);
 }
