@@ -12,7 +12,12 @@ use counts::shape::check_counted_shape;
 use refusals::refusal::Refusal;
 
 // 4, 5, 6 and 17: the cells of a tableau or of a pair, and its letter counts.
-fn check_counted_cells(rank: usize, letters: &[u8], marks: &[u8], counts: &[u16; 64]) -> Result<(), Refusal>
+fn check_counted_cells(
+    rank: usize,
+    letters: &[u8],
+    marks: &[u8],
+    counts: &[u16; 64],
+) -> Result<(), Refusal>
     ensures { said_verdict result
         ≡ first
         (letters_judged rank letters.now ∷ rising_judged letters.now ∷ marks_judged letters.now marks.now
@@ -47,12 +52,7 @@ pub fn check_counted_pair(
     ensures { said_verdict result
         ≡ first (counted_pair_judgements rank letters.now marks.now entries.now counts.now) passed }
 {
-    check_pair_sizes(
-        rank,
-        letters.len(),
-        marks.len(),
-        entries.len(),
-    )?;
+    check_pair_sizes(rank, letters.len(), marks.len(), entries.len())?;
     check_counted_cells(rank, letters, marks, counts)?;
     check_ribbon(letters.len(), entries, marks)
 }

@@ -9,9 +9,9 @@ use acceptance::letters::check_letters;
 use recordings::recording::{check_entries, check_recording};
 use refusals::chains::check_limits;
 use refusals::numbers::{check_marks_alike, check_parts_alike};
+use refusals::refusal::Refusal;
 use shapes::marks::check_marks;
 use shapes::rising::check_rising;
-use refusals::refusal::Refusal;
 
 // 4, 5 and 6: the cells of a tableau or of a pair.
 fn check_cells(rank: usize, letters: &[u8], marks: &[u8]) -> Result<(), Refusal>
@@ -51,7 +51,12 @@ pub fn check_tableau(rank: usize, letters: &[u8], marks: &[u8]) -> Result<(), Re
 }
 
 // 1, 2 and 3 of a pair.
-pub(crate) fn check_pair_sizes(rank: usize, letters: usize, marks: usize, entries: usize) -> Result<(), Refusal>
+pub(crate) fn check_pair_sizes(
+    rank: usize,
+    letters: usize,
+    marks: usize,
+    entries: usize,
+) -> Result<(), Refusal>
     ensures { said_verdict result ≡ first (rank_judged rank ∷ length_judged letters ∷ alike_judged letters (marks ∷ entries ∷ []) ∷ []) passed }
 {
     check_limits(rank, letters)?;
@@ -62,12 +67,7 @@ pub(crate) fn check_pair_sizes(rank: usize, letters: usize, marks: usize, entrie
 pub fn check_pair(rank: usize, letters: &[u8], marks: &[u8], entries: &[u16]) -> Result<(), Refusal>
     ensures { said_verdict result ≡ first (pair_judgements rank letters.now marks.now entries.now) passed }
 {
-    check_pair_sizes(
-        rank,
-        letters.len(),
-        marks.len(),
-        entries.len(),
-    )?;
+    check_pair_sizes(rank, letters.len(), marks.len(), entries.len())?;
     check_cells(rank, letters, marks)?;
     check_ribbon(letters.len(), entries, marks)
 }
