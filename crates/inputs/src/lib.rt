@@ -14,6 +14,7 @@ pub fn read_full<R: Read>(from: &mut R, out: &mut [u8]) -> (usize, io::Result<()
     ensures end { OnOk result.1 (result.0 < length out.new → IsAtEnd (R.remaining from.new)) }
 {
     let mut done = 0;
+    // Kept: how far a turn goes on is the reader's choice, no step of one.
     while done < out.len() {
         match from.read(&mut out[done..]) {
             Ok(0) => return (done, Ok(())),
