@@ -1,5 +1,5 @@
-// The checks of a tableau and of a pair, in rising number, each over the whole input. Where 1, 2 or 3 refuses, no element is read; the checks on elements are
-// total and linear, so all of them are made and the first refusal counts.
+// The checks of a tableau and of a pair, in rising number, each over the whole input. The first that refuses is the last that is made, so that where 1, 2 or 3
+// refuses no element is read.
 ghost use Rattle.std.specs.Prelude.{◌≡◌, [], ◌∷◌};
 ghost use Rattle.outcomes.specs.Replies.{first, passed};
 ghost use Rattle.outcomes.specs.Judgements.{alike_judged, entries_judged, length_judged, letters_judged, marks_judged, pair_judgements, rank_judged, recording_judged, rising_judged, tableau_judgements};
