@@ -1,5 +1,5 @@
-// The checks of two words in rising number, each over the whole input. Where 1 or 2 refuses, no letter is read; the checks on letters are total and linear, so
-// both are made and the first refusal counts.
+// The checks of two words in rising number, each over the whole input. The first that refuses is the last that is made, so that where 1 or 2 refuses no letter
+// is read.
 ghost use Rattle.std.specs.Prelude.{[], ◌∷◌, ◌≡◌};
 ghost use Rattle.outcomes.specs.Replies.{first, passed};
 ghost use Rattle.outcomes.specs.Judgements.{length_judged, rank_judged};
