@@ -4,7 +4,7 @@
 --     start_entries      where the scan for 7 begins
 --     Meeting            the invariant of that scan
 --     meeting, stepping  the rulesets of the two checks
--- The table of entries met is in Seen, the pass before the scan for 7 in Noted, that before the scan for 8 in Clear of shapes. Assumes nothing.
+-- The table of entries met is in Seen, the pass before the scan for 7 in Noted. Assumes nothing.
 use Rattle.std.specs.Prelude.{ℕ, zero, suc, ◌+◌, ◌-◌, ◌<◌, ◌≤◌, min, ◌≡◌, refl, Bool, true, false, ◌||◌, List, [], ◌∷◌, ltb, length, get_or, take}
 use Rattle.std.proofs.Common.{◌∙◌, arith, add-one, take-suc, rules}
 use Rattle.hypoplactic.specs.Words.{occurs}
@@ -12,8 +12,7 @@ use Rattle.outcomes.specs.Judgements.{outside, entries_judged, step_broken, reco
 use Rattle.outcomes.specs.FirstPlaces.{shorter}
 use Rattle.outcomes.specs.Replies.{gives, refused}
 use Rattle.outcomes.proofs.Theory.FirstPlaces.{entries_scan, recording_scan}
-use Rattle.refusals.specs.Scanning.{Scanning, scan_from, scan_from_lem, start, turn, found, none, fault_said, fault_decides}
-use Rattle.shapes.specs.Clear.{clearing}
+use Rattle.refusals.specs.Scanning.{Scanning, scan_from, scan_from_lem, start, turn, found, none}
 use Rattle.recordings.specs.Seen.{InTable, Judged, Met, Reaches, Seen}
 use Rattle.shapes.specs.Faults.{shorter_size}
 
@@ -100,4 +99,4 @@ start_steps (r ∷ rs) (m ∷ ms) e =
     (λ q l. let e : 1 + q - 1 ≡ q = omega arith in let f : 1 + q ≡ suc q = omega arith in rw (e, f)))
     (omega (arith, shorter_size rs ms))
 
-pub ruleset stepping = (turn, found, none, fault_said, fault_decides, start_steps, step_right, step_down, clearing, rules)
+pub ruleset stepping = (step_right, step_down, rules)

@@ -1,3 +1,4 @@
+pub mod Clear
 pub mod Seen
 pub mod Entries
 pub mod Noted

@@ -14,7 +14,7 @@ use Rattle.std.proofs.lemmas.Bool.{eqb-false}
 use Rattle.hypoplactic.specs.Words.{occurs}
 use Rattle.outcomes.specs.Judgements.{outside, entries_judged}
 use Rattle.hypoplactic.proofs.Theory.Occurrences.{occurs-append}
-use Rattle.shapes.specs.Clear.{Cleared, Clearing, start_clear, turn_clear, end_clear, clearing}
+use Rattle.recordings.specs.Clear.{Cleared, Clearing, start_clear, turn_clear, end_clear, clearing}
 use Rattle.recordings.specs.Entries.{entry_fault, start_entries}
 
 -- The entries met are noted in a table of 1,024.

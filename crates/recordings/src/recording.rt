@@ -1,12 +1,13 @@
-// The checks on a recording ribbon: 7 and 8. Each scans for the first fault only where a pass over all places saw one.
-ghost use Rattle.std.specs.Prelude.{◌<◌, ◌≤◌, min, ◌≡◌, [], length};
+// The checks on a recording ribbon: 7 and 8.
+ghost use Rattle.std.specs.Prelude.{◌<◌, ◌≤◌, ◌≡◌, [], length};
 ghost use Rattle.outcomes.specs.Judgements.{entries_judged, outside, recording_judged};
-ghost use Rattle.shapes.specs.Clear.{Cleared};
+ghost use Rattle.recordings.specs.Clear.{Cleared};
 ghost use Rattle.recordings.specs.Entries.{step_fault};
 ghost use Rattle.recordings.specs.Seen.{InTable, Judged, Met, Reaches, Seen};
 ghost use Rattle.refusals.specs.Said.{said_fault, said_verdict};
 
 use refusals::refusal::Refusal;
+use shapes::faults::first_fault;
 
 // Whether a number is 0 or above the limit.
 fn number_outside(limit: usize, number: usize) -> bool
@@ -97,28 +98,12 @@ fn step_broken(entries: &[u16], marks: &[u8], place: usize) -> bool
     before < here
 }
 
-// Whether a step is broken at any of the places that both lists have. The loop leaves at no place, so that the compiled code takes many entries at once.
-#[tactic(auto, using(crate::specs::Entries::stepping))]
-fn some_step_broken(entries: &[u16], marks: &[u8], size: usize) -> bool
-    requires { size ≡ min (length entries.now) (length marks.now) }
-    ensures { Cleared (recording_judged entries.now marks.now) result }
-{
-    let mut wrong = false;
-    for place in 1..size {
-        wrong |= step_broken(entries, marks, place);
-    }
-    wrong
-}
-
 // Where the first broken step stands, if there is one.
 fn step_fault(entries: &[u16], marks: &[u8]) -> Option<usize>
     ensures { said_fault 8 result ≡ recording_judged entries.now marks.now }
 {
     let size = entries.len().min(marks.len());
-    if !some_step_broken(entries, marks, size) {
-        return None;
-    }
-    (1..size).find(|place| step_broken(entries, marks, *place))
+    first_fault(1, size, |place| step_broken(entries, marks, place))
 }
 
 // 8: the entries rise at right steps and fall at down steps.

@@ -3,7 +3,7 @@
 --     shorter_size                                         how many places two lists have in common
 --     largest_mark x y                                      the largest mark of a step between two letters
 --     start-rising, start-marks                            where the two scans begin
---     scanning                                             the ruleset of the scans, and of the passes before them (Clear)
+--     marking                                              the ruleset of the fault of a mark
 -- Assumes nothing.
 use Rattle.std.specs.Prelude.{ℕ, zero, suc, ◌+◌, ◌-◌, min, ◌≡◌, refl, Bool, true, false, cond, ◌&&◌, ◌||◌, List, [], ◌∷◌, eqb, ltb, length, get_or}
 use Rattle.std.proofs.Common.{ap, sym, ◌∙◌, arith, rules, eq-eqb, lt-ltb, ne_eqb}
@@ -11,21 +11,16 @@ use Rattle.std.proofs.Math.Bool.{and-false, or-false}
 use Rattle.outcomes.specs.Judgements.{rising_judged, marks_judged}
 use Rattle.outcomes.specs.FirstPlaces.{mark_fault, shorter}
 use Rattle.outcomes.proofs.Theory.FirstPlaces.{rising-scan, marks-scan}
-use Rattle.refusals.specs.Scanning.{Scanning, scan_from, scan_from_lem, start, turn, found, none, fault_said, fault_decides}
-use Rattle.shapes.specs.Clear.{clearing}
+use Rattle.refusals.specs.Scanning.{Scanning, scan_from, scan_from_lem, start}
 
 -- ---- letters
 
 -- 5: the letter is smaller than the one before it.
-unfoldable pub fall_fault : List ℕ → ℕ → Bool
+abbrev pub fall_fault : List ℕ → ℕ → Bool
 fall_fault xs p = ltb (get_or xs p 0) (get_or xs (p - 1) 0)
 
-pub opens_fall : {b : Bool} (xs : List ℕ) (p : ℕ) → b ≡ ltb (get_or xs p 0) (get_or xs (p - 1) 0) → b ≡ fall_fault xs p
-unfolding fall_fault
-opens_fall xs p e = e
-
 pub start-rising : (xs : List ℕ) → Scanning 5 (fall_fault xs) (length xs) (rising_judged xs) 1
-unfolding fall_fault rising_judged scan_from
+unfolding rising_judged scan_from
 start-rising [] = start 0 refl refl
 start-rising (x ∷ xs) =
     start (length xs)
@@ -85,19 +80,10 @@ start-marks {size} xs ms e =
     start (shorter xs ms) (marks-scan xs ms ∙ scan_from_lem 6 0 (shorter xs ms) _ (mark_fault xs ms) (λ q l. let e : 0 + q ≡ q = omega arith in rw e))
     (omega (arith, shorter_size xs ms))
 
-pub ruleset scanning = (
-  turn,
-  found,
-  none,
-  fault_said,
-  fault_decides,
-  start-rising,
-  start-marks,
+pub ruleset marking = (
   largest_level,
   largest_apart,
   mark_first,
   mark_later_fault,
-  opens_fall,
-  clearing,
   rules,
 )

@@ -1,4 +1,3 @@
-pub mod Clear
 pub mod Faults
 pub mod Found
 pub mod Rising

@@ -2,5 +2,6 @@
 // the written meaning (crate outcomes).
 #![tactic(auto)]
 
+pub mod faults;
 pub mod marks;
 pub mod rising;

@@ -1,15 +1,15 @@
-// The check on marks, 6. It scans for the first place with any of its three faults only where a pass over all places saw one.
-ghost use Rattle.std.specs.Prelude.{◌<◌, min, ◌≡◌, length};
+// The check on marks, 6.
+ghost use Rattle.std.specs.Prelude.{◌<◌, ◌≡◌, length};
 ghost use Rattle.outcomes.specs.Judgements.{marks_judged};
 ghost use Rattle.outcomes.specs.FirstPlaces.{mark_fault};
-ghost use Rattle.shapes.specs.Clear.{Cleared};
 ghost use Rattle.shapes.specs.Faults.{largest_mark};
 ghost use Rattle.refusals.specs.Said.{said_fault, said_verdict};
 
+use crate::faults::first_fault;
 use refusals::refusal::Refusal;
 
 // The largest mark of a step between two letters: none goes down between equals.
-#[tactic(auto, using(crate::specs::Faults::scanning))]
+#[tactic(auto, using(crate::specs::Faults::marking))]
 fn largest_mark(before: u8, here: u8) -> u8
     ensures { result ≡ largest_mark before here }
 {
@@ -17,7 +17,7 @@ fn largest_mark(before: u8, here: u8) -> u8
 }
 
 // Whether the mark at a place is not 0 or 1, not 0 at the first place, or down between equals.
-#[tactic(auto, using(crate::specs::Faults::scanning))]
+#[tactic(auto, using(crate::specs::Faults::marking))]
 fn mark_wrong(letters: &[u8], marks: &[u8], place: usize) -> bool
     requires { (place < length letters.now) × (place < length marks.now) }
     ensures { result ≡ mark_fault letters.now marks.now place }
@@ -29,28 +29,12 @@ fn mark_wrong(letters: &[u8], marks: &[u8], place: usize) -> bool
     largest_mark(letters[place - 1], letters[place]) < mark
 }
 
-// Whether a mark is wrong at any of the places that both lists have. The loop leaves at no place, so that the compiled code takes many marks at once.
-#[tactic(auto, using(crate::specs::Faults::scanning))]
-fn some_mark_wrong(letters: &[u8], marks: &[u8], size: usize) -> bool
-    requires { size ≡ min (length letters.now) (length marks.now) }
-    ensures { Cleared (marks_judged letters.now marks.now) result }
-{
-    let mut wrong = false;
-    for place in 0..size {
-        wrong |= mark_wrong(letters, marks, place);
-    }
-    wrong
-}
-
 // Where the first wrong mark stands, if there is one.
 pub fn mark_fault(letters: &[u8], marks: &[u8]) -> Option<usize>
     ensures { said_fault 6 result ≡ marks_judged letters.now marks.now }
 {
     let size = letters.len().min(marks.len());
-    if !some_mark_wrong(letters, marks, size) {
-        return None;
-    }
-    (0..size).find(|place| mark_wrong(letters, marks, *place))
+    first_fault(0, size, |place| mark_wrong(letters, marks, place))
 }
 
 // The verdict of 6 from that place.

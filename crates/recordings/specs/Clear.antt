@@ -1,10 +1,10 @@
--- The first pass of the checks 5, 6 and 8: it leaves at no place and tells whether a fault stands anywhere. Where none does the check passes; where one
--- does, the scan for the first place decides.
+-- The first pass of the check 7: it leaves at no place and tells whether a fault stands anywhere. Where none does the check passes; where one does, the
+-- scan for the first place decides.
 --     Cleared whole wrong                    where nothing was seen wrong, the check passes
 --     Clearing                               the loop's invariant: where nothing was seen wrong before a place, the scan comes to that place
 --     start_clear, turn_clear, end_clear     where it begins, after one more place, past the last one
 --     clear_passed                           where nothing is wrong, the check passes
---     clearing                               the ruleset of the pass, whatever its fault
+--     clearing                               the ruleset of the pass
 -- Assumes nothing.
 use Rattle.std.specs.Prelude.{ℕ, ◌+◌, ◌<◌, ◌≤◌, ◌≡◌, refl, Bool, true, false, not, ◌||◌, []}
 use Rattle.std.proofs.Common.{sym, ◌∙◌, true≢false, rules}
