@@ -1,22 +1,41 @@
--- The columns of a tableau: where one ends, which have one cell, the letters copied, those of a column written from bottom to top, and what the column
--- reading makes of it.
---     Descending ms start i             the loop down a column: no right step after its start so far
+-- The columns of a tableau: where one ends, which have one cell, and what the column reading makes of it.
+--     Descending ms start i             down a column: no right step after its start before place i
 --     Ended ms start end                the column that starts at one place ends at the other
 --     Skipped ms from i                 the cells from one place to before the other are columns of one cell
---     Reversing xs old now left i       the loop up a column: the letters from place left on are written, in the first i places
+--     RightSteps ss n                   the first n steps are right ones
+--     NextColumn ms from r              r is the first column of two or more cells from a place on, if there is one
+--     some_right, no_right, rights_by_fours, next_down, no_down, no_steps     these, as they are searched
 --     column_read                       what is to be read from a column's start on is the column from bottom to top, and then the rest
---     descending, skipping, reversing     the rulesets of a column's end, of the columns of one cell and of a column
+--     searching                         the ruleset of the searches
 -- Assumes nothing.
-use Rattle.std.specs.Prelude.{ℕ, zero, suc, ◌+◌, ◌-◌, ◌<◌, ◌≤◌, ◌≡◌, refl, length, get_or, take, drop, set}
-use Rattle.std.proofs.Common.{sym, ◌∙◌, add-zero, arith, length-drop, length-set, drop_of_length-le, drop-cons, drop-drop, get_or-drop, below_more, rules}
-use mathlib.Core.List.{List, [], ◌∷◌, ◌++◌, append-nil, reverse, reverse_aux, reverse-cons}
+use Rattle.std.specs.Prelude.{Option, Some, None, Bool, true, false, cond, not, eqb, ℕ, zero, suc, ◌+◌, ◌-◌, ◌*◌, ◌/◌, ◌<◌, ◌≤◌, ◌≡◌, refl, length, get_or, take, drop}
+use Rattle.std.specs.List.{position, position_or_len}
+use Rattle.std.specs.Option.{unwrap_or}
+use Rattle.std.specs.Simd.{first_chunks}
+use Rattle.std.proofs.Common.{sym, ◌∙◌, ap, add-zero, arith, length-drop, drop-cons, drop-drop, get_or-drop, rules, eqb-true, ltb, lt-ltb, ltb-true, ltb-false}
+use Rattle.std.proofs.Math.Decide.{dec_lt}
+use Rattle.std.proofs.Math.Logic.{dite}
+use Rattle.std.proofs.lemmas.Bool.{eqb-false}
+use Rattle.std.proofs.lemmas.List.{take_rest}
+use Rattle.std.proofs.lemmas.List.Quantifiers.{position-Some}
+use Rattle.std.proofs.lemmas.List.Sums.{fails_before_first}
+use mathlib.Core.List.{List, [], ◌∷◌, ◌++◌, append-nil, reverse, reverse_aux}
 use Rattle.std.specs.Int.Bits.{bit_or, or_add_and}
 use Rattle.std.proofs.lemmas.Nat.{and_le_l, and_le_r}
-use Rattle.std.proofs.lemmas.List.{length-reverse}
 use borrow.Rule.Slice.PartMut.{mid_of}
 use Rattle.hypoplactic.specs.Reading.{read_from}
-use Rattle.outcomes.specs.Replies.{written}
-use Rattle.refusals.specs.Running.{written_element}
+
+-- ---- a search
+
+-- Where no place passes, none does.
+position-None : (p : ℕ → Bool) (xs : List ℕ) → position p xs ≡ None → (k : ℕ) → k < length xs → p (get_or xs k 0) ≡ false
+position-None p xs e k l = dite (dec_lt (position_or_len p xs) (length xs))
+    (λ (h : position_or_len p xs < length xs). let z : ⊥ = cc (lt-ltb _ _ h, e) in absurd z)
+    (λ (h : ¬ (position_or_len p xs < length xs)). fails_before_first p xs k 0 (omega arith))
+
+-- A place past the front of a list, in the list.
+past : (i j : ℕ) (xs : List ℕ) → i ≤ j → get_or (drop i xs) (j - i) 0 ≡ get_or xs j 0
+past i j xs l = get_or-drop i xs (j - i) 0 ∙ ap (λ (q : ℕ). get_or xs q 0) (omega arith)
 
 -- ---- a column's end
 
@@ -31,26 +50,112 @@ pub record Ended (ms : List ℕ) (start end : ℕ) : Type 0 where
   pub column : Descending ms start end
   pub right : end < length ms → get_or ms end 0 ≡ 0
 
--- Straight after the start.
-pub start_descending : (ms : List ℕ) (start : ℕ) → start < length ms → Descending ms start (start + 1)
-start_descending ms start l = record { beyond = omega arith; within = omega arith; down = λ k h g e. let z : ⊥ = omega arith in z }
+-- Whether a step is a right one, and whether it is a step down.
+abbrev pub is_right : ℕ → Bool
+is_right m = eqb m 0
 
-module _ {ms : List ℕ} {start i : ℕ} (d : Descending ms start i) where
-  -- A step down goes on,
-  pub turn_descending : i < length ms → (get_or ms i 0 ≡ 0 → ⊥) → Descending ms start (i + 1)
-  turn_descending l h = record { beyond = omega arith; within = omega arith; down = below_more _ i d.down (λ g. h) }
+abbrev pub is_down : ℕ → Bool
+is_down m = not (eqb m 0)
 
-  -- a right step ends the column,
-  pub end_right : get_or ms i 0 ≡ 0 → Ended ms start i
-  end_right e = record { column = d; right = λ l. e }
+module _ {ms ss : List ℕ} {start : ℕ} {r : Option ℕ} (f : r ≡ position is_right ss) (is : ss ≡ drop (start + 1) ms) (l : start < length ms) where
+  -- The first right step after its start ends a column,
+  pub some_right : {k : ℕ} → r ≡ Some k → Ended ms start (start + 1 + k)
+  some_right {k} e =
+      let (inside, here, before) = position-Some is_right ss k 0 (sym f ∙ e) in
+      let size : length ss ≡ length ms - (start + 1) = rw is (length-drop (start + 1) ms) in
+      record {
+        column = record {
+          beyond = omega arith;
+          within = omega arith;
+          down = λ j h g z. eqb-false _ 0 (before (j - (start + 1)) (omega arith)) (rw is (past (start + 1) j ms (omega arith)) ∙ z);
+        };
+        right = λ g. sym (get_or-drop (start + 1) ms k 0) ∙ rw (← is) (eqb-true _ 0 here);
+      }
 
-  -- and so does the end of the ribbon.
-  pub end_last : length ms ≤ i → Ended ms start i
-  end_last h = record { column = d; right = λ l. let z : ⊥ = omega arith in absurd z }
-
-pub ruleset descending = (start_descending, turn_descending, end_right, end_last, rules)
+  -- and the end of the ribbon does where there is none.
+  pub no_right : r ≡ None → Ended ms start (length ms)
+  no_right e =
+      let size : length ss ≡ length ms - (start + 1) = rw is (length-drop (start + 1) ms) in
+      record {
+        column = record {
+          beyond = l;
+          within = omega arith;
+          down = λ j h g z.
+              eqb-false _ 0 (position-None is_right ss (sym f ∙ e) (j - (start + 1)) (omega arith)) (rw is (past (start + 1) j ms (omega arith)) ∙ z);
+        };
+        right = λ g. let z : ⊥ = omega arith in absurd z;
+      }
 
 -- ---- columns of one cell
+
+-- The first steps are right ones.
+pub record RightSteps (ss : List ℕ) (n : ℕ) : Type 0 where
+  pub within : n ≤ length ss
+  pub right : (k : ℕ) → k < n → get_or ss k 0 ≡ 0
+
+-- Whether a step down is among four.
+abbrev pub some_down : List ℕ → Bool
+some_down four = not (eqb (bit_or (bit_or (bit_or (get_or four 0 0) (get_or four 1 0)) (get_or four 2 0)) (get_or four 3 0)) 0)
+
+-- Where no mark of two is set, neither is.
+neither : (a b : ℕ) → bit_or a b ≡ 0 → (a ≡ 0) × (b ≡ 0)
+neither a b e = (omega (arith, or_add_and a b, and_le_r a b), omega (arith, or_add_and a b, and_le_l a b))
+
+unnot : (b : Bool) → not b ≡ false → b ≡ true
+unnot true e = refl
+unnot false e = sym e
+
+-- Fours are right steps as far as no step down is among them.
+rights : (n : ℕ) (ss : List ℕ) (r : ℕ) → 4 * n ≤ length ss → r ≤ position_or_len some_down (first_chunks 4 n ss) → (k : ℕ) → k < 4 * r → get_or ss k 0 ≡ 0
+rights zero ss r l h k g = let z : ⊥ = omega arith in absurd z
+rights (suc n) [] r l h k g = let z : ⊥ = omega arith in absurd z
+rights (suc n) (a ∷ []) r l h k g = let z : ⊥ = omega arith in absurd z
+rights (suc n) (a ∷ b ∷ []) r l h k g = let z : ⊥ = omega arith in absurd z
+rights (suc n) (a ∷ b ∷ c ∷ []) r l h k g = let z : ⊥ = omega arith in absurd z
+rights (suc n) (a ∷ b ∷ c ∷ d ∷ ss) r l h k g =
+    go (some_down (a ∷ b ∷ c ∷ d ∷ [])) refl h (rights n ss (r - 1) (omega arith))
+  where
+    at : (m : ℕ) → m < 4 * r → (a ≡ 0) × (b ≡ 0) × (c ≡ 0) × (d ≡ 0) → ((j : ℕ) → j < 4 * (r - 1) → get_or ss j 0 ≡ 0)
+        → get_or (a ∷ b ∷ c ∷ d ∷ ss) m 0 ≡ 0
+    at zero f (x, y, z, w) rest = x
+    at (suc zero) f (x, y, z, w) rest = y
+    at (suc (suc zero)) f (x, y, z, w) rest = z
+    at (suc (suc (suc zero))) f (x, y, z, w) rest = w
+    at (suc (suc (suc (suc m)))) f e rest = rest m (omega arith)
+
+    go : (t : Bool) → some_down (a ∷ b ∷ c ∷ d ∷ []) ≡ t → r ≤ cond (not t) (1 + position_or_len some_down (first_chunks 4 n ss)) 0
+        → (r - 1 ≤ position_or_len some_down (first_chunks 4 n ss) → (j : ℕ) → j < 4 * (r - 1) → get_or ss j 0 ≡ 0)
+        → get_or (a ∷ b ∷ c ∷ d ∷ ss) k 0 ≡ 0
+    go true e q rest = let z : ⊥ = omega arith in absurd z
+    go false e q rest =
+        let (abc, w) = neither _ d (eqb-true _ 0 (unnot _ e)) in
+        let (ab, z) = neither _ c abc in
+        let (x, y) = neither a b ab in
+        at k g (x, y, z, w) (rest (omega arith))
+
+-- As many as stand before the first that passes, or all.
+first_or_all : {X : Type 0} (p : X → Bool) (xs : List X)
+    → (unwrap_or (position p xs) (length xs) ≤ position_or_len p xs) × (unwrap_or (position p xs) (length xs) ≤ length xs)
+first_or_all p xs = go (ltb (position_or_len p xs) (length xs)) refl
+  where
+    go : (b : Bool) → ltb (position_or_len p xs) (length xs) ≡ b
+        → (unwrap_or (cond b (Some (position_or_len p xs)) None) (length xs) ≤ position_or_len p xs)
+        × (unwrap_or (cond b (Some (position_or_len p xs)) None) (length xs) ≤ length xs)
+    go true e = (omega arith, omega (arith, ltb-true _ _ e))
+    go false e = (omega (arith, ltb-false _ _ e), omega arith)
+
+length_chunked : {X : Type 0} (k : ℕ) (xs : List X) → length (first_chunks 4 k xs) ≡ k
+length_chunked zero xs = refl
+length_chunked (suc k) xs = ap suc (length_chunked k (drop 4 xs))
+
+pub rights_by_fours : {ss : List ℕ} {fours : List (List ℕ)} {r : Option ℕ} {n : ℕ} → fours ≡ first_chunks 4 (length ss / 4) ss
+    → r ≡ position some_down fours → n ≡ unwrap_or r (length fours) → RightSteps ss (4 * n)
+rights_by_fours {ss} {fours} {r} {n} e f g =
+    let (before, within) = first_or_all some_down fours in
+    let fewer : n ≤ position_or_len some_down fours = rw (g, f) before in
+    let all : n ≤ length fours = rw (g, f) within in
+    let size : length fours ≡ length ss / 4 = rw e (length_chunked (length ss / 4) ss) in
+    record { within = omega arith; right = λ k l. rights (length ss / 4) ss n (omega arith) (rw e at fewer) k l }
 
 -- From a column's start on each cell before place i is a column of its own: no step down follows it.
 pub record Skipped (ms : List ℕ) (from i : ℕ) : Type 0 where
@@ -58,79 +163,50 @@ pub record Skipped (ms : List ℕ) (from i : ℕ) : Type 0 where
   pub within : i ≤ length ms
   pub right : (k : ℕ) → k < i + 1 → from < k → k < length ms → get_or ms k 0 ≡ 0
 
--- No cell.
-pub start_skipping : (ms : List ℕ) (from : ℕ) → from ≤ length ms → Skipped ms from from
-start_skipping ms from l = record { ahead = omega arith; within = l; right = λ k h g. let z : ⊥ = omega arith in absurd z }
+-- The first column of two or more cells from a column's start on, if there is one.
+abbrev pub NextColumn : List ℕ → ℕ → Option ℕ → Type 0
+NextColumn ms from None = Skipped ms from (length ms)
+NextColumn ms from (Some start) = Skipped ms from start × (start < length ms)
 
--- Where no mark of two is set, neither is.
-neither : (a b : ℕ) → bit_or a b ≡ 0 → (a ≡ 0) × (b ≡ 0)
-neither a b e = (omega (arith, or_add_and a b, and_le_r a b), omega (arith, or_add_and a b, and_le_l a b))
+-- After n right steps, and k more of which none is a step down, none is.
+steps_right : (ms ss : List ℕ) (from n k : ℕ) → ss ≡ drop (from + 1) ms → RightSteps ss n
+    → ((j : ℕ) → j < k → is_down (get_or (drop n ss) j 0) ≡ false) → (j : ℕ) → from < j → j < from + 1 + n + k → get_or ms j 0 ≡ 0
+steps_right ms ss from n k is w before j g h =
+    sym (past (from + 1) j ms (omega arith)) ∙ rw (← is)
+    (dite (dec_lt (j - (from + 1)) n)
+    (λ (f : j - (from + 1) < n). w.right (j - (from + 1)) f)
+    (λ (f : ¬ (j - (from + 1) < n)).
+    sym (past n (j - (from + 1)) ss (omega arith)) ∙ eqb-true _ 0 (unnot _ (before (j - (from + 1) - n) (omega arith)))))
 
--- One such column more.
-module _ {ms : List ℕ} {from i : ℕ} (s : Skipped ms from i) where
-  further : {j : ℕ} → j ≡ i + 1 → j < length ms → get_or ms j 0 ≡ 0 → Skipped ms from j
-  further {j} n l e = record { ahead = omega arith; within = omega arith; right = below_more _ j (λ k h. s.right k (omega arith)) (λ g h. e) }
+-- No step is left,
+pub no_steps : {ms : List ℕ} {from : ℕ} → from ≤ length ms → length ms < from + 1 → Skipped ms from (length ms)
+no_steps l h = record { ahead = l; within = omega arith; right = λ k a b c. let z : ⊥ = omega arith in absurd z }
 
-module _ {ms : List ℕ} {from i : ℕ} (s : Skipped ms from i) where
-  -- A right step ends the next such column,
-  pub turn_skipping : i + 1 < length ms → get_or ms (i + 1) 0 ≡ 0 → Skipped ms from (i + 1)
-  turn_skipping l e = further s refl l e
+module _ {ms ss ts : List ℕ} {from n : ℕ} {r : Option ℕ} (f : r ≡ position is_down ts) (more : ts ≡ drop n ss) (w : RightSteps ss n)
+    (is : ss ≡ drop (from + 1) ms) (l : from ≤ length ms) where
+  -- or the first step down after those that are seen to be right ones starts a column of two or more cells,
+  pub next_down : {k : ℕ} → r ≡ Some k → Skipped ms from (from + n + k) × (from + n + k < length ms)
+  next_down {k} e =
+      let (inside, here, before) = position-Some is_down ts k 0 (sym f ∙ e) in
+      let size : length ss ≡ length ms - (from + 1) = rw is (length-drop (from + 1) ms) in
+      let left : length ts ≡ length ss - n = rw more (length-drop n ss) in (
+        record {
+          ahead = omega arith;
+          within = omega arith;
+          right = λ j h g b. steps_right ms ss from n k is w (rw more at before) j (omega arith) (omega arith);
+        },
+        omega arith,
+      )
 
-  -- four right steps end the next four,
-  pub turn_four : i + 4 < length ms → bit_or (bit_or (bit_or (get_or ms (i + 1) 0) (get_or ms (i + 2) 0)) (get_or ms (i + 3) 0)) (get_or ms (i + 4) 0) ≡ 0
-      → Skipped ms from (i + 4)
-  turn_four l e =
-      let (three, d) = neither _ _ e in
-      let (two, c) = neither _ _ three in
-      let (a, b) = neither _ _ two in
-      further (further (further (further s refl (omega arith) a) (omega arith) (omega arith) b) (omega arith) (omega arith) c) (omega arith) l d
+  -- or none is.
+  pub no_down : r ≡ None → NextColumn ms from None
+  no_down e =
+      let size : length ss ≡ length ms - (from + 1) = rw is (length-drop (from + 1) ms) in
+      let left : length ts ≡ length ss - n = rw more (length-drop n ss) in
+      let none : (j : ℕ) → j < length ts → is_down (get_or (drop n ss) j 0) ≡ false = rw (← more) (position-None is_down ts (sym f ∙ e)) in
+      record { ahead = l; within = omega arith; right = λ j h g b. steps_right ms ss from n (length ts) is w none j (omega arith) (omega arith) }
 
-  -- and the last cell is the last of them.
-  pub end_skipping : length ms ≤ i + 1 → Skipped ms from (length ms)
-  end_skipping h = record { ahead = omega arith; within = omega arith; right = λ k l g b. s.right k (omega arith) g b }
-
-pub ruleset skipping = (start_skipping, turn_skipping, turn_four, end_skipping, rules)
-
--- ---- a column written
-
--- The letters from place left on stand from bottom to top in the first i places.
-pub record Reversing (xs old now : List ℕ) (left i : ℕ) : Type 0 where
-  pub all : left + i ≡ length xs
-  pub room : length old ≡ length xs
-  pub size : length now ≡ length xs
-  pub is : now ≡ written (reverse (drop left xs)) old
-
--- Nothing is written.
-pub start_reversing : (xs old : List ℕ) → length old ≡ length xs → Reversing xs old old (length xs) 0
-start_reversing xs old e = record { all = omega arith; room = e; size = e; is = rw (drop_of_length-le xs {i = length xs} (omega arith)) }
-
--- What one letter more makes of the column.
-module _ {xs old now : List ℕ} {i : ℕ} (p : ℕ) (r : Reversing xs old now (suc p) i) where
-  one_more_lem : set now i (get_or xs p 0) ≡ written (reverse (drop p xs)) old
-  one_more_lem =
-      let vs : List ℕ = reverse (drop (suc p) xs) in
-      let size : length vs ≡ i = omega (arith, length-reverse (drop (suc p) xs), length-drop (suc p) xs) in
-      rw (r.is, written_element vs old i (get_or xs p 0) size (omega arith), drop-cons xs p 0 (omega arith), reverse-cons (get_or xs p 0) (drop (suc p) xs))
-
--- The letter before those that are written.
-pub turn_reversing : {xs old now : List ℕ} {left i : ℕ} → Reversing xs old now left i → 0 < left
-    → Reversing xs old (set now i (get_or xs (left - 1) 0)) (left - 1) (i + 1)
-turn_reversing {xs} {old} {now} {left} {i} r l =
-    let more : left ≡ suc (left - 1) = omega arith in
-    record {
-      all = omega arith;
-      room = r.room;
-      size = length-set now i (get_or xs (left - 1) 0) ∙ r.size;
-      is = one_more_lem (left - 1) (rw more at r);
-    }
-
--- All letters are written.
-pub end_reversing : {xs old now : List ℕ} {left i : ℕ} → Reversing xs old now left i → left ≤ 0 → now ≡ reverse xs
-end_reversing {xs} {old} {now} {left} r l =
-    let none : left ≡ 0 = omega arith in
-    r.is ∙ rw (none, drop_of_length-le old {i = length (reverse xs)} (omega (arith, length-reverse xs)), append-nil (reverse xs))
-
-pub ruleset reversing = (start_reversing, turn_reversing, end_reversing, rules)
+pub ruleset searching = (some_right, no_right, rights_by_fours, no_steps, next_down, no_down, take_rest, rules)
 
 -- ---- the reading, column by column
 

@@ -1,96 +1,90 @@
 // The column reading of a tableau (document 01, "Column reading"): the columns from left to right, each from bottom to top. Most columns have one cell: all
-// letters are copied, then the columns of two or more cells, of which there are fewer than the rank, are found by the marks and written backwards.
-ghost use Rattle.std.specs.Prelude.{◌<◌, ◌≤◌, [], ◌∷◌, reverse, ◌≡◌, length};
+// letters are copied, then the columns of two or more cells, of which there are fewer than the rank, are found by the marks and turned round.
+ghost use Rattle.std.specs.Prelude.{◌<◌, ◌≤◌, [], ◌∷◌, ◌≡◌, length, position};
 ghost use Rattle.outcomes.specs.Judgements.{counted_judgements, room_judged};
 ghost use Rattle.hypoplactic.specs.Reading.{column_reading};
 ghost use Rattle.outcomes.specs.Replies.{written};
 ghost use Rattle.outcomes.specs.TableauOperations.{reading_run};
 ghost use Rattle.refusals.specs.Running.{checks_then};
 ghost use Rattle.refusals.specs.Said.{said_verdict, said_value};
-ghost use Rattle.columns.specs.Columns.{Ended, Skipped};
+ghost use Rattle.columns.specs.Columns.{Ended, NextColumn, RightSteps, is_down, is_right, some_down};
 
-use buffers::copies::copy;
 use refusals::numbers::check_room;
-use validity::counted::check_counted_tableau;
 use refusals::refusal::Refusal;
+use validity::counted::check_counted_tableau;
+
+// The first right step of some steps.
+fn first_right(steps: &[u8]) -> Option<usize>
+    ensures { result ≡ position is_right steps.now }
+{
+    steps.iter().position(|step| *step == 0)
+}
+
+// The first step down of some steps.
+fn first_down(steps: &[u8]) -> Option<usize>
+    ensures { result ≡ position is_down steps.now }
+{
+    steps.iter().position(|step| *step != 0)
+}
 
 // Where the column that starts at a place ends: at the first right step after it, or with the ribbon.
+#[tactic(auto, using(crate::specs::Columns::searching))]
 fn column_end(marks: &[u8], start: usize) -> usize
     requires { start < length marks.now }
     ensures { Ended marks.now start result }
 {
-    let mut i = start + 1;
-    while i < marks.len() {
-        let mark = marks[i];
-        if mark == 0 {
-            return i;
-        }
-        i += 1;
+    match first_right(&marks[start + 1..]) {
+        Some(down) => start + 1 + down,
+        None => marks.len(),
     }
-    i
 }
 
-// The letters of one column, from bottom to top.
-fn write_column(letters: &[u8], column: &mut [u8])
-    requires { length column.old ≡ length letters.now }
-    ensures { column.new ≡ reverse letters.now }
+// The first of the fours of some steps that has a step down.
+fn first_four_down(fours: &[[u8; 4]]) -> Option<usize>
+    ensures { result ≡ position some_down fours.now }
 {
-    let mut left = letters.len();
-    let mut i = 0;
-    while 0 < left {
-        left -= 1;
-        column[i] = letters[left];
-        i += 1;
-    }
+    fours
+        .iter()
+        .position(|four| four[0] | four[1] | four[2] | four[3] != 0)
 }
 
-// Columns of one cell from a column's start on, four at a time, as far as no step down is among four marks.
-fn skip_fours(marks: &[u8], from: usize) -> usize
+// How many of the steps at the front are right ones: whole fours, as far as no step down is among four.
+#[tactic(auto, using(crate::specs::Columns::searching))]
+fn right_fours(steps: &[u8]) -> usize
+    ensures { RightSteps steps.now result }
+{
+    let (fours, _) = steps.as_chunks::<4>();
+    4 * first_four_down(fours).unwrap_or(fours.len())
+}
+
+// The first column of two or more cells from a column's start on, if there is one. Most columns have one cell, and their right steps are passed by fours.
+#[tactic(auto, using(crate::specs::Columns::searching))]
+fn next_column(marks: &[u8], from: usize) -> Option<usize>
     requires { from ≤ length marks.now }
-    ensures { Skipped marks.now from result }
+    ensures { NextColumn marks.now from result }
 {
-    let mut i = from;
-    while i + 4 < marks.len() {
-        let four = marks[i + 1] | marks[i + 2] | marks[i + 3] | marks[i + 4];
-        if four != 0 {
-            return i;
-        }
-        i += 4;
-    }
-    i
-}
-
-// The first column of two or more cells from a column's start on, or the number of cells.
-fn next_column(marks: &[u8], from: usize) -> usize
-    requires { from ≤ length marks.now }
-    ensures { Skipped marks.now from result }
-{
-    let mut i = skip_fours(marks, from);
-    while i + 1 < marks.len() {
-        let mark = marks[i + 1];
-        if mark != 0 {
-            return i;
-        }
-        i += 1;
-    }
-    marks.len()
+    let steps = marks.get(from + 1..)?;
+    let right = right_fours(steps);
+    let down = first_down(&steps[right..])?;
+    Some(from + right + down)
 }
 
 // The column reading at the beginning of a word that has room for it.
+#[tactic(auto, using(crate::specs::Reading::reading))]
 fn write_reading(letters: &[u8], marks: &[u8], word: &mut [u8])
     requires { (length marks.now ≡ length letters.now) × (length letters.now ≤ length word.old) }
     ensures { word.new ≡ written (column_reading letters.now marks.now) word.old }
 {
-    copy(letters, word);
-    let mut at = next_column(marks, 0);
-    while at < letters.len() {
-        let end = column_end(marks, at);
-        write_column(&letters[at..end], &mut word[at..end]);
-        at = next_column(marks, end);
+    word[..letters.len()].copy_from_slice(letters);
+    let mut end = 0;
+    while let Some(start) = next_column(marks, end) {
+        end = column_end(marks, start);
+        word[start..end].reverse();
     }
 }
 
 // 1 to 6 of the tableau, 17 of its letter counts, and 13 of a word of so many elements.
+#[tactic(auto, unfolding(refusals::specs::Running::checks_then))]
 fn check_reading(
     rank: usize,
     letters: &[u8],
@@ -108,6 +102,7 @@ fn check_reading(
 }
 
 // The column reading of a tableau that brings its letter counts, into a lent word.
+#[tactic(auto, using(crate::specs::Reading::replying))]
 pub fn column_reading(
     rank: usize,
     letters: &[u8],

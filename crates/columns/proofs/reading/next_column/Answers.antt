@@ -1,33 +1,17 @@
 -- `columns::reading::next_column` meets its contract, by the laws of specs/Columns. Assumes nothing.
-use Rattle.columns.specs.Columns.{skipping}
+use Rattle.std.proofs.Common.{◌+◌, ◌∙◌}
+use Rattle.std.proofs.lemmas.List.{take_rest}
+use Rattle.columns.specs.Columns.{next_down, no_down}
 use Rattle.columns.proofs.reading.next_column.Goals as goal
 
-pub skip_fours-i-requires : goal.skip_fours-i-requires
-skip_fours-i-requires c = search skipping
-
-pub loop-i-init : goal.loop-i-init
-loop-i-init c = search skipping
-
-pub overflow_add-i : goal.overflow_add-i
-overflow_add-i c = search skipping
-
-pub overflow_add-mark : goal.overflow_add-mark
-overflow_add-mark c = search skipping
-
-pub bounds-marks-i : goal.bounds-marks-i
-bounds-marks-i c = search skipping
-
-pub returns-then-mark-ne0 : goal.returns-then-mark-ne0
-returns-then-mark-ne0 c = search skipping
-
-pub overflow_add-i-in-loop-i : goal.overflow_add-i-in-loop-i
-overflow_add-i-in-loop-i c = search skipping
-
-pub loop-i-smaller : goal.loop-i-smaller
-loop-i-smaller c = search skipping
-
-pub loop-i-preserved : goal.loop-i-preserved
-loop-i-preserved c = search skipping
+pub returns-in_err-down : goal.returns-in_err-down
+returns-in_err-down c =
+    let past = take_rest c.in_ok-steps.steps.now c.right_fours-right.result in
+    let after = c.in_ok-steps.ensures.lookup.0.2 ∙ take_rest c.args.marks.now (c.args.from + 1) in
+    rw c.from_residual-in_err-down.ensures (no_down c.first_down.ensures past c.right_fours-right.ensures after c.requires c.in_err-down.was)
 
 pub returns : goal.returns
-returns c = search skipping
+returns c =
+    let past = take_rest c.in_ok-steps.steps.now c.right_fours-right.result in
+    let after = c.in_ok-steps.ensures.lookup.0.2 ∙ take_rest c.args.marks.now (c.args.from + 1) in
+    next_down c.first_down.ensures past c.right_fours-right.ensures after c.requires c.in_ok-down.was

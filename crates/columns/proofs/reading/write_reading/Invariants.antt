@@ -1,11 +1,10 @@
 -- `columns::reading::write_reading` meets its contract, by the laws of specs/Reading. Assumes nothing.
-use Prim.Native.Nat.{◌-◌}
-use lib.ListN.{length}
+use Rattle.std.proofs.Common.{length, ◌-◌}
 use Rattle.columns.specs.Reading.{Reading}
 use Rattle.columns.proofs.reading.write_reading.Given as goal
 
-abbrev pub invariant-loop-at : goal.invariant-loop-at
-invariant-loop-at l = Reading l.letters l.marks l.initial.word l.word l.at
+abbrev pub invariant-loop-start : goal.invariant-loop-start
+invariant-loop-start l = Reading l.letters l.marks l.fn.word l.word l.end
 
-abbrev pub decreases-loop-at : goal.decreases-loop-at
-decreases-loop-at l = length l.letters - l.at
+abbrev pub decreases-loop-start : goal.decreases-loop-start
+decreases-loop-start l = length l.marks - l.end
