@@ -1,5 +1,6 @@
 -- The same-class test of two words, from their letter counts and their junction sets.
 --     other_counts, by_sets           the answer from what the tests find
+--     class_said                      yes or no, as a number
 --     class_tested, class_refused     the reply past the checks of both words, from the test, and where they refuse
 --     matching               the ruleset of the same-class test
 -- Assumes nothing.
@@ -40,7 +41,7 @@ module _ {n m : ℕ} (u v : List ℕ) (h : Accepted n u) (g : Accepted m v) wher
 -- ---- two words
 
 -- Yes or no, as a number.
-class_said : (b : Bool) → said_class (Ok b) ≡ gives (tick b 0 ∷ [])
+pub class_said : (b : Bool) → said_class (Ok b) ≡ gives (tick b 0 ∷ [])
 class_said true = refl
 class_said false = refl
 

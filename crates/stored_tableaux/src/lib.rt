@@ -2,5 +2,4 @@
 // take whatever they are given and answer a result or the exact refusal.
 #![tactic(auto)]
 
-mod marks;
 pub mod two_tableaux;
