@@ -2,14 +2,15 @@
 --     line_of kind n rest                     a line whose first field is of the number n
 --     head_laid, head_kept                   its beginning
 --     length-line                            how many bytes a line has
---     line_refused, line_laid                reply and memory from the verdict on the room on
---     head_room, rest_room, second_room, feed_room     where it passes there is room for each part
+--     line_refused, line_laid                reply and memory from what is judged of the room on
+--     head_room, rest_room, feed_room        where it passes there is room for each part
+--     fewer                                  fewer values are no more than so many
 --     line_kept                              no store changes how many elements there are
 --     heading, lining                        the rulesets of the functions on parts of lines and on whole lines
 -- Assumes nothing.
-use Rattle.std.specs.Prelude.{Option, Some, None, Result, Ok, Err}
-use Rattle.std.specs.Prelude.{ℕ, ◌+◌, ◌≤◌, ◌<◌, min, ◌≡◌, T, leb, length, set}
-use Rattle.std.proofs.Common.{sym, ◌∙◌, arith, leb→le, length-append, length-set, rules}
+use Rattle.std.specs.Prelude.{Ok, Err}
+use Rattle.std.specs.Prelude.{ℕ, ◌+◌, ◌≤◌, ◌<◌, min, ◌≡◌, refl, length, set}
+use Rattle.std.proofs.Common.{sym, ◌∙◌, arith, length-append, length-set, rules}
 use mathlib.Core.List.{List, [], ◌∷◌, ◌++◌}
 use Rattle.grammar.specs.Lines.{field, line}
 use Rattle.outcomes.specs.Judgements.{room_judged}
@@ -20,7 +21,7 @@ use Rattle.outcomes.proofs.Theory.Passing.{Passing, ran_answer}
 use Rattle.line_sizes.specs.Sizes.{Counted, line_size}
 use Rattle.refusals.specs.Chains.{ends}
 use Rattle.refusals.specs.Running.{all_passing, run-stopped}
-use Rattle.refusals.specs.Said.{said_refusal, said_verdict}
+use Rattle.refusals.specs.Said.{said_refusal}
 use Rattle.refusals.specs.declared.refusal.Refusal.{Refusal}
 use Rattle.writers.specs.Laying.{Laid, laid_one, laid_then, laid_whole}
 
@@ -48,70 +49,67 @@ pub length-line : (kind n : ℕ) (y : List ℕ) → length (line_of kind n y) �
 unfolding line_of
 length-line kind n y = omega (arith, length-append (field n ++ y) (10 ∷ []), length-append (field n) y)
 
--- A verdict on the room that passes.
-room_passed : {v : Result (Unit {0}) Refusal} (need have : ℕ) → said_verdict v ≡ room_judged need have → v ≡ Ok tt → Passing (room_judged need have ∷ [])
-room_passed {v} need have e q = all_passing (room_judged need have ∷ []) (ends v _ e) q
+-- The room is judged, and passes.
+room_passed : (need have : ℕ) → gives [] ≡ room_judged need have → Passing (room_judged need have ∷ [])
+room_passed need have e = all_passing {v = Ok tt} (room_judged need have ∷ []) (ends (Ok tt) _ e) refl
 
 -- What a writer replies then, and memory.
-run_laid : {need : ℕ} {now : List ℕ} (bytes old : List ℕ) → need ≡ length bytes → Passing (room_judged need (length old) ∷ []) → now ≡ written bytes old
+run_laid : {need : ℕ} {now : List ℕ} (bytes old : List ℕ) → need ≡ length bytes → gives [] ≡ room_judged need (length old) → now ≡ written bytes old
     → (gives (need ∷ []), now) ≡ room_run bytes old
 unfolding room_run
-run_laid bytes old s p e = rw (s, e) (sym (ran_answer [] (room_judged (length bytes) (length old) ∷ []) (length bytes ∷ []) (written bytes old) old tt (rw s at p)))
+run_laid {need} bytes old s p e = rw (s, e) (sym (ran_answer [] (room_judged (length bytes) (length old) ∷ []) (length bytes ∷ []) (written bytes old) old tt (rw s at (room_passed need (length old) p))))
 
 -- The bytes after the first field are so few that all are counted.
-all-counted : {most rest : ℕ} {y : List ℕ} → Counted most y rest → T (leb most 65536) → min rest 65536 ≡ length y
-all-counted {most} {rest} {y} k f = omega (arith, k.is, k.few, leb→le most 65536 f)
+all-counted : {rest : ℕ} {y : List ℕ} → Counted 65536 y rest → min rest 65536 ≡ length y
+all-counted k = omega (arith, k.is, k.few)
 
 -- The bytes needed are those of the line.
-size_of : {most need rest : ℕ} (kind n : ℕ) (y : List ℕ) → need ≡ line_size n (min rest 65536) → Counted most y rest → T (leb most 65536)
-    → need ≡ length (line_of kind n y)
+size_of : {need rest : ℕ} (kind n : ℕ) (y : List ℕ) → need ≡ line_size n (min rest 65536) → Counted 65536 y rest → need ≡ length (line_of kind n y)
 unfolding line_size
-size_of kind n y s k f = omega (arith, s, all-counted k f, length-line kind n y)
+size_of kind n y s k = omega (arith, s, all-counted k, length-line kind n y)
 
--- The verdict on the room for a line,
-module _ {v : Result (Unit {0}) Refusal} {need : ℕ} (n rest : ℕ) (old : List ℕ) (e : said_verdict v ≡ room_judged need (length old)) (s : need ≡ line_size n (min rest 65536)) where
-  -- which refuses: memory is as it was,
-  pub line_refused : {most : ℕ} (kind : ℕ) (y : List ℕ) (r : Refusal) → Counted most y rest → T (leb most 65536) → v ≡ Err r
-      → (said_refusal r, old) ≡ room_run (line_of kind n y) old
+-- A line of a kind whose first field is of the number n, with y after it.
+module _ {need : ℕ} (kind n rest : ℕ) (y old : List ℕ) (s : need ≡ line_size n (min rest 65536)) (k : Counted 65536 y rest) where
+  -- The room is refused: memory is as it was,
+  pub line_refused : (r : Refusal) → said_refusal r ≡ room_judged need (length old) → (said_refusal r, old) ≡ room_run (line_of kind n y) old
   unfolding room_run
-  line_refused kind y r k f q =
-      run-stopped (room_judged (length (line_of kind n y)) (length old) ∷ []) [] _ _ old r (rw (← (size_of kind n y s k f)) (ends v _ e)) q
+  line_refused r e =
+      run-stopped {v = Err r} (room_judged (length (line_of kind n y)) (length old) ∷ []) [] _ _ old r
+      (rw (← (size_of kind n y s k)) (ends (Err r) _ e)) refl
 
-  -- or passes: there is room for all bytes,
-  line_room : v ≡ Ok tt → 2 + length (field n) + min rest 65536 ≤ length old
-  unfolding line_size
-  line_room q = omega (arith, s, (room_judged_lem _ _).0 (room_passed need (length old) e q).0)
+  -- or there is room for all bytes,
+  module _ (e : gives [] ≡ room_judged need (length old)) where
+    line_room : 2 + length (field n) + min rest 65536 ≤ length old
+    unfolding line_size
+    line_room = omega (arith, s, (room_judged_lem _ _).0 (room_passed need (length old) e).0)
 
-  -- for the first field,
-  pub head_room : v ≡ Ok tt → 1 + length (field n) ≤ length old
-  head_room q = omega (arith, line_room q)
+    -- for the first field,
+    pub head_room : 1 + length (field n) ≤ length old
+    head_room = omega (arith, line_room)
 
-  module _ {most : ℕ} {mid : List ℕ} {at : ℕ} (kind : ℕ) (y : List ℕ) (k : Counted most y rest) (f : T (leb most 65536)) (q : v ≡ Ok tt)
-      (h : Laid (kind ∷ field n) old 0 mid at) where
-    -- for what follows,
-    pub rest_room : at + length y ≤ length mid
-    rest_room = omega (arith, line_room q, h.ends, h.long, all-counted k f)
+    module _ {mid : List ℕ} {at : ℕ} (h : Laid (kind ∷ field n) old 0 mid at) where
+      -- for what follows,
+      pub rest_room : at + length y ≤ length mid
+      rest_room = omega (arith, line_room, h.ends, h.long, all-counted k)
 
-    module _ {now : List ℕ} {end : ℕ} (l : Laid y mid at now end) where
-      -- for the line feed,
-      pub feed_room : end < length now
-      feed_room = omega (arith, line_room q, h.ends, h.long, all-counted k f, l.ends, l.long)
+      module _ {now : List ℕ} {end : ℕ} (l : Laid y mid at now end) where
+        -- for the line feed,
+        pub feed_room : end < length now
+        feed_room = omega (arith, line_room, h.ends, h.long, all-counted k, l.ends, l.long)
 
-      -- and with it the line is written.
-      pub line_laid : (gives (need ∷ []), set now end 10) ≡ room_run (line_of kind n y) old
-      unfolding line_of
-      line_laid =
-          let whole : Laid (line_of kind n y) old 0 (set now end 10) (end + 1) = laid_then (laid_then h l) (laid_one now end 10 feed_room) in
-          run_laid (line_of kind n y) old (size_of kind n y s k f) (room_passed need (length old) e q) (laid_whole whole)
-
--- The same where a field follows.
-pub second_room : {v : Result (Unit {0}) Refusal} {need : ℕ} {most : ℕ} {mid : List ℕ} {at : ℕ} (n rest : ℕ) (old : List ℕ) (kind m : ℕ)
-    → said_verdict v ≡ room_judged need (length old) → need ≡ line_size n (min rest 65536) → Counted most (field m) rest → T (leb most 65536) → v ≡ Ok tt
-    → Laid (kind ∷ field n) old 0 mid at → at + length (field m) ≤ length mid
-second_room n rest old kind m e s k f q h = rest_room n rest old e s kind (field m) k f q h
+        -- and with it the line is written.
+        pub line_laid : (gives (need ∷ []), set now end 10) ≡ room_run (line_of kind n y) old
+        unfolding line_of
+        line_laid =
+            let whole : Laid (line_of kind n y) old 0 (set now end 10) (end + 1) = laid_then (laid_then h l) (laid_one now end 10 feed_room) in
+            run_laid (line_of kind n y) old (size_of kind n y s k) e (laid_whole whole)
 
 -- No store changes how many elements there are.
 pub line_kept : {us vs mid now : List ℕ} {at end : ℕ} (old : List ℕ) (i j b : ℕ) → Laid us old i mid at → Laid vs mid at now end → length (set now j b) ≡ length old
 line_kept {us} {vs} {mid} {now} old i j b h l = length-set now j b ∙ l.long ∙ h.long
 
-pub ruleset lining = (line_refused, head_room, rest_room, second_room, feed_room, line_laid, line_kept, rules)
+-- Fewer values are no more than so many.
+pub fewer : {most more r : ℕ} {vs : List ℕ} → Counted most vs r → most ≤ more → Counted more vs r
+fewer k h = record { is = k.is; few = omega (arith, k.few) }
+
+pub ruleset lining = (line_refused, head_room, rest_room, feed_room, line_laid, line_kept, rules)

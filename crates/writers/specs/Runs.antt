@@ -5,7 +5,7 @@
 --     refusal_goes_on                                                                      a refusal has no checks
 --     running                                                                              the ruleset of the public functions
 -- Assumes nothing.
-use Rattle.std.specs.Prelude.{Option, Some, None, Result, Ok, Err}
+use Rattle.std.specs.Prelude.{Result, Ok, Err}
 use Rattle.refusals.specs.declared.answers.Junctions.{Junctions}
 use Rattle.std.specs.Prelude.{ℕ, ◌≤◌, ◌≡◌, List, [], ◌∷◌, ◌++◌, length}
 use Rattle.std.proofs.Math.Path.{sym}
@@ -117,7 +117,7 @@ module _ {j : Result Junctions Refusal} (n : ℕ) (w old : List ℕ) (e : said_j
       let says : said_refusal r ≡ first (word_judgements n w) (gives (junction_set w ∷ rows_of w ∷ [])) = sym (ap said_junctions q) ∙ e in
       rw (first_stops (word_judgements n w) (room_judged (length (j_line (junction_set w) (rows_of w))) (length old) ∷ []) _ _ _ _ says)
 
-  pub junctions_goes_on : {p : Said × List ℕ} (set rows : ℕ) → j ≡ junctions.Found set rows → p ≡ room_run (line_of 74 set (field rows)) old → p ≡ j_line_run n w old
+  pub junctions_goes_on : {p : Said × List ℕ} (set rows : ℕ) → j ≡ Ok (record { set = set; rows = rows }) → p ≡ room_run (line_of 74 set (field rows)) old → p ≡ j_line_run n w old
   unfolding junction_says j_line_run j_line line_of
   junctions_goes_on set rows q h =
       let says : gives (set ∷ rows ∷ []) ≡ first (word_judgements n w) (gives (junction_set w ∷ rows_of w ∷ [])) = sym (ap said_junctions q) ∙ e in

@@ -1,7 +1,8 @@
 // Whole lines, each of which begins with the letter of its kind and a field. The bytes needed are counted, the room is judged, and only then a byte is
 // written.
-ghost use Rattle.std.specs.Prelude.{◌+◌, ◌≤◌, ◌∷◌, ◌≡◌, length};
+ghost use Rattle.std.specs.Prelude.{◌+◌, ◌≤◌, ◌∷◌, ◌≡◌, List, ℕ, length};
 ghost use Rattle.grammar.specs.Lines.{cell, cells, field, first_cell, items};
+ghost use Rattle.line_sizes.specs.Sizes.{Counted};
 ghost use Rattle.outcomes.specs.LineOperations.{room_run};
 ghost use Rattle.refusals.specs.Said.{said_value};
 ghost use Rattle.writers.specs.Items.{listed};
@@ -17,7 +18,128 @@ use line_sizes::sizes::{field_size, line_size};
 use refusals::numbers::check_room;
 use refusals::refusal::Refusal;
 
+// What follows the first field of a line.
+pub(crate) trait Rest {
+    // Its bytes.
+    ghost bytes: { Self → List ℕ };
+
+    // What is asked of its values.
+    ghost ready: { Self → Type 0 };
+
+    // How many bytes it takes.
+    fn size(&self) -> usize
+        requires { ready self.now }
+        ensures { Counted 65536 (bytes self.now) result };
+
+    // Writes it from a place on, and answers the place after it.
+    fn write(&self, out: &mut [u8], start: usize) -> usize
+        requires ready { ready self.now }
+        requires room { start + length (bytes self.now) ≤ length out.old }
+        ensures { Laid (bytes self.now) out.old start out.new result };
+}
+
+// One number more.
+#[derive(Clone, Copy)]
+pub(crate) struct Number(pub usize);
+
+impl Rest for Number {
+    ghost bytes = { λ n. field n.0 };
+
+    ghost ready = { λ _. Unit {0} };
+
+    fn size(&self) -> usize {
+        field_size(self.0)
+    }
+
+    fn write(&self, out: &mut [u8], start: usize) -> usize {
+        write_field(self.0, out, start)
+    }
+}
+
+// The letters of a word.
+#[derive(Clone, Copy)]
+pub(crate) struct Letters<'a>(pub &'a [u8]);
+
+impl<'a> Rest for Letters<'a> {
+    ghost bytes = { λ w. listed (length w.0.now) (items field field w.0.now) };
+
+    ghost ready = { λ w. length w.0.now ≤ 1024 };
+
+    fn size(&self) -> usize {
+        list_size(self.0)
+    }
+
+    fn write(&self, out: &mut [u8], start: usize) -> usize {
+        write_list(self.0, out, start)
+    }
+}
+
+// The cells of a tableau.
+#[derive(Clone, Copy)]
+pub(crate) struct Cells<'a> {
+    pub letters: &'a [u8],
+    pub marks: &'a [u8],
+}
+
+impl<'a> Rest for Cells<'a> {
+    ghost bytes = { λ t. listed (length t.letters.now) (items first_cell cell (cells t.letters.now t.marks.now)) };
+
+    ghost ready = { λ t. (length t.letters.now ≤ 1024) × (length t.marks.now ≡ length t.letters.now) };
+
+    fn size(&self) -> usize {
+        ribbon_size(self.letters, self.marks)
+    }
+
+    fn write(&self, out: &mut [u8], start: usize) -> usize {
+        write_ribbon(self.letters, self.marks, out, start)
+    }
+}
+
+// The runs of the cells of a tableau.
+#[derive(Clone, Copy)]
+pub(crate) struct Runs<'a> {
+    pub letters: &'a [u8],
+    pub marks: &'a [u8],
+}
+
+impl<'a> Rest for Runs<'a> {
+    ghost bytes = { λ t. run_form t.letters.now t.marks.now };
+
+    ghost ready = { λ t. (length t.letters.now ≤ 1024) × (length t.marks.now ≡ length t.letters.now) };
+
+    fn size(&self) -> usize {
+        runs_size(self.letters, self.marks)
+    }
+
+    fn write(&self, out: &mut [u8], start: usize) -> usize {
+        write_runs(self.letters, self.marks, out, start)
+    }
+}
+
+// The cells of a pair, and its entries.
+#[derive(Clone, Copy)]
+pub(crate) struct Parts<'a> {
+    pub letters: &'a [u8],
+    pub marks: &'a [u8],
+    pub entries: &'a [u16],
+}
+
+impl<'a> Rest for Parts<'a> {
+    ghost bytes = { λ p. parts p.letters.now p.marks.now p.entries.now };
+
+    ghost ready = { λ p. Alike p.letters.now p.marks.now p.entries.now };
+
+    fn size(&self) -> usize {
+        parts_size(self.letters, self.marks, self.entries)
+    }
+
+    fn write(&self, out: &mut [u8], start: usize) -> usize {
+        write_parts(self.letters, self.marks, self.entries, out, start)
+    }
+}
+
 // Writes the letter of the kind and the first field.
+#[tactic(auto, using(crate::specs::Lines::heading))]
 fn write_head(kind: u8, first: usize, out: &mut [u8]) -> usize
     requires { 1 + length (field first) ≤ length out.old }
     ensures { Laid (kind ∷ field first) out.old 0 out.new result }
@@ -26,78 +148,21 @@ fn write_head(kind: u8, first: usize, out: &mut [u8]) -> usize
     write_field(first, out, 1)
 }
 
-// Writes a line of two numbers.
-pub(crate) fn write_numbers(kind: u8, first: usize, second: usize, out: &mut [u8]) -> Result<usize, Refusal>
-    ensures { (said_value result, out.new) ≡ room_run (line_of kind first (field second)) out.old }
-{
-    let need = line_size(first, field_size(second));
-    check_room(need, out.len())?;
-    let at = write_head(kind, first, out);
-    let end = write_field(second, out, at);
-    out[end] = 10;
-    Ok(need)
-}
-
-// Writes the W line of a rank and letters.
-pub(crate) fn write_word(rank: usize, word: &[u8], out: &mut [u8]) -> Result<usize, Refusal>
-    requires { length word.now ≤ 1024 }
-    ensures { (said_value result, out.new)
-        ≡ room_run (line_of 87 rank (listed (length word.now) (items field field word.now))) out.old }
-{
-    let need = line_size(rank, list_size(word));
-    check_room(need, out.len())?;
-    let at = write_head(87, rank, out);
-    let end = write_list(word, out, at);
-    out[end] = 10;
-    Ok(need)
-}
-
-// Writes the T line of a rank, letters and marks.
-pub(crate) fn write_tableau(rank: usize, letters: &[u8], marks: &[u8], out: &mut [u8]) -> Result<usize, Refusal>
-    requires { (length letters.now ≤ 1024) × (length marks.now ≡ length letters.now) }
-    ensures { (said_value result, out.new)
-        ≡ room_run
-        (line_of 84 rank (listed (length letters.now) (items first_cell cell (cells letters.now marks.now))))
-        out.old }
-{
-    let need = line_size(rank, ribbon_size(letters, marks));
-    check_room(need, out.len())?;
-    let at = write_head(84, rank, out);
-    let end = write_ribbon(letters, marks, out, at);
-    out[end] = 10;
-    Ok(need)
-}
-
-// Writes the C line of a rank, letters and marks.
-pub(crate) fn write_run_form(rank: usize, letters: &[u8], marks: &[u8], out: &mut [u8]) -> Result<usize, Refusal>
-    requires { (length letters.now ≤ 1024) × (length marks.now ≡ length letters.now) }
-    ensures { (said_value result, out.new)
-        ≡ room_run (line_of 67 rank (run_form letters.now marks.now)) out.old }
-{
-    let need = line_size(rank, runs_size(letters, marks));
-    check_room(need, out.len())?;
-    let at = write_head(67, rank, out);
-    let end = write_runs(letters, marks, out, at);
-    out[end] = 10;
-    Ok(need)
-}
-
-// Writes the P line of a rank, letters, marks and entries.
-pub(crate) fn write_pair(
-    rank: usize,
-    letters: &[u8],
-    marks: &[u8],
-    entries: &[u16],
+// Writes a line of a kind, its first field and what follows it.
+#[tactic(auto, using(crate::specs::Lines::lining))]
+pub(crate) fn write_line<R: Rest>(
+    kind: u8,
+    first: usize,
+    rest: &R,
     out: &mut [u8],
 ) -> Result<usize, Refusal>
-    requires { Alike letters.now marks.now entries.now }
-    ensures { (said_value result, out.new)
-        ≡ room_run (line_of 80 rank (parts letters.now marks.now entries.now)) out.old }
+    requires { R.ready rest.now }
+    ensures { (said_value result, out.new) ≡ room_run (line_of kind first (R.bytes rest.now)) out.old }
 {
-    let need = line_size(rank, parts_size(letters, marks, entries));
+    let need = line_size(first, rest.size());
     check_room(need, out.len())?;
-    let at = write_head(80, rank, out);
-    let end = write_parts(letters, marks, entries, out, at);
-    out[end] = 10;
+    let at = write_head(kind, first, out);
+    let end = rest.write(out, at);
+    out[end] = b'\n';
     Ok(need)
 }

@@ -5,38 +5,52 @@ ghost use Rattle.outcomes.specs.LineOperations.{e_line_run, j_line_run, p_line_r
 ghost use Rattle.refusals.specs.Said.{number, place, said_value};
 ghost use Rattle.run_lines.specs.Operations.{c_line_run};
 
-use crate::laying::{write_numbers, write_pair, write_run_form, write_tableau, write_word};
+use crate::laying::{Cells, Letters, Number, Parts, Runs, write_line};
 use acceptance::word::check_word;
 use refusals::answers::Junctions;
-use refusals::refusal::{Refusal, number_and_place};
+use refusals::refusal::{Refusal, Returned};
 use validity::tableau::{check_pair, check_tableau};
 use words::junctions::junctions;
 
 // The W line of a word: 1, 2 and 4, then 13.
+#[tactic(auto, using(crate::specs::Runs::running))]
 pub fn write_word_line(rank: usize, word: &[u8], out: &mut [u8]) -> Result<usize, Refusal>
     ensures { (said_value result, out.new) ≡ w_line_run rank word.now out.old }
 {
     check_word(rank, word)?;
-    write_word(rank, word, out)
+    write_line(b'W', rank, &Letters(word), out)
 }
 
 // The T line of a tableau: 1 to 6, then 13.
-pub fn write_tableau_line(rank: usize, letters: &[u8], marks: &[u8], out: &mut [u8]) -> Result<usize, Refusal>
+#[tactic(auto, using(crate::specs::Runs::running))]
+pub fn write_tableau_line(
+    rank: usize,
+    letters: &[u8],
+    marks: &[u8],
+    out: &mut [u8],
+) -> Result<usize, Refusal>
     ensures { (said_value result, out.new) ≡ t_line_run rank letters.now marks.now out.old }
 {
     check_tableau(rank, letters, marks)?;
-    write_tableau(rank, letters, marks, out)
+    write_line(b'T', rank, &Cells { letters, marks }, out)
 }
 
 // The C line of a tableau: 1 to 6, then 13.
-pub fn write_run_line(rank: usize, letters: &[u8], marks: &[u8], out: &mut [u8]) -> Result<usize, Refusal>
+#[tactic(auto, using(crate::specs::Runs::running))]
+pub fn write_run_line(
+    rank: usize,
+    letters: &[u8],
+    marks: &[u8],
+    out: &mut [u8],
+) -> Result<usize, Refusal>
     ensures { (said_value result, out.new) ≡ c_line_run rank letters.now marks.now out.old }
 {
     check_tableau(rank, letters, marks)?;
-    write_run_form(rank, letters, marks, out)
+    write_line(b'C', rank, &Runs { letters, marks }, out)
 }
 
 // The P line of a pair: 1 to 8, then 13.
+#[tactic(auto, using(crate::specs::Runs::running))]
 pub fn write_pair_line(
     rank: usize,
     letters: &[u8],
@@ -48,30 +62,40 @@ pub fn write_pair_line(
         ≡ p_line_run rank letters.now marks.now entries.now out.old }
 {
     check_pair(rank, letters, marks, entries)?;
-    write_pair(rank, letters, marks, entries, out)
+    write_line(
+        b'P',
+        rank,
+        &Parts {
+            letters,
+            marks,
+            entries,
+        },
+        out,
+    )
 }
 
 // The J line of a word, with the junction set and the rows that the word has: 1, 2 and 4, then 13. No function writes a J line of other numbers.
+#[tactic(auto, using(crate::specs::Runs::running))]
 pub fn write_junction_line(rank: usize, word: &[u8], out: &mut [u8]) -> Result<usize, Refusal>
     ensures { (said_value result, out.new) ≡ j_line_run rank word.now out.old }
 {
-    match junctions(rank, word) {
-        Err(refusal) => Err(refusal),
-        Ok(Junctions { set, rows }) => write_numbers(74, set as usize, rows, out),
-    }
+    let Junctions { set, rows } = junctions(rank, word)?;
+    write_line(b'J', set as usize, &Number(rows), out)
 }
 
 // The E line of what was returned instead of a result, number and place, each written whole whatever its size: only 13.
+#[tactic(auto, using(crate::specs::Runs::running))]
 pub fn write_returned_line(returned: usize, at: usize, out: &mut [u8]) -> Result<usize, Refusal>
     ensures { (said_value result, out.new) ≡ e_line_run returned at out.old }
 {
-    write_numbers(69, returned, at, out)
+    write_line(b'E', returned, &Number(at), out)
 }
 
 // The E line of a refusal: only 13.
+#[tactic(auto, using(crate::specs::Runs::running))]
 pub fn write_refusal_line(refusal: Refusal, out: &mut [u8]) -> Result<usize, Refusal>
     ensures { (said_value result, out.new) ≡ e_line_run (number refusal) (place refusal) out.old }
 {
-    let told = number_and_place(refusal);
-    write_numbers(69, told.number, told.place, out)
+    let Returned { number, place } = Returned::from(refusal);
+    write_line(b'E', number, &Number(place), out)
 }
