@@ -114,11 +114,7 @@ impl Stream {
         let third = self.generator.below(3);
         match self.way {
             Way::AnyLetter => 1 + self.generator.below(self.rank),
-            Way::OneOfThree => match third {
-                0 => 1,
-                1 => self.rank / 2 + self.rank % 2,
-                _ => self.rank,
-            },
+            Way::OneOfThree => [1, self.rank / 2 + self.rank % 2, self.rank][third],
             Way::NeverFalling => self.rank.min(self.letter.saturating_add(third)),
             Way::NeverRising => self.letter.saturating_sub(third).max(1),
             Way::Falling => self
