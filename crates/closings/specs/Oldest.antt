@@ -1,67 +1,38 @@
 -- The oldest letter's cell: the place of the first entry 1.
---     oldest_place rs         that place; where there is none, the number of entries
---     oldest_found           where the entry 1 stands in the list, it stands there
---     Seeking used end rs i  the scan over the used entries: it is no place before i
---     seek_start, seek_turn, seek_hit, seek_end     where it begins, another entry, the entry 1, past the last one
---     seeking                the ruleset of the scan
+--     oldest_place rs     that place, if there is one
+--     oldest_there        it is there where 1 stands in the list
+--     oldest_found        it is a place of the list, and has the entry 1
 -- Assumes nothing.
-use Rattle.std.specs.Prelude.{ℕ, suc, ◌+◌, ◌≤◌, ◌<◌, min, ◌≡◌, refl, Bool, true, false, cond, List, [], ◌∷◌, eqb, length, get_or, take, drop}
-use Rattle.std.proofs.Common.{arith, add-one, sym, ◌∙◌, length-take, drop_of_length-le, drop-cons, get_or-take, rules, eq-eqb, eqb-true, ne_eqb}
+use Rattle.std.specs.Prelude.{ℕ, suc, ◌+◌, ◌<◌, ◌≡◌, refl, Bool, true, false, cond, List, [], ◌∷◌, eqb, length, get_or, position, Option, Some, IsSome}
+use Rattle.std.proofs.Common.{arith, eqb-true, lt-ltb}
+use Rattle.std.specs.List.{position_or_len}
+use Rattle.std.proofs.lemmas.List.Recursion.{is_position_or_len}
+use Rattle.std.proofs.lemmas.List.Quantifiers.{position-Some}
 use Rattle.hypoplactic.specs.Words.{count, tick}
 
-abbrev pub oldest_place : List ℕ → ℕ
-oldest_place [] = 0
-oldest_place (r ∷ rs) = cond (eqb r 1) 0 (suc (oldest_place rs))
+abbrev pub oldest_place : List ℕ → Option ℕ
+oldest_place rs = position (λ r. eqb r 1) rs
 
-pub oldest_found : (rs : List ℕ) → 0 < count 1 rs → (oldest_place rs < length rs) × (get_or rs (oldest_place rs) 0 ≡ 1)
-oldest_found [] h = let z : ⊥ = omega arith in absurd z
-oldest_found (r ∷ rs) h = go (eqb r 1) refl h (oldest_found rs)
+-- How many entries stand before the first 1.
+before_oldest : List ℕ → ℕ
+before_oldest [] = 0
+before_oldest (r ∷ rs) = cond (eqb r 1) 0 (1 + before_oldest rs)
+
+before_told : (rs : List ℕ) → before_oldest rs ≡ position_or_len (λ r. eqb r 1) rs
+unfolding before_oldest
+before_told rs = is_position_or_len before_oldest (λ r. eqb r 1) refl (λ r rs. refl) rs
+
+before_length : (rs : List ℕ) → 0 < count 1 rs → before_oldest rs < length rs
+unfolding before_oldest
+before_length [] h = absurd (omega arith)
+before_length (r ∷ rs) h = go (eqb r 1) h (before_length rs)
   where
-    go : (b : Bool) → eqb r 1 ≡ b → 0 < tick b (count 1 rs) → (0 < count 1 rs → (oldest_place rs < length rs) × (get_or rs (oldest_place rs) 0 ≡ 1))
-        → (cond b 0 (suc (oldest_place rs)) < suc (length rs)) × (get_or (r ∷ rs) (cond b 0 (suc (oldest_place rs))) 0 ≡ 1)
-    go true e c ih = (omega arith, eqb-true r 1 e)
-    go false e c ih = let (l, one) = ih c in (omega arith, one)
+    go : (b : Bool) → 0 < tick b (count 1 rs) → (0 < count 1 rs → before_oldest rs < length rs) → cond b 0 (1 + before_oldest rs) < suc (length rs)
+    go true c ih = omega arith
+    go false c ih = let l = ih c in omega (arith, l)
 
--- ---- the scan
+pub oldest_there : (rs : List ℕ) → 0 < count 1 rs → IsSome (oldest_place rs)
+oldest_there rs h = rw (← before_told rs, lt-ltb (before_oldest rs) (length rs) (before_length rs h))
 
--- What is left gives the whole.
-pub record Seeking (used end : ℕ) (rs : List ℕ) (i : ℕ) : Type 0 where
-  pub bound : end ≡ min used (length rs)
-  pub within : i ≤ end
-  pub ahead : oldest_place (take used rs) ≡ i + oldest_place (drop i (take used rs))
-
-pub seek_start : {end : ℕ} (used : ℕ) (rs : List ℕ) → end ≡ min used (length rs) → Seeking used end rs 0
-seek_start used rs b = record { bound = b; within = omega arith; ahead = omega arith }
-
-module _ {used end : ℕ} {rs : List ℕ} {i : ℕ} (s : Seeking used end rs i) where
-  used_length : length (take used rs) ≡ end
-  used_length = length-take used rs ∙ sym s.bound
-
-  -- What is left begins with the entry at place i:
-  seek_open : i < end → oldest_place (take used rs) ≡ i + cond (eqb (get_or rs i 0) 1) 0 (suc (oldest_place (drop (suc i) (take used rs))))
-  seek_open h =
-      let l : i < length (take used rs) = omega (arith, used_length) in
-      let here : get_or (take used rs) i 0 ≡ get_or rs i 0 = get_or-take used rs i 0 (omega (arith, s.bound)) in
-      s.ahead ∙ rw (drop-cons (take used rs) i 0 l, here)
-
-  -- another one, and the scan goes on,
-  pub seek_turn : i < end → (get_or rs i 0 ≡ 1 → ⊥) → Seeking used end rs (i + 1)
-  seek_turn h ne =
-      let on : i + suc (oldest_place (drop (suc i) (take used rs))) ≡ suc i + oldest_place (drop (suc i) (take used rs)) = omega arith in
-      rw (add-one i) (record {
-        bound = s.bound;
-        within = omega arith;
-        ahead = seek_open h ∙ rw (ne_eqb (get_or rs i 0) 1 ne) on;
-      })
-
-  -- or the entry 1, and this is the place.
-  pub seek_hit : i < end → get_or rs i 0 ≡ 1 → i ≡ oldest_place (take used rs)
-  seek_hit h e = let z : i ≡ i + 0 = omega arith in z ∙ sym (seek_open h ∙ rw (eq-eqb (get_or rs i 0) 1 e))
-
-  -- Where nothing is left there is none.
-  pub seek_end : end ≤ i → end ≡ oldest_place (take used rs)
-  seek_end h =
-      let all : end ≡ i + 0 = omega (arith, s.within) in
-      all ∙ sym (s.ahead ∙ rw (drop_of_length-le (take used rs) {i = i} (omega (arith, used_length))))
-
-pub ruleset seeking = (seek_start, seek_turn, seek_hit, seek_end, rules)
+pub oldest_found : {k : ℕ} (rs : List ℕ) → oldest_place rs ≡ Some k → (k < length rs) × (get_or rs k 0 ≡ 1)
+oldest_found {k} rs e = let found = position-Some (λ r. eqb r 1) rs k 0 e in (found.0, eqb-true (get_or rs k 0) 1 found.1)

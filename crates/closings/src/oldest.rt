@@ -2,18 +2,13 @@
 ghost use Rattle.std.specs.Prelude.{◌≡◌, take};
 ghost use Rattle.closings.specs.Oldest.{oldest_place};
 
+use crate::lists::used_entries;
 
-// The place of the first used entry 1. Where there is none, how many entries are used.
-pub fn oldest_cell(used: usize, entries: &[u16]) -> usize
+// The place of the first used entry 1, if there is one.
+pub fn oldest_cell(used: usize, entries: &[u16]) -> Option<usize>
     ensures { result ≡ oldest_place (take used entries.now) }
 {
-    let end = used.min(entries.len());
-    let mut i = 0;
-    while i < end {
-        if entries[i] == 1 {
-            return i;
-        }
-        i += 1;
-    }
-    end
+    used_entries(used, entries)
+        .iter()
+        .position(|entry| *entry == 1)
 }

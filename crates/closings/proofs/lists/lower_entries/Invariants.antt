@@ -1,11 +1,6 @@
--- `closings::lists::lower_entries` meets its contract, by the laws of specs/Lowering. Assumes nothing.
-use Prim.Native.Nat.{◌-◌}
-use lib.ListN.{length}
+-- The invariant: the entries before the place are one less.
 use Rattle.closings.specs.Lowering.{Lowering}
 use Rattle.closings.proofs.lists.lower_entries.Given as goal
 
-abbrev pub invariant-loop-i : goal.invariant-loop-i
-invariant-loop-i l = Lowering l.initial.entries l.i l.entries
-
-abbrev pub decreases-loop-i : goal.decreases-loop-i
-decreases-loop-i l = length l.initial.entries - l.i
+abbrev pub invariant-loop-entry : goal.invariant-loop-entry
+invariant-loop-entry l = Lowering l.initial.entries l.entry-index l.entries
