@@ -3,24 +3,18 @@
 --     used_judgements, free_judgements     the same of the lists of a pair
 --     used_checks, insert_checks       what 4 to 8 and 17, 12 and 13, and what all of them say
 --     Sized                          1, 2 and 3 have passed: the rank is one, and the used cells are there
---     all_letters                    4 of the used letters and then of the new one, whose place is their number
---     used_checked                   4 to 8 and 17, 12 and 13 from the verdicts on cells and rooms
---     sizes_refused, sizes_passed, sizes_sized     what follows from the verdict on 1, 2 and 3
---     checking                       the ruleset of the checks
+--     letters_last                   4 of the used letters and then of the new one, whose place is their number
+--     sized                          1, 2 and 3 have passed, by what the check of them says
 -- Assumes nothing.
-use Rattle.std.specs.Prelude.{Option, Some, None, Result, Ok, Err}
-use Rattle.std.specs.Prelude.{ℕ, suc, ◌+◌, ◌-◌, ◌≤◌, ◌≡◌, refl, List, [], ◌∷◌, ◌++◌, Bool, true, false, length, take}
-use Rattle.std.proofs.Math.Nat.{sub-zero}
-use Rattle.std.proofs.Common.{arith, add-one, sym, ◌∙◌, rules}
-use Rattle.hypoplactic.specs.Insertion.{Pair, pair_with}
-use Rattle.outcomes.specs.Replies.{Said, passed, or_else, first, refuse_if}
+use Rattle.std.specs.Prelude.{ℕ, suc, ◌+◌, ◌≤◌, ◌≡◌, refl, List, [], ◌∷◌, ◌++◌, Bool, true, false, length, take}
+use Rattle.std.proofs.Common.{arith, sym}
+use Rattle.hypoplactic.specs.Insertion.{Pair}
+use Rattle.outcomes.specs.Replies.{Said, gives, passed, or_else, first, refuse_if}
 use Rattle.outcomes.specs.Counts.{counts_judged}
 use Rattle.outcomes.specs.Judgements.{entries_judged, full_judged, length_judged, letters_from, letters_judged, marks_judged, outside, pair_rooms, rank_judged, recording_judged, rising_judged, used_judged}
 use Rattle.outcomes.proofs.Theory.Judgements.{length-judged, rank_judged_lem, used_judged_lem}
-use Rattle.refusals.specs.Chains.{chained}
-use Rattle.refusals.specs.Running.{checks_then, checked_then, stops_there, goes_further, all_passing}
-use Rattle.refusals.specs.Said.{said_refusal, said_verdict}
-use Rattle.refusals.specs.declared.refusal.Refusal.{Refusal}
+use Rattle.outcomes.proofs.Theory.Passing.{first-passed}
+use Rattle.refusals.specs.Running.{checks_then}
 
 -- 1, 2 and 3, from the lengths of the three lists.
 abbrev pub size_judgements : ℕ → ℕ → ℕ → ℕ → ℕ → List Said
@@ -75,38 +69,17 @@ letters_from_snoc n a i (x ∷ xs) =
     go false s t = refl
 
 -- 4 of the used letters, or else of the new one, whose place is their number.
-pub all_letters : {b : Bool} (t u v : Result (Unit {0}) Refusal) (n a : ℕ) (xs : List ℕ) → said_verdict t ≡ or_else (said_verdict u) (said_verdict v)
-    → said_verdict u ≡ letters_judged n xs → said_verdict v ≡ refuse_if b 4 (length xs) passed → b ≡ outside n a
-    → said_verdict t ≡ letters_judged n (xs ++ a ∷ [])
+pub letters_last : (n a : ℕ) (xs : List ℕ)
+    → letters_judged n (xs ++ a ∷ []) ≡ or_else (letters_judged n xs) (refuse_if (outside n a) 4 (length xs) passed)
 unfolding letters_judged
-all_letters t u v n a xs e f g h =
-    let z : 0 + length xs ≡ length xs = omega arith in
-    rw h at (chained t u v e _ _ f g) ∙ sym (rw z at (letters_from_snoc n a 0 xs))
+letters_last n a xs = let z : 0 + length xs ≡ length xs = omega arith in rw z at (letters_from_snoc n a 0 xs)
 
--- ---- the checks
+-- ---- the sizes
 
--- The cells, then the rooms.
-pub used_checked : (t u v : Result (Unit {0}) Refusal) (n used a : ℕ) (xs ms rs cs : List ℕ) → said_verdict t ≡ or_else (said_verdict u) (said_verdict v)
-    → said_verdict u ≡ first (cell_judgements n used a (take (used - 0) xs) (take (used - 0) ms) (take (used - 0) rs) cs) passed
-    → said_verdict v ≡ first (room_judgements used (used + 1) (length xs) (length ms) (length rs)) passed
-    → said_verdict t ≡ used_checks n used a (pair_with xs ms rs) cs
-used_checked t u v n used a xs ms rs cs e f g = checked_then t u v _ e (rw sub-zero at f) _ (rw add-one at g)
-
--- The verdict on the sizes,
-module _ {v : Result (Unit {0}) Refusal} (n used a : ℕ) (xs ms rs cs : List ℕ)
-    (e : said_verdict v ≡ first (size_judgements n used (length xs) (length ms) (length rs)) passed) where
-  -- which refuses,
-  pub sizes_refused : (r : Refusal) → v ≡ Err r → said_refusal r ≡ insert_checks n used a (pair_with xs ms rs) cs
-  sizes_refused r q = stops_there _ e _ r q
-
-  -- or passes, and the other checks decide,
-  pub sizes_passed : {s : Said} → v ≡ Ok tt → s ≡ used_checks n used a (pair_with xs ms rs) cs → s ≡ insert_checks n used a (pair_with xs ms rs) cs
-  sizes_passed q h = goes_further _ e _ _ q h
-
--- the rank being one, and the used cells being there.
-pub sizes_sized : {v : Result (Unit {0}) Refusal} (n used x y z : ℕ) → said_verdict v ≡ first (size_judgements n used x y z) passed → v ≡ Ok tt → Sized n used x y z
-sizes_sized n used x y z e q =
-    let (rank, (short, (held, t))) = all_passing (size_judgements n used x y z) e q in
+-- Where 1, 2 and 3 pass, the rank is one, and the used cells are there.
+pub sized : (n used x y z : ℕ) → gives [] ≡ first (size_judgements n used x y z) passed → Sized n used x y z
+sized n used x y z e =
+    let (rank, (short, (held, t))) = (first-passed (size_judgements n used x y z)).0 (sym e) in
     let all = (used_judged_lem used (x ∷ y ∷ z ∷ [])).0 held in
     record {
       low = ((rank_judged_lem n).0 rank).0;
@@ -116,5 +89,3 @@ sizes_sized n used x y z e q =
       in_marks = all.1.0;
       in_entries = all.1.1.0;
     }
-
-pub ruleset checking = (all_letters, used_checked, sizes_refused, sizes_passed, sizes_sized, rules)

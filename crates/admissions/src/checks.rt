@@ -29,12 +29,12 @@ pub fn check_sizes(
 }
 
 // 4 of the used letters and then of the new one, whose place is their number.
+#[tactic(auto, using(crate::specs::Checks::letters_last))]
 fn check_all_letters(rank: usize, letter: usize, letters: &[u8]) -> Result<(), Refusal>
     ensures { said_verdict result ≡ letters_judged rank (letters.now ++ letter ∷ []) }
 {
-    let outside = (letter < 1) | (rank < letter);
     check_letters(rank, letters)?;
-    if outside {
+    if letter < 1 || rank < letter {
         return Err(Refusal::Letter(letters.len()));
     }
     Ok(())
@@ -71,6 +71,7 @@ fn check_rooms(used: usize, letters: usize, marks: usize, entries: usize) -> Res
 }
 
 // 4 to 8 and 17, 12 and 13, once the used count is above none of the lengths.
+#[tactic(auto, unfolding(refusals::specs::Running::checks_then))]
 fn check_used_cells(
     rank: usize,
     used: usize,
@@ -88,15 +89,16 @@ fn check_used_cells(
         rank,
         used,
         letter,
-        &letters[0..used],
-        &marks[0..used],
-        &entries[0..used],
+        &letters[..used],
+        &marks[..used],
+        &entries[..used],
         counts,
     )?;
     check_rooms(used, letters.len(), marks.len(), entries.len())
 }
 
 // All checks of insertion: 1 to 6, 17, 7, 8, 12 and 13.
+#[tactic(auto, using(crate::specs::Checks::sized), unfolding(refusals::specs::Running::checks_then))]
 pub fn check_insertion(
     rank: usize,
     used: usize,
@@ -109,12 +111,6 @@ pub fn check_insertion(
     ensures { said_verdict result
         ≡ insert_checks rank used letter (pair_with letters.now marks.now entries.now) counts.now }
 {
-    check_sizes(
-        rank,
-        used,
-        letters.len(),
-        marks.len(),
-        entries.len(),
-    )?;
+    check_sizes(rank, used, letters.len(), marks.len(), entries.len())?;
     check_used_cells(rank, used, letter, letters, marks, entries, counts)
 }
