@@ -1,15 +1,8 @@
 -- The tally of a line's items, one item after another, and the checks by it.
 --     tallied_more                         a tally of items with one item added is the tally of one item more
---     next_is                              the number of items with one more, from what is computed
---     lead_fault, lead_stays, lead_grows   a lead after one more item, by the tests that are made
---     added                                an item is added to a tally, from its five new numbers
---     tally_said                           what is said by a tally, from two verdicts
 --     tally-judges                         it is what is said of all items with that tally
---     tallying                             the ruleset of the functions that tally and check
 -- Assumes nothing.
-use Rattle.std.specs.Prelude.{Option, Some, None, Result, Ok, Err}
-use Rattle.refusals.specs.declared.refusal.Refusal.{Refusal}
-use Rattle.std.specs.Prelude.{ℕ, suc, ◌+◌, ◌<◌, ◌≤◌, min, ◌≡◌, refl, Bool, true, false, ◌||◌, cond, not, List, [], ◌∷◌, ◌++◌, ◌⊎◌, eqb, leb, ltb, length}
+use Rattle.std.specs.Prelude.{ℕ, suc, ◌+◌, ◌<◌, ◌≤◌, ◌≡◌, refl, Bool, true, false, ◌||◌, cond, not, List, [], ◌∷◌, ◌++◌, ◌⊎◌, eqb, leb, ltb, length}
 use Rattle.std.proofs.Common.{sym, ap, ap₂, ◌∙◌, inl, inr, arith, length-append}
 use Rattle.std.proofs.Math.Nat.{zero-add}
 use borrow.Author.Tests.{le-ltb, lt-ltb, ne_eqb}
@@ -18,8 +11,6 @@ use Rattle.outcomes.specs.Judgements.{length_judged, letters_from, letters_judge
 use Rattle.outcomes.specs.Replies.{Passes, Said, first, gives, or_else, passed, refused, refuse_if}
 use Rattle.outcomes.proofs.Theory.Judgements.{length-judged}
 use Rattle.hypoplactic.proofs.Theory.Pairs.{le-or-lt}
-use Rattle.refusals.specs.Chains.{chained_two, chaining}
-use Rattle.refusals.specs.Said.{said_verdict}
 use Rattle.run_lines.specs.Judgements.{item_letters, run_judgements, runs_from, runs_judged, sum_judged}
 use Rattle.run_lines.specs.Runs.{run_cells}
 use Rattle.run_tallies.specs.declared.tally.Tally.{Tally}
@@ -91,33 +82,6 @@ tallied_more {n} {rs} {y} {z} r h a l = record {
   sum = a.sum ∙ rw (h.sum, cells_more rs r) (capped_more (run_cells rs) r.times);
 }
 
--- ---- the functions that add an item
-
-pub next_is : {m : ℕ} (k : ℕ) → m ≡ min k 9223372036854775807 → m + 1 ≡ next_count k
-unfolding next_count
-next_is k e = rw e
-
-module _ (b : Bool) (l k : ℕ) where
-  -- A fault in the item that is added,
-  pub lead_fault : b ≡ true → l ≡ lead_after b l k
-  unfolding lead_after
-  lead_fault e = rw e
-
-  -- or before it,
-  pub lead_stays : b ≡ false → l < k → l ≡ lead_after b l k
-  unfolding lead_after
-  lead_stays e h = rw (e, lt-ltb l k h)
-
-  -- or none.
-  pub lead_grows : {m : ℕ} → b ≡ false → k ≤ l → m ≡ next_count k → m ≡ lead_after b l k
-  unfolding lead_after
-  lead_grows e h q = rw (e, le-ltb l k h) q
-
-pub added : {o f : Bool} {i p q s : ℕ} (n x k : ℕ) (y : Tally) → o ≡ outside n x → f ≡ (leb x y.last || eqb k 0) → i ≡ next_count y.items
-    → p ≡ lead_after o y.inside y.items → q ≡ lead_after f y.rising y.items → s ≡ capped (capped y.sum + k)
-    → Added n x k y (record { items = i; inside = p; rising = q; last = x; sum = s })
-added n x k y o f i p q s = record { items = i; inside = rw (← o) p; rising = rw (← f) q; last = refl; sum = s }
-
 -- ---- the checks
 
 -- A check of one item and others, by the lead over the others.
@@ -173,15 +137,7 @@ past : {s t : Said} (j : Said) → (Passes j → s ≡ t) → or_else j s ≡ or
 past (gives vs) e = e tt
 past (refused k p) e = refl
 
--- The verdict t is that of 1 and 2 or else that by the tally.
-pub tally_said : (t u v : Result (Unit {0}) Refusal) (n L : ℕ) (y : Tally) → said_verdict t ≡ or_else (said_verdict u) (said_verdict v)
-    → said_verdict u ≡ or_else (rank_judged n) (or_else (length_judged L) passed) → said_verdict v ≡ first (tally_judgements L y) passed → said_verdict t ≡ tally_says n L y
-unfolding tally_says
-tally_said t u v n L y e f g = chained_two t u v e (rank_judged n) (length_judged L) _ f g
-
 -- By the tally of items these are the checks of all of them.
 pub tally-judges : (n L : ℕ) (y : Tally) (rs : List Run) → Tallied n rs y → tally_says n L y ≡ first (run_judgements n L rs) passed
 unfolding tally_says
 tally-judges n L y rs h = ap (or_else (rank_judged n)) (past (length_judged L) (λ p. items_tallied h L ((length-judged L).0 p)))
-
-pub ruleset tallying = (next_is, lead_fault, lead_stays, lead_grows, added, tally_said, chaining)

@@ -9,7 +9,7 @@
 --     Added n x k y z           the tally z is y with one item more, of the letter x and the count k
 --     tally_judgements L y       4, 19 and 20 by a tally
 --     tally_says n L y           1, 2, 4, 19 and 20 by a tally. Of a tally that items have it is what run_judgements say of them (tally-judges in Leads)
---     kept_at x v cs             64 numbers, one for each letter, with v stored at the place of the letter x
+--     kept_at x v cs             64 values, one for each letter, with v stored at the place of the letter x
 --     tabled f rs cs            with what f tells of each item stored at its letter's place, a later item over an earlier
 -- Assumes nothing.
 use Rattle.std.specs.Prelude.{ℕ, suc, ◌+◌, ◌-◌, min, ◌≡◌, Bool, ◌||◌, cond, not, List, [], ◌∷◌, eqb, leb, ltb, length, set}
@@ -79,7 +79,7 @@ tally_says n L y = first (rank_judged n ∷ length_judged L ∷ tally_judgements
 -- ---- tables
 
 -- Nothing is stored where the letter is outside 1 to 64.
-unfoldable pub kept_at : ℕ → ℕ → List ℕ → List ℕ
+unfoldable pub kept_at : {A : Type 0} → ℕ → A → List A → List A
 kept_at x v cs = cond (outside 64 x) cs (set cs (x - 1) v)
 
 -- Every item, one after another.

@@ -25,6 +25,7 @@ fn check_items(size: usize, tally: Tally) -> Result<(), Refusal>
 }
 
 // 1, 2, 4, 19 and 20 of rank, number of cells and items with this tally. A sum above 1,024 is told from every number of cells that passes 2.
+#[tactic(auto, unfolding(crate::specs::Tallies::tally_says))]
 pub fn check_tally(rank: usize, size: usize, tally: Tally) -> Result<(), Refusal>
     ensures { said_verdict result ≡ tally_says rank size tally }
 {
