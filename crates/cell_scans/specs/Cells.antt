@@ -110,10 +110,14 @@ module _ (text : List ℕ) (at : ℕ) where
   pub cell_broken : {p : ℕ} → Told text (after 44 read_step (drop at text)) (broken (drop p text)) p → Told text (read_cell (drop at text)) (broken (drop p text)) p
   cell_broken f = record { says = rw f.says; within = f.within }
 
-  pub cell_marked : {m next : ℕ} {s : Read (ℕ × ℕ)} {p : ℕ} → Told text (after 44 read_step (drop at text)) (got m (drop next text)) next
-      → Told text (read_marked m (drop next text)) s p → Told text (read_cell (drop at text)) s p
+  pub cell-marked : {m next : ℕ} → Told text (after 44 read_step (drop at text)) (got m (drop next text)) next
+      → read_cell (drop at text) ≡ read_marked m (drop next text)
   unfolding read_marked
-  cell_marked f h = record { says = rw f.says h.says; within = h.within }
+  cell-marked f = rw f.says
+
+  pub cell_read : {m next : ℕ} {s : Read (ℕ × ℕ)} {p : ℕ} → Told text (after 44 read_step (drop at text)) (got m (drop next text)) next
+      → Told text (read_marked m (drop next text)) s p → Told text (read_cell (drop at text)) s p
+  cell_read f h = record { says = cell-marked f ∙ h.says; within = h.within }
 
 -- An item with a step, and one without.
 module _ {text : List ℕ} (t : List ℕ) {stepped : Bool} {s : Read (ℕ × ℕ)} {p : ℕ} where

@@ -4,13 +4,13 @@
 --     ItemsRead              the items are read, and the line feed stands after them
 --     ItemsTold              by what is replied: they are read, or the grammar breaks; the tables of those that were read in both cases
 --     Scanning               the loop over items: those read so far, and what is left, give the whole
---     scanning               the ruleset of that loop
 -- One item is in Runs. Assumes nothing.
-use Rattle.std.specs.Prelude.{ℕ, zero, suc, ◌+◌, ◌-◌, ◌*◌, ◌^◌, ◌≤◌, ◌<◌, ◌≡◌, refl, Bool, true, false, cond, List, [], ◌∷◌, ◌++◌, length, get_or, drop}
-use Rattle.std.proofs.Common.{ap, sym, ◌∙◌, append-nil, arith, drop_of_length-le, length-append, length-drop, drop-cons, rules, eq-eqb, ne_eqb}
+use Rattle.std.specs.Prelude.{ℕ, zero, suc, ◌+◌, ◌-◌, ◌*◌, ◌^◌, ◌≤◌, ◌<◌, ◌≡◌, refl, Bool, true, false, cond, List, [], ◌∷◌, ◌++◌, Result, Ok, Err, length, get_or, drop}
+use Rattle.std.proofs.Common.{ap, sym, ◌∙◌, append-nil, arith, drop_of_length-le, length-append, length-drop, drop-cons, rules, eqb-true}
 use Rattle.std.proofs.Math.Seq.{append_snoc}
 use Rattle.grammar.specs.Lines.{Run}
 use Rattle.grammar.specs.Reading.{broken, feed_next, got, onward, read_runs, turned, until_feed}
+use Rattle.numerals.specs.Bytes.{starts_inside, starts_with}
 use Rattle.numerals.specs.Numbers.{Told}
 use Rattle.run_lines.specs.Runs.{run_with}
 use Rattle.run_tallies.specs.Leads.{tallied_more}
@@ -18,11 +18,9 @@ use Rattle.run_tallies.specs.Tables.{tabled_more}
 use Rattle.run_tallies.specs.Tallies.{Added, Fresh, Tallied, kept_at, tabled}
 use Rattle.run_tallies.specs.declared.tally.Tally.{Tally}
 use Rattle.scans.specs.Items.{and_more, turned_more, turned_same}
-use Rattle.run_scans.specs.Runs.{RunTold, read_run_item, run_none, run_takes}
+use Rattle.numerals.specs.declared.numbers.Broken.{Broken}
+use Rattle.run_scans.specs.Runs.{read_run_item, run_none, run_takes}
 use Rattle.run_scans.specs.declared.items.Items.{Items}
-use Rattle.run_scans.specs.declared.items.Items.TheVariants as items
-use Rattle.run_scans.specs.declared.runs.Run.{Run as RunReply}
-use Rattle.run_scans.specs.declared.runs.Run.TheVariants as run
 
 -- ---- the items that are read
 
@@ -67,12 +65,12 @@ pub record ItemsRead (text t : List ℕ) (n p : ℕ) (y : Tally) : Type 0 where
   pub tallied : Tallied n (begun_runs t) y
 
 -- They are read, or the grammar breaks.
-abbrev ItemsReplied : List ℕ → List ℕ → ℕ → Items → Type 0
-ItemsReplied text t n (items.Read p y) = ItemsRead text t n p y
-ItemsReplied text t n (items.Broken p) = Told text (read_runs t) (broken (drop p text)) p
+abbrev ItemsReplied : List ℕ → List ℕ → ℕ → Result Items Broken → Type 0
+ItemsReplied text t n (Ok i) = ItemsRead text t n i.feed i.tally
+ItemsReplied text t n (Err b) = Told text (read_runs t) (broken (drop b.place text)) b.place
 
 -- And the counts and marks of those that were read are in the tables.
-pub record ItemsTold (text t : List ℕ) (n : ℕ) (old_times old_marks ts ms : List ℕ) (r : Items) : Type 0 where
+pub record ItemsTold (text t : List ℕ) (n : ℕ) (old_times old_marks ts ms : List ℕ) (r : Result Items Broken) : Type 0 where
   pub replied : ItemsReplied text t n r
   pub times_are : ts ≡ tabled (λ r. r.times) (begun_runs t) old_times
   pub marks_are : ms ≡ tabled (λ r. r.mark) (begun_runs t) old_marks
@@ -118,33 +116,27 @@ module _ {text t : List ℕ} {n : ℕ} {old_times old_marks ts ms : List ℕ} {y
     all_read : begun_runs t ≡ g.sofar
     all_read = rw (one_allowed, none, append-nil g.sofar) at g.begun_are
 
-    scanned : {r : Items} → ItemsReplied text t n r → ItemsTold text t n old_times old_marks ts ms r
+    scanned : {r : Result Items Broken} → ItemsReplied text t n r → ItemsTold text t n old_times old_marks ts ms r
     scanned h = record { replied = h; times_are = rw all_read g.held.times_are; marks_are = rw all_read g.held.marks_are }
 
   -- The line feed stands next,
-  pub scan_feed : at < length text → get_or text at 0 ≡ 10 → ItemsTold text t n old_times old_marks ts ms (items.Read at y)
-  scan_feed l e =
-      let here : feed_next (drop at text) ≡ true = rw (drop-cons text at 0 l) (eq-eqb (get_or text at 0) 10 e) in
+  pub scan_feed : true ≡ starts_with 10 (drop at text) → ItemsTold text t n old_times old_marks ts ms (Ok (record { feed = at; tally = y }))
+  scan_feed e =
+      let l : at < length text = starts_inside text at 10 (sym e) in
+      let here : feed_next (drop at text) ≡ true = sym e in
       let none : begun_from stepped (suc (g.allowed - 1)) (drop at text) ≡ [] = rw here in
       scanned none
       (record {
         read = rw (all_read none) (rw (one_allowed, here, append-nil g.sofar) at g.left_over);
         inside = l;
-        feed = e;
+        feed = eqb-true (get_or text at 0) 10 (rw (drop-cons text at 0 l) at (sym e));
         tallied = rw (all_read none) g.held.tallied;
       })
 
-  -- or the text has ended,
-  pub scan_end : length text ≤ at → ItemsTold text t n old_times old_marks ts ms (items.Broken at)
-  scan_end l =
-      let gone : drop at text ≡ [] = drop_of_length-le text l in
-      scanned (rw (gone, run_none stepped))
-      (record { says = rw gone (rw (one_allowed, gone, run_none stepped) at g.left_over); within = g.within })
-
-  module _ (l : at < length text) (e : get_or text at 0 ≡ 10 → ⊥) where
+  module _ (e : false ≡ starts_with 10 (drop at text)) where
     -- or an item is read next.
     no_feed : feed_next (drop at text) ≡ false
-    no_feed = rw (drop-cons text at 0 l) (ne_eqb (get_or text at 0) 10 e)
+    no_feed = sym e
 
     item_left : read_runs t
         ≡ turned (λ more. g.sofar ++ more) (onward ◌∷◌ (λ a u. until_feed (read_run_item true) (read_run_item true) (g.allowed - 1) u) (read_run_item stepped (drop at text)))
@@ -153,38 +145,30 @@ module _ {text t : List ℕ} {n : ℕ} {old_times old_marks ts ms : List ℕ} {y
     item_begun : begun_runs t ≡ g.sofar ++ and_more (read_run_item stepped (drop at text)) (begun_from true (g.allowed - 1))
     item_begun = rw (one_allowed, no_feed) at g.begun_are
 
-    module _ {r : RunReply} (told : RunTold text (read_run_item stepped (drop at text)) r) where
-      -- It breaks the grammar,
-      pub scan_broken : {p : ℕ} → r ≡ run.Broken p → ItemsTold text t n old_times old_marks ts ms (items.Broken p)
-      scan_broken {p} q =
-          let f : Told text (read_run_item stepped (drop at text)) (broken (drop p text)) p = rw q at told in
-          scanned (rw (no_feed, f.says)) (record { says = rw f.says at item_left; within = f.within })
+    -- It breaks the grammar, as where the text has ended,
+    pub scan_broken : {b : Broken} → Told text (read_run_item stepped (drop at text)) (broken (drop b.place text)) b.place → ItemsTold text t n old_times old_marks ts ms (Err b)
+    scan_broken f = scanned (rw (no_feed, f.says)) (record { says = rw f.says at item_left; within = f.within })
 
-      module _ {x k m next : ℕ} (q : r ≡ run.Read x k m next) where
-        -- or is kept, and takes a byte.
-        run_got : Told text (read_run_item stepped (drop at text)) (got (run_with x k m) (drop next text)) next
-        run_got = rw q at told
+    -- or is kept, and takes a byte.
+    module _ {x k m next : ℕ} (f : Told text (read_run_item stepped (drop at text)) (got (run_with x k m) (drop next text)) next) where
+      further : (at < next) × (at < length text)
+      further =
+          let less : length (drop next text) < length (drop at text) = run_takes stepped (drop at text) (run_with x k m) (drop next text) f.says in
+          (omega (arith, less, length-drop next text, length-drop at text), omega (arith, less, length-drop at text))
 
-        further : at < next
-        further =
-            let less : length (drop next text) < length (drop at text) = run_takes stepped (drop at text) (run_with x k m) (drop next text) run_got.says in
-            omega (arith, less, length-drop next text, length-drop at text)
+      pub scan_less : length text - next < length text - at
+      scan_less = omega (arith, further.0, further.1)
 
-        pub scan_less : length text - next < length text - at
-        scan_less = omega (arith, further, l)
-
-        pub scan_turn : {ts' ms' : List ℕ} {z : Tally} → ts' ≡ kept_at x k ts → ms' ≡ kept_at x m ms → Added n x k y z
-            → Scanning text t n old_times old_marks ts' ms' z true next
-        scan_turn a b d = record {
-          sofar = g.sofar ++ (run_with x k m ∷ []);
-          allowed = g.allowed - 1;
-          left_over = rw run_got.says at item_left ∙ turned_more g.sofar (run_with x k m) (until_feed (read_run_item true) (read_run_item true) (g.allowed - 1) (drop next text));
-          begun_are = item_begun ∙ rw run_got.says (sym (append_snoc g.sofar (run_with x k m) (begun_from true (g.allowed - 1) (drop next text))));
-          enough = omega (arith, g.enough, further);
-          few = omega (arith, length-append g.sofar (run_with x k m ∷ []), g.few, further);
-          within = run_got.within;
-          short = g.short;
-          held = held_more x k m g.held a b d (omega (arith, g.few, g.short, l));
-        }
-
-pub ruleset scanning = (scan_start, scan_feed, scan_end, scan_broken, scan_less, scan_turn, rules)
+      pub scan_turn : {ts' ms' : List ℕ} {z : Tally} → ts' ≡ kept_at x k ts → ms' ≡ kept_at x m ms → Added n x k y z
+          → Scanning text t n old_times old_marks ts' ms' z true next
+      scan_turn a b d = record {
+        sofar = g.sofar ++ (run_with x k m ∷ []);
+        allowed = g.allowed - 1;
+        left_over = rw f.says at item_left ∙ turned_more g.sofar (run_with x k m) (until_feed (read_run_item true) (read_run_item true) (g.allowed - 1) (drop next text));
+        begun_are = item_begun ∙ rw f.says (sym (append_snoc g.sofar (run_with x k m) (begun_from true (g.allowed - 1) (drop next text))));
+        enough = omega (arith, g.enough, further.0);
+        few = omega (arith, length-append g.sofar (run_with x k m ∷ []), g.few, further.0);
+        within = f.within;
+        short = g.short;
+        held = held_more x k m g.held a b d (omega (arith, g.few, g.short, further.1));
+      }

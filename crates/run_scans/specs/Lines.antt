@@ -2,11 +2,10 @@
 --     read_body                          a C line from its items on
 --     whole_runs                         the items of a C line that are read before the line feed or the break
 --     LineTold, RunsScanned             by what is replied: the line is read, and this is the tally of its items, or the grammar breaks; and what the tables hold
---     run_line_broken, run_line_read    what is replied, by its cases
+--     run_line_held                     of a line that is read, the tally and the tables hold its items
 --     c_line_lem                            read_c, with its parts one after another
---     lining                            the ruleset of whole C lines
 -- The items are in Items. Assumes nothing.
-use Rattle.std.specs.Prelude.{ℕ, ◌+◌, ◌^◌, ◌≤◌, ◌<◌, ◌≡◌, refl, Bool, false, cond, List, [], ◌∷◌, eqb, length, drop}
+use Rattle.std.specs.Prelude.{ℕ, ◌+◌, ◌^◌, ◌≤◌, ◌<◌, ◌≡◌, refl, Bool, false, cond, List, [], ◌∷◌, Result, Ok, Err, eqb, length, drop}
 use Rattle.std.proofs.Common.{◌∙◌, arith, drop_of_length-le, Fits, rules}
 use Rattle.std.proofs.Math.Bool.{true}
 use Rattle.std.proofs.Math.Numerals.{add-one}
@@ -17,14 +16,11 @@ use Rattle.grammar.specs.Reading.{Read, after, broken, ended, got, onward, read_
 use Rattle.numerals.specs.Numbers.{Told}
 use Rattle.run_tallies.specs.Tallies.{Tallied, tabled}
 use Rattle.run_tallies.specs.declared.tally.Tally.{Tally}
-use Rattle.scans.specs.Heads.{Lined, and_then, read_counted, read_end, read_head}
-use Rattle.scans.specs.declared.line.Line.{Line}
-use Rattle.scans.specs.declared.line.Line.TheVariants as line
-use Rattle.run_scans.specs.Items.{Held, ItemsRead, ItemsTold, begun_runs}
+use Rattle.numerals.specs.declared.numbers.Broken.{Broken}
+use Rattle.scans.specs.Heads.{and_then, read_counted, read_end, read_head}
+use Rattle.run_scans.specs.Items.{Held, ItemsTold, begun_runs}
 use Rattle.run_scans.specs.declared.items.Items.{Items}
-use Rattle.run_scans.specs.declared.items.Items.TheVariants as items
 use Rattle.run_scans.specs.declared.line.RunLine.{RunLine}
-use Rattle.run_scans.specs.declared.line.RunLine.TheVariants as runs
 
 -- A C line from its items on.
 unfoldable pub read_body : ℕ → ℕ → List ℕ → Read (ℕ × ℕ × List Run)
@@ -41,60 +37,51 @@ whole_runs t = head_runs (read_head 67 true t)
 -- ---- what is replied
 
 -- The line is read, with these items, and this is their tally; or the grammar breaks.
-abbrev pub LineTold : List ℕ → Read (ℕ × ℕ × List Run) → List Run → RunLine → Type 0
-LineTold text reading rs (runs.Read n k y) = (reading ≡ got (n, k, rs) []) × Tallied n rs y
-LineTold text reading rs (runs.Broken p) = Told text reading (broken (drop p text)) p
+abbrev pub LineTold : List ℕ → Read (ℕ × ℕ × List Run) → List Run → Result RunLine Broken → Type 0
+LineTold text reading rs (Ok l) = (reading ≡ got (l.rank, l.size, rs) []) × Tallied l.rank rs l.tally
+LineTold text reading rs (Err b) = Told text reading (broken (drop b.place text)) b.place
 
 -- And whatever is replied, the counts and marks of the items that were read are in the tables, over what they held.
-pub record RunsScanned (text : List ℕ) (reading : Read (ℕ × ℕ × List Run)) (rs : List Run) (old_times old_marks ts ms : List ℕ) (r : RunLine) : Type 0 where
+pub record RunsScanned (text : List ℕ) (reading : Read (ℕ × ℕ × List Run)) (rs : List Run) (old_times old_marks ts ms : List ℕ) (r : Result RunLine Broken) : Type 0 where
   pub told : LineTold text reading rs r
   pub times_are : ts ≡ tabled (λ r. r.times) rs old_times
   pub marks_are : ms ≡ tabled (λ r. r.mark) rs old_marks
 
-module _ {text : List ℕ} {reading : Read (ℕ × ℕ × List Run)} {rs : List Run} {old_times old_marks ts ms : List ℕ} {r : RunLine}
-    (s : RunsScanned text reading rs old_times old_marks ts ms r) where
-  pub run_line_broken : {p : ℕ} → r ≡ runs.Broken p → Told text reading (broken (drop p text)) p
-  run_line_broken e = rw e at s.told
-
-  pub run_line_read : {n k : ℕ} {y : Tally} → r ≡ runs.Read n k y → (reading ≡ got (n, k, rs) []) × Held n old_times old_marks ts ms y rs
-  run_line_read {n} {k} {y} e =
-      let f : (reading ≡ got (n, k, rs) []) × Tallied n rs y = rw e at s.told in
-      (f.0, record { tallied = f.1; times_are = s.times_are; marks_are = s.marks_are })
+-- Of a line that is read, the tally and the tables hold its items.
+pub run_line_held : {text : List ℕ} {reading : Read (ℕ × ℕ × List Run)} {rs : List Run} {old_times old_marks ts ms : List ℕ} {l : RunLine}
+    → RunsScanned text reading rs old_times old_marks ts ms (Ok l) → Held l.rank old_times old_marks ts ms l.tally rs
+run_line_held s = record { tallied = s.told.1; times_are = s.times_are; marks_are = s.marks_are }
 
 -- ---- from the items on
 
-module _ (text t : List ℕ) (n k : ℕ) (old_times old_marks ts ms : List ℕ) {g : Items} (h : ItemsTold text t n old_times old_marks ts ms g) where
-  -- The tables are as the items leave them, whatever follows.
-  body_scanned : {r : RunLine} → LineTold text (read_body n k t) (begun_runs t) r → RunsScanned text (read_body n k t) (begun_runs t) old_times old_marks ts ms r
-  body_scanned l = record { told = l; times_are = h.times_are; marks_are = h.marks_are }
-
+module _ (text t : List ℕ) (n k : ℕ) {old_times old_marks ts ms : List ℕ} where
   -- The items break the grammar,
-  pub body_broken : {p : ℕ} → g ≡ items.Broken p → RunsScanned text (read_body n k t) (begun_runs t) old_times old_marks ts ms (runs.Broken p)
+  pub body_broken : {b : Broken} → ItemsTold text t n old_times old_marks ts ms (Err b) → RunsScanned text (read_body n k t) (begun_runs t) old_times old_marks ts ms (Err b)
   unfolding read_body
-  body_broken {p} e =
-      let f : Told text (read_runs t) (broken (drop p text)) p = rw e at h.replied in
-      body_scanned (record { says = rw f.says; within = f.within })
+  body_broken h = record { told = record { says = rw h.replied.says; within = h.replied.within }; times_are = h.times_are; marks_are = h.marks_are }
 
-  module _ {p : ℕ} {y : Tally} (e : g ≡ items.Read p y) where
-    read_items_lem : ItemsRead text t n p y
-    read_items_lem = rw e at h.replied
-
-    -- The line feed stands in the text.
-    pub feed_fits : length text < 2 ^ 64 → Fits w64 (p + 1)
-    feed_fits s = record { fits = omega (arith, read_items_lem.inside) }
-
-    -- What follows it.
-    past_feed : read_body n k t ≡ turned (λ u. (n, k, begun_runs t)) (ended (drop (p + 1) text))
+  module _ {i : Items} (h : ItemsTold text t n old_times old_marks ts ms (Ok i)) where
+    -- What follows the line feed.
+    past_feed : read_body n k t ≡ turned (λ u. (n, k, begun_runs t)) (ended (drop (i.feed + 1) text))
     unfolding read_body read_end
-    past_feed = rw (read_items_lem.read, drop-cons text p 0 read_items_lem.inside, read_items_lem.feed, add-one p)
+    past_feed = rw (h.replied.read, drop-cons text i.feed 0 h.replied.inside, h.replied.feed, add-one i.feed)
 
     -- More bytes,
-    pub body_more : p + 1 < length text → RunsScanned text (read_body n k t) (begun_runs t) old_times old_marks ts ms (runs.Broken (p + 1))
-    body_more l = body_scanned (record { says = past_feed ∙ rw (drop-cons text (p + 1) 0 l); within = omega arith })
+    pub body_more : i.feed + 1 < length text → RunsScanned text (read_body n k t) (begun_runs t) old_times old_marks ts ms (Err (record { place = i.feed + 1 }))
+    body_more l = record {
+      told = record { says = past_feed ∙ rw (drop-cons text (i.feed + 1) 0 l); within = omega arith };
+      times_are = h.times_are;
+      marks_are = h.marks_are;
+    }
 
     -- or none.
-    pub body_last : length text ≤ p + 1 → RunsScanned text (read_body n k t) (begun_runs t) old_times old_marks ts ms (runs.Read n k y)
-    body_last l = body_scanned (past_feed ∙ rw (drop_of_length-le text {i = p + 1} l), read_items_lem.tallied)
+    pub body_last : length text ≤ i.feed + 1
+        → RunsScanned text (read_body n k t) (begun_runs t) old_times old_marks ts ms (Ok (record { rank = n; size = k; tally = i.tally }))
+    body_last l = record {
+      told = (past_feed ∙ rw (drop_of_length-le text {i = i.feed + 1} l), h.replied.tallied);
+      times_are = h.times_are;
+      marks_are = h.marks_are;
+    }
 
 -- ---- from the first byte on
 
@@ -138,24 +125,16 @@ c_line_lem = after_parts 67 _ _ _ (λ u. ranks (read_field u))
     ranks (got n u) = sizes n (read_field u)
     ranks (broken u) = refl
 
-module _ (text : List ℕ) {h : Line} (t : Lined text (read_head 67 true text) h) where
-  pub whole_within : {n k next : ℕ} → h ≡ line.Read n k next → next ≤ length text
-  whole_within e = let f = rw e at t in f.within
-
+module _ (text : List ℕ) where
   -- The beginning breaks the grammar,
-  pub whole_broken : {p : ℕ} (ts ms : List ℕ) → h ≡ line.Broken p → RunsScanned text (read_c text) (whole_runs text) ts ms ts ms (runs.Broken p)
+  pub whole_broken : {b : Broken} (ts ms : List ℕ) → Told text (read_head 67 true text) (broken (drop b.place text)) b.place
+      → RunsScanned text (read_c text) (whole_runs text) ts ms ts ms (Err b)
   unfolding whole_runs
-  whole_broken {p} ts ms e =
-      let f : Told text (read_head 67 true text) (broken (drop p text)) p = rw e at t in
-      record { told = record { says = c_line_lem text ∙ rw f.says; within = f.within }; times_are = rw f.says; marks_are = rw f.says }
+  whole_broken ts ms f = record { told = record { says = c_line_lem text ∙ rw f.says; within = f.within }; times_are = rw f.says; marks_are = rw f.says }
 
   -- or is followed by the items.
-  pub whole_body : {n k next : ℕ} {old_times old_marks ts ms : List ℕ} {r : RunLine} → h ≡ line.Read n k next
+  pub whole_body : {n k next : ℕ} {old_times old_marks ts ms : List ℕ} {r : Result RunLine Broken} → Told text (read_head 67 true text) (got (n, k) (drop next text)) next
       → RunsScanned text (read_body n k (drop next text)) (begun_runs (drop next text)) old_times old_marks ts ms r
       → RunsScanned text (read_c text) (whole_runs text) old_times old_marks ts ms r
   unfolding whole_runs
-  whole_body {n} {k} {next} e s =
-      let f : Told text (read_head 67 true text) (got (n, k) (drop next text)) next = rw e at t in
-      rw (c_line_lem text, f.says) s
-
-pub ruleset lining = (body_broken, feed_fits, body_more, body_last, whole_within, whole_broken, whole_body, rules)
+  whole_body f s = rw (c_line_lem text, f.says) s

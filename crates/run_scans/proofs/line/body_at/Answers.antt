@@ -1,27 +1,17 @@
--- `run_scans::line::body_at` meets its contract, by the laws of specs/Lines. Assumes nothing.
-use Rattle.run_scans.specs.Lines.{lining}
+-- The items break the grammar, or more bytes stand after the line feed, or none.
+use Rattle.std.proofs.Common.{arith}
+use Rattle.numerals.specs.Numbers.{passed}
+use Rattle.run_scans.specs.Lines.{body_broken, body_last, body_more}
 use Rattle.run_scans.proofs.line.body_at.Goals as goal
 
-pub items_at-items-requires : goal.items_at-items-requires
-items_at-items-requires c = search lining
-
-pub enum_known-items : goal.enum_known-items
-enum_known-items c = search lining
-
-pub enum_known-items-in-Read-1 : goal.enum_known-items-in-Read-1
-enum_known-items-in-Read-1 c = search lining
+pub returns-in_err-feed : goal.returns-in_err-feed
+returns-in_err-feed c = rw (passed c.from_residual.result c.from_residual.ensures.1) (body_broken _ _ c.args.head.rank c.args.head.count c.in_err-feed.ensures)
 
 pub overflow_add-feed : goal.overflow_add-feed
-overflow_add-feed c = search lining
-
-pub overflow_add-result : goal.overflow_add-result
-overflow_add-result c = search lining
+overflow_add-feed c = omega (arith, c.in_ok-feed.ensures.replied.inside)
 
 pub returns-then-feed-text : goal.returns-then-feed-text
-returns-then-feed-text c = search lining
+returns-then-feed-text c = body_more _ _ c.args.head.rank c.args.head.count c.in_ok-feed.ensures (omega arith)
 
-pub returns-in-Broken : goal.returns-in-Broken
-returns-in-Broken c = search lining
-
-pub returns-else-feed-text : goal.returns-else-feed-text
-returns-else-feed-text c = search lining
+pub returns : goal.returns
+returns c = body_last _ _ c.args.head.rank c.args.head.count c.in_ok-feed.ensures (omega arith)

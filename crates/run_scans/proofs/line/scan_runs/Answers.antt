@@ -1,21 +1,10 @@
--- `run_scans::line::scan_runs` meets its contract, by the laws of specs/Lines. Assumes nothing.
-use Rattle.run_scans.specs.Lines.{lining}
+-- The beginning breaks the grammar, or the line goes on from it.
+use Rattle.numerals.specs.Numbers.{passed}
+use Rattle.run_scans.specs.Lines.{whole_body, whole_broken}
 use Rattle.run_scans.proofs.line.scan_runs.Goals as goal
 
-pub head_at-head-requires : goal.head_at-head-requires
-head_at-head-requires c = search lining
+pub returns-in_err-head : goal.returns-in_err-head
+returns-in_err-head c = rw (passed c.from_residual.result c.from_residual.ensures.1) (whole_broken c.args.text.now _ _ c.in_err-head.ensures)
 
-pub enum_known-head : goal.enum_known-head
-enum_known-head c = search lining
-
-pub enum_known-head-in-Read-1 : goal.enum_known-head-in-Read-1
-enum_known-head-in-Read-1 c = search lining
-
-pub body_at-requires : goal.body_at-requires
-body_at-requires c = search lining
-
-pub returns-in-Broken : goal.returns-in-Broken
-returns-in-Broken c = search lining
-
-pub returns-in-Read : goal.returns-in-Read
-returns-in-Read c = search lining
+pub returns : goal.returns
+returns c = whole_body c.args.text.now c.in_ok-head.ensures c.body_at.ensures

@@ -1,15 +1,14 @@
--- `run_scans::runs::run_at` meets its contract, by the laws of specs/Runs. Assumes nothing.
-use Rattle.run_scans.specs.Runs.{running}
+-- No step is asked for, or none stands there, or it is read.
+use Rattle.numerals.specs.Numbers.{passed}
+use Rattle.run_scans.specs.Runs.{run-first, run-step_broken, run_step_read}
 use Rattle.run_scans.proofs.runs.run_at.Goals as goal
 
-pub step_run_at-requires : goal.step_run_at-requires
-step_run_at-requires c = search running
+pub returns-then-not-stepped : goal.returns-then-not-stepped
+returns-then-not-stepped c = rw c.if-not-stepped.true (run-first _ c.marked_run_at.ensures)
 
-pub returns-then-stepped : goal.returns-then-stepped
-returns-then-stepped c = search running
-
-pub marked_run_at-requires : goal.marked_run_at-requires
-marked_run_at-requires c = search running
+pub returns-in_err-mark : goal.returns-in_err-mark
+returns-in_err-mark c =
+    rw (c.if-not-stepped.false, passed c.from_residual.result c.from_residual.ensures.1) (run-step_broken c.args.text.now c.args.at c.in_err-mark.ensures)
 
 pub returns : goal.returns
-returns c = search running
+returns c = rw c.if-not-stepped.false (run_step_read c.args.text.now c.args.at c.in_ok-mark.ensures c.marked_run_at-2.ensures)
