@@ -5,7 +5,7 @@ ghost use Rattle.cell_scans.specs.Cells.{Celled, Stepped, mark_of, read_item, re
 
 use numerals::numbers::{Broken, Number, field_at, stands};
 
-// A cell, and the place after it, which stands between letter and mark so that the compiled code does not pack these into one register.
+// A cell, and the place after it, which stands second so that the compiled code does not pack the others into one register.
 #[derive(Clone, Copy, Debug, PartialEq, Eq)]
 pub struct Cell {
     pub letter: u16,

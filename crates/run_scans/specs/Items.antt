@@ -6,7 +6,7 @@
 --     Scanning               the loop over items: those read so far, and what is left, give the whole
 -- One item is in Runs. Assumes nothing.
 use Rattle.std.specs.Prelude.{ℕ, zero, suc, ◌+◌, ◌-◌, ◌*◌, ◌^◌, ◌≤◌, ◌<◌, ◌≡◌, refl, Bool, true, false, cond, List, [], ◌∷◌, ◌++◌, Result, Ok, Err, length, get_or, drop}
-use Rattle.std.proofs.Common.{ap, sym, ◌∙◌, append-nil, arith, drop_of_length-le, length-append, length-drop, drop-cons, rules, eqb-true}
+use Rattle.std.proofs.Common.{ap, sym, ◌∙◌, append-nil, arith, length-append, length-drop, drop-cons, eqb-true}
 use Rattle.std.proofs.Math.Seq.{append_snoc}
 use Rattle.grammar.specs.Lines.{Run}
 use Rattle.grammar.specs.Reading.{broken, feed_next, got, onward, read_runs, turned, until_feed}
@@ -19,7 +19,7 @@ use Rattle.run_tallies.specs.Tallies.{Added, Fresh, Tallied, kept_at, tabled}
 use Rattle.run_tallies.specs.declared.tally.Tally.{Tally}
 use Rattle.scans.specs.Items.{and_more, turned_more, turned_same}
 use Rattle.numerals.specs.declared.numbers.Broken.{Broken}
-use Rattle.run_scans.specs.Runs.{read_run_item, run_none, run_takes}
+use Rattle.run_scans.specs.Runs.{read_run_item, run_takes}
 use Rattle.run_scans.specs.declared.items.Items.{Items}
 
 -- ---- the items that are read

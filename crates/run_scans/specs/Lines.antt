@@ -5,17 +5,15 @@
 --     run_line_held                     of a line that is read, the tally and the tables hold its items
 --     c_line_lem                            read_c, with its parts one after another
 -- The items are in Items. Assumes nothing.
-use Rattle.std.specs.Prelude.{ℕ, ◌+◌, ◌^◌, ◌≤◌, ◌<◌, ◌≡◌, refl, Bool, false, cond, List, [], ◌∷◌, Result, Ok, Err, eqb, length, drop}
-use Rattle.std.proofs.Common.{◌∙◌, arith, drop_of_length-le, Fits, rules}
+use Rattle.std.specs.Prelude.{ℕ, ◌+◌, ◌≤◌, ◌<◌, ◌≡◌, refl, Bool, false, cond, List, [], ◌∷◌, Result, Ok, Err, eqb, length, drop}
+use Rattle.std.proofs.Common.{◌∙◌, arith, drop_of_length-le}
 use Rattle.std.proofs.Math.Bool.{true}
 use Rattle.std.proofs.Math.Numerals.{add-one}
 use Rattle.std.proofs.Math.Seq.{drop-cons}
-use Rattle.std.specs.Int.{w64}
 use Rattle.grammar.specs.Lines.{Run}
 use Rattle.grammar.specs.Reading.{Read, after, broken, ended, got, onward, read_c, read_field, read_runs, turned}
 use Rattle.numerals.specs.Numbers.{Told}
 use Rattle.run_tallies.specs.Tallies.{Tallied, tabled}
-use Rattle.run_tallies.specs.declared.tally.Tally.{Tally}
 use Rattle.numerals.specs.declared.numbers.Broken.{Broken}
 use Rattle.scans.specs.Heads.{and_then, read_counted, read_end, read_head}
 use Rattle.run_scans.specs.Items.{Held, ItemsTold, begun_runs}

@@ -5,13 +5,13 @@ ghost use Rattle.run_scans.specs.Runs.{ItemTold, read_marked_run, read_run_item}
 use cell_scans::cells::{Step, letter_at, step_at};
 use numerals::numbers::{Broken, field_at};
 
-// An item, and the place after it.
+// An item, and the place after it, which stands second so that the compiled code does not pack the others into one register.
 #[derive(Clone, Copy, Debug, PartialEq, Eq)]
 pub(crate) struct Item {
     pub letter: u16,
+    pub next: usize,
     pub times: u16,
     pub mark: u8,
-    pub next: usize,
 }
 
 // A letter and its count, with a mark that is known.

@@ -1,4 +1,4 @@
--- `scans::cells::ribbon_at` meets its contract, by the laws of specs/Items. The invariant: the items before i are read, and what is left gives the whole. Assumes nothing.
+-- The items before i are read, and what is left gives the whole.
 use mathlib.Core.Bool.{true}
 use lib.ListN.{drop}
 use Rattle.scans.specs.Items.{Gathering}
