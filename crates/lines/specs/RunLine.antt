@@ -2,12 +2,12 @@
 --     runs_refused, runs-made     its reply, from a refusal and from the reply of the C line's writer
 --     run_lining                  the ruleset of the C line of a word
 -- Assumes nothing.
-use Rattle.std.specs.Prelude.{Option, Some, None, Result, Ok, Err}
+use Rattle.std.specs.Prelude.{Result, Err}
 use Rattle.std.specs.Prelude.{ℕ, ◌-◌, ◌≤◌, ◌≡◌, List, length, take}
 use Rattle.std.proofs.Common.{◌∙◌, arith, rules}
 use Rattle.hypoplactic.specs.Insertion.{pair_with}
 use Rattle.outcomes.specs.TableauOperations.{pair_run}
-use Rattle.refusals.specs.Said.{said_value}
+use Rattle.refusals.specs.Said.{said_refusal, said_value}
 use Rattle.refusals.specs.declared.refusal.Refusal.{Refusal}
 use Rattle.run_lines.specs.Operations.{c_line_run, run_line, word_run_line, word_run_line_run}
 use Rattle.lines.specs.TableauLine.{Made, cells_reach, line_made, line_refused, tableau_made}
@@ -15,7 +15,7 @@ use Rattle.lines.specs.TableauLine.{Made, cells_reach, line_made, line_refused, 
 -- The answer is a refusal, and so is that of the C line.
 pub runs_refused : (n : ℕ) (w ls ks js : List ℕ) → 1024 ≤ length ls → 1024 ≤ length ks → 1024 ≤ length js → (cs xs ms rs ds : List ℕ) (made : Result ℕ Refusal)
     → (said_value made, (pair_with xs ms rs, ds)) ≡ pair_run n w (pair_with ls ks js) cs → (q : Refusal) (out : List ℕ) → made ≡ Err q
-    → (said_value made, out) ≡ word_run_line_run n w out
+    → (said_refusal q, out) ≡ word_run_line_run n w out
 unfolding word_run_line_run
 runs_refused n w ls ks js long long' long'' cs xs ms rs ds made e q out h =
     line_refused n w ls ks js long long' long'' cs xs ms rs ds made e q (word_run_line n w) out h

@@ -6,7 +6,7 @@
 --     made_refused, made_line  the same of the tableau line and the T line's writer
 --     lining                   the ruleset of the tableau line
 -- Assumes nothing.
-use Rattle.std.specs.Prelude.{Option, Some, None, Result, Ok, Err}
+use Rattle.std.specs.Prelude.{Result, Ok, Err}
 use Rattle.std.specs.Prelude.{ℕ, ◌-◌, ◌≤◌, ◌≡◌, take}
 use Rattle.std.proofs.Math.Path.{sym, ap}
 use Rattle.std.proofs.Common.{◌∙◌, arith, rules}
@@ -29,7 +29,7 @@ use Rattle.hypoplactic.proofs.Theory.Pairs.{length-letters, length-marks}
 use Rattle.outcomes.proofs.Theory.Passing.{Passing}
 use Rattle.outcomes.proofs.Theory.Results.{pair_result}
 use Rattle.refusals.specs.Outcomes.{Outcome, accepted, stopped, outcome, not_both, wrote_elements}
-use Rattle.refusals.specs.Said.{said_value}
+use Rattle.refusals.specs.Said.{said_refusal, said_value}
 use Rattle.refusals.specs.declared.refusal.Refusal.{Refusal}
 
 -- The first m cells of xs and ms are the tableau of an accepted word.
@@ -84,9 +84,9 @@ module _ (n : ℕ) (w ls ks js : List ℕ) (long : 1024 ≤ length ls) (long' : 
             }
 
     -- The answer is a refusal, and so is that of a line of the word,
-    pub line_refused : (q : Refusal) (bytes out : List ℕ) → made ≡ Err q → (said_value made, out) ≡ line_run (word_judgements n w) bytes out
+    pub line_refused : (q : Refusal) (bytes out : List ℕ) → made ≡ Err q → (said_refusal q, out) ≡ line_run (word_judgements n w) bytes out
     unfolding pair_says
-    line_refused q bytes out h = go judged
+    line_refused q bytes out h = ap (λ (r : Result ℕ Refusal). (said_value r, out)) (sym h) ∙ go judged
       where
         go : Outcome n w rooms (length w ∷ []) → (said_value made, out) ≡ line_run (word_judgements n w) bytes out
         go (accepted a g) = absurd (not_both (sym (sym (ap said_value h) ∙ said ∙ g)))
@@ -95,7 +95,7 @@ module _ (n : ℕ) (w ls ks js : List ℕ) (long : 1024 ≤ length ls) (long' : 
             (ap (λ (s : Said). (s, out)) (said ∙ f rooms (gives (length w ∷ []))))
 
     -- such as the tableau line.
-    pub made_refused : (q : Refusal) (out : List ℕ) → made ≡ Err q → (said_value made, out) ≡ tableau_line_run n w out
+    pub made_refused : (q : Refusal) (out : List ℕ) → made ≡ Err q → (said_refusal q, out) ≡ tableau_line_run n w out
     unfolding tableau_line_run
     made_refused q out h = line_refused q (tableau_line n w) out h
 
