@@ -1,22 +1,21 @@
 -- Pair back to word: one pass over the cells stores each letter at the place that the entry of its cell tells.
---     Told rs k s                        s is the place that the entry of cell k tells; entry_tells: one less than the entry
---     Writing xs rs old k now            the loop's invariant: start_writing, turn_writing, end_writing
+--     Writing xs rs old left_xs left_rs now  the loop's invariant, over the letters and entries left: start_writing, turn_writing, end_writing
+--     entry_least, entry_under           an entry tells a place of the word
 --     way_back_refused, way_back_passed  the reply and the lent word from the verdict on
 --     way_back_recorded                  what holds once the checks have passed
 --     going_back                         the ruleset of the way back
 -- The word that is to be is in Recorded. Assumes nothing.
-use Rattle.std.specs.Prelude.{Option, Some, None, Result, Ok, Err}
-use Rattle.std.specs.Prelude.{ℕ, zero, suc, ◌+◌, ◌-◌, ◌≤◌, ◌<◌, ◌≡◌, refl, List, [], ◌∷◌, Bool, true, false, cond, eqb, length, get_or, set, drop}
-use Rattle.std.proofs.Common.{add-one, arith, sym, ◌∙◌, Fits, length-set, drop_of_length-le, drop-cons, ext_get_or, get_or-set_other, get_or-set_same, rules, eqb-true, eq-eqb}
-use Rattle.std.specs.Int.{w64}
+use Rattle.std.specs.Prelude.{Result, Ok, Err}
+use Rattle.std.specs.Prelude.{ℕ, suc, ◌-◌, ◌≤◌, ◌<◌, ◌≡◌, refl, List, [], ◌∷◌, Bool, true, false, cond, eqb, length, get_or, set, ◌⊎◌}
+use Rattle.std.proofs.Common.{arith, sym, ◌∙◌, inl, inr, length-set, ext_get_or, get_or-set_other, get_or-set_same, rules, eqb-true, eq-eqb}
+use Rattle.std.proofs.lemmas.Slice.Zip.{either_empty_from_Zip}
 use Rattle.std.proofs.lemmas.Bool.{eqb-false}
 use Rattle.hypoplactic.specs.Words.{Within, count}
-use Rattle.hypoplactic.specs.Ribbons.{PairAt}
+use Rattle.hypoplactic.specs.Ribbons.{PairAt, Simple}
 use Rattle.hypoplactic.specs.Insertion.{word_of}
 use Rattle.outcomes.specs.Replies.{gives, written}
 use Rattle.outcomes.specs.Judgements.{counted_pair_judgements, room_judged}
 use Rattle.outcomes.specs.TableauOperations.{word_run, word_says}
-use Rattle.hypoplactic.proofs.Theory.Contents.{within_at}
 use Rattle.outcomes.proofs.Theory.Judged.{counted_pair_passing}
 use Rattle.outcomes.proofs.Theory.Judgements.{alike-judged, room_judged_lem}
 use Rattle.outcomes.proofs.Theory.Memory.{written-length}
@@ -25,39 +24,35 @@ use Rattle.hypoplactic.proofs.Theory.Once.{once_entries}
 use Rattle.refusals.specs.Running.{checks_then, then_passing, run_refused, run_passed}
 use Rattle.refusals.specs.Said.{said_refusal, said_verdict}
 use Rattle.refusals.specs.declared.refusal.Refusal.{Refusal}
-use Rattle.inverses.specs.Recorded.{Recorded, recorded_within, letter_or, letter_absent, length_back, written_at}
-
--- ---- the place that an entry tells
-
--- The place of an entry: places count from 0, entries from 1.
-pub record Told (rs : List ℕ) (k s : ℕ) : Type 0 where
-  pub is : suc s ≡ get_or rs k 0
-  pub under : s < length rs
-
--- An entry fits where the number of entries does,
-pub entry_fits : (rs : List ℕ) (k : ℕ) → Within (length rs) rs → k < length rs → Fits w64 (length rs) → Fits w64 (get_or rs k 0)
-entry_fits rs k h l f = omega (arith, (within_at (length rs) rs k h l).1)
-
--- is at least 1,
-pub entry_least : (rs : List ℕ) (k : ℕ) → Within (length rs) rs → k < length rs → 1 ≤ get_or rs k 0
-entry_least rs k h l = (within_at (length rs) rs k h l).0
-
--- and tells its place.
-pub entry_tells : (rs : List ℕ) (k : ℕ) → Within (length rs) rs → k < length rs → Told rs k (get_or rs k 0 - 1)
-entry_tells rs k h l =
-    let b : (1 ≤ get_or rs k 0) × (get_or rs k 0 ≤ length rs) = within_at (length rs) rs k h l in record { is = omega arith; under = omega arith }
+use Rattle.inverses.specs.Recorded.{Recorded, letter_or, letter_absent, length_back, written_at}
 
 -- ---- the loop
 
--- Before cell k each element that is to be is the letter that one of the cells left tells, or else what stands there now.
-pub record Writing (xs rs old : List ℕ) (k : ℕ) (now : List ℕ) : Type 0 where
-  pub within : k ≤ length xs
+-- Before a turn each element that is to be is the letter that one of the cells left tells, or else what stands there now. The entries of the cells left are
+-- places of the word, counted from 1, and none stands there twice.
+pub record Writing (xs rs old left_xs left_rs now : List ℕ) : Type 0 where
   pub long : length now ≡ length old
-  pub left : (p : ℕ) → letter_or (get_or old p 0) (suc p) xs rs ≡ letter_or (get_or now p 0) (suc p) (drop k xs) (drop k rs)
+  pub alike : length left_rs ≡ length left_xs
+  pub within : Within (length old) left_rs
+  pub simple : Simple left_rs
+  pub left : (p : ℕ) → letter_or (get_or old p 0) (suc p) xs rs ≡ letter_or (get_or now p 0) (suc p) left_xs left_rs
+
+-- Entries within a smaller number.
+within_wider : (m n : ℕ) (rs : List ℕ) → m ≤ n → Within m rs → Within n rs
+within_wider m n [] l h = tt
+within_wider m n (r ∷ rs) l (low, high, rest) = (low, omega arith, within_wider m n rs l rest)
 
 -- Before the first cell nothing is stored.
-pub start_writing : (xs rs old : List ℕ) → Writing xs rs old 0 old
-start_writing xs rs old = record { within = omega arith; long = refl; left = λ p. refl }
+pub start_writing : {xs rs old : List ℕ} → Recorded xs rs (length old) → Writing xs rs old xs rs old
+start_writing {xs} {rs} {old} h =
+    let (within, simple) = (once_entries rs).0 h.once in
+    record {
+      long = refl;
+      alike = h.alike;
+      within = within_wider (length rs) (length old) rs (omega (arith, h.alike, h.roomy)) within;
+      simple = simple;
+      left = λ p. refl;
+    }
 
 -- One store: the entry of the first cell left does not stand in the others.
 stored : (now : List ℕ) (s x p : ℕ) (xs rs : List ℕ) → s < length now → count (suc s) rs ≡ 0
@@ -73,41 +68,61 @@ stored now s x p xs rs l c = go (eqb (suc s) (suc p)) refl
         let apart : p ≡ s → ⊥ = λ e. eqb-false (suc s) (suc p) q (omega arith) in
         rw (get_or-set_other now s p x 0 apart)
 
--- No entry stands more often in the cells left than in all.
-count_drop : (e k : ℕ) (rs : List ℕ) → count e (drop k rs) ≤ count e rs
-count_drop e zero rs = omega arith
-count_drop e (suc k) [] = omega arith
-count_drop e (suc k) (r ∷ rs) = omega (arith, count_drop e k rs, count_tail e r rs)
+module _ {xs rs old now left_xs left_rs : List ℕ} (w : Writing xs rs old left_xs left_rs now) where
+  entries : {more : List ℕ} {r : ℕ} → left_rs ≡ r ∷ more → Within (length old) (r ∷ more)
+  entries e = rw e at w.within
 
--- One turn: the letter of cell k is stored at its place.
-pub turn_writing : {xs rs old now : List ℕ} {k s : ℕ} → Recorded xs rs (length old) → Writing xs rs old k now → k < length xs → Told rs k s
-    → Writing xs rs old (k + 1) (set now s (get_or xs k 0))
-turn_writing {xs} {rs} {old} {now} {k} {s} h w l t = record {
-  within = omega arith;
-  long = length-set now s (get_or xs k 0) ∙ w.long;
-  left = λ p.
-      w.left p
-      ∙ rw (drop-cons xs k 0 l, cells, add-one k) (stored now s (get_or xs k 0) p (drop (suc k) xs) (drop (suc k) rs) inside gone);
-}
-  where
-    inside : s < length now
-    inside = omega (arith, t.under, h.alike, h.roomy, w.long)
+  -- The entry of the first cell left is at least 1,
+  pub entry_least : {more : List ℕ} {r : ℕ} → left_rs ≡ r ∷ more → 1 ≤ r
+  entry_least e = (entries e).0
 
-    cells : drop k rs ≡ suc s ∷ drop (suc k) rs
-    cells = drop-cons rs k 0 (omega (arith, h.alike)) ∙ rw t.is
+  -- and its place is in the word,
+  pub entry_under : {more : List ℕ} {r : ℕ} → left_rs ≡ r ∷ more → r - 1 < length now
+  entry_under e = let (low, high, rest) = entries e in omega arith
 
-    gone : count (suc s) (drop (suc k) rs) ≡ 0
-    gone =
-        let twice : count (suc s) (drop k rs) ≡ suc (count (suc s) (drop (suc k) rs)) = rw (cells, eq-eqb (suc s) (suc s) refl) in
-        omega (arith, count_drop (suc s) k rs, ((once_entries rs).0 h.once).1 (suc s))
+  -- where its letter is stored.
+  pub turn_writing : {more_xs more_rs : List ℕ} {x r q : ℕ} → left_xs ≡ x ∷ more_xs → left_rs ≡ r ∷ more_rs → q ≡ r
+      → Writing xs rs old more_xs more_rs (set now (q - 1) x)
+  turn_writing {more_xs} {more_rs} {x} {r} {q} f e t = record {
+    long = length-set now (q - 1) x ∙ w.long;
+    alike = let a = rw (e, f) at w.alike in omega arith;
+    within = (entries e).2;
+    simple = λ a. omega (arith, count_tail a r more_rs, simple a);
+    left = λ p. w.left p ∙ rw (e, f) (one_stored (q - 1) p place under gone);
+  }
+    where
+      one_stored : (s p : ℕ) → r ≡ suc s → s < length now → count (suc s) more_rs ≡ 0
+          → letter_or (get_or now p 0) (suc p) (x ∷ more_xs) (r ∷ more_rs) ≡ letter_or (get_or (set now s x) p 0) (suc p) more_xs more_rs
+      one_stored s p is l c = rw is (stored now s x p more_xs more_rs l c)
+
+      place : r ≡ suc (q - 1)
+      place = omega (arith, (entries e).0)
+
+      under : q - 1 < length now
+      under = omega (arith, entry_under e)
+
+      simple : Simple (r ∷ more_rs)
+      simple = rw e at w.simple
+
+      gone : count (suc (q - 1)) more_rs ≡ 0
+      gone =
+          let twice : count r (r ∷ more_rs) ≡ suc (count r more_rs) = rw (eq-eqb r r refl) in
+          let none : count r more_rs ≡ 0 = omega (arith, simple r) in
+          rw place at none
 
 -- Past the last cell the word is written.
-pub end_writing : {xs rs old now : List ℕ} {k : ℕ} → Recorded xs rs (length old) → Writing xs rs old k now → length xs ≤ k
-    → now ≡ written (word_of xs rs) old
-end_writing {xs} {rs} {old} {now} {k} h w l =
+pub end_writing : {xs rs old now left_xs left_rs : List ℕ} → Recorded xs rs (length old) → Writing xs rs old left_xs left_rs now
+    → (left_xs ≡ []) ⊎ (left_rs ≡ []) → now ≡ written (word_of xs rs) old
+end_writing {xs} {rs} {old} {now} {left_xs} {left_rs} h w none =
     let room : length (word_of xs rs) ≤ length old = rw (length_back xs rs) h.roomy in
     ext_get_or 0 now (written (word_of xs rs) old) (w.long ∙ sym (written-length (word_of xs rs) old room))
-    (λ p q. sym (written_at xs rs old h p ∙ w.left p ∙ rw (drop_of_length-le xs {i = k} l)))
+    (λ p q. sym (written_at xs rs old h p ∙ w.left p ∙ go p left_xs left_rs none w.alike))
+  where
+    go : (p : ℕ) (ls es : List ℕ) → (ls ≡ []) ⊎ (es ≡ []) → length es ≡ length ls → letter_or (get_or now p 0) (suc p) ls es ≡ get_or now p 0
+    go p [] es n a = refl
+    go p (l ∷ ls) [] n a = refl
+    go p (l ∷ ls) (f ∷ es) (inl e) a = let z : ⊥ = cc in absurd z
+    go p (l ∷ ls) (f ∷ es) (inr e) a = let z : ⊥ = cc in absurd z
 
 -- ---- the reply
 
@@ -132,13 +147,12 @@ module _ {v : Result (Unit {0}) Refusal} (n : ℕ) (xs ms rs cs out : List ℕ)
       record { alike = ((alike-judged _ _).0 checks.1.1.0).1.0; once = pair.pair.recording.once; roomy = (room_judged_lem _ _).0 room }
 
 pub ruleset going_back = (
-  entry_fits,
-  entry_least,
-  entry_tells,
-  recorded_within,
   start_writing,
+  entry_least,
+  entry_under,
   turn_writing,
   end_writing,
+  either_empty_from_Zip,
   way_back_refused,
   way_back_passed,
   way_back_recorded,

@@ -1,21 +1,20 @@
 // Pair back to word (document 01, "What the kernel does"): the letter of the cell with entry e goes to place e - 1. The pair is judged, then one pass over
 // the cells stores each letter at the place that its entry tells.
-ghost use Rattle.std.specs.Prelude.{◌≡◌, [], ◌∷◌, ◌<◌, length};
+ghost use Rattle.std.specs.Prelude.{◌≡◌, [], ◌∷◌, length};
 ghost use Rattle.hypoplactic.specs.Insertion.{word_of};
 ghost use Rattle.outcomes.specs.Judgements.{counted_pair_judgements, room_judged};
 ghost use Rattle.outcomes.specs.Replies.{written};
 ghost use Rattle.outcomes.specs.TableauOperations.{word_run};
-ghost use Rattle.hypoplactic.specs.Words.{Within};
 ghost use Rattle.refusals.specs.Running.{checks_then};
 ghost use Rattle.refusals.specs.Said.{said_verdict, said_value};
 ghost use Rattle.inverses.specs.Recorded.{Recorded};
-ghost use Rattle.inverses.specs.WayBack.{Told};
 
 use refusals::numbers::check_room;
-use validity::counted::check_counted_pair;
 use refusals::refusal::Refusal;
+use validity::counted::check_counted_pair;
 
 // 1 to 6 of the pair, 17 of its letter counts, 7 and 8, and 13: room for as many letters as it has cells.
+#[tactic(auto, unfolding(refusals::specs::Running::checks_then))]
 fn check_way_back(
     rank: usize,
     letters: &[u8],
@@ -33,28 +32,19 @@ fn check_way_back(
     check_room(letters.len(), room)
 }
 
-// The place in the word that the entry of a cell tells: places count from 0, entries from 1.
-fn place_told(entries: &[u16], cell: usize) -> usize
-    requires { Within (length entries.now) entries.now × (cell < length entries.now) }
-    ensures { Told entries.now cell result }
-{
-    entries[cell] as usize - 1
-}
-
-// The letter of each cell at its place in the lent word.
+// The letter of each cell at its place in the lent word. The entry of a cell tells its place: places count from 0, entries from 1.
+#[tactic(auto, using(crate::specs::WayBack::going_back))]
 fn write_word(letters: &[u8], entries: &[u16], word: &mut [u8])
     requires { Recorded letters.now entries.now (length word.old) }
     ensures { word.new ≡ written (word_of letters.now entries.now) word.old }
 {
-    let mut cell = 0;
-    while cell < letters.len() {
-        let place = place_told(entries, cell);
-        word[place] = letters[cell];
-        cell += 1;
+    for (letter, entry) in letters.iter().zip(entries) {
+        word[usize::from(*entry) - 1] = *letter;
     }
 }
 
 // Pair back to word, the pair with its letter counts, into the lent word; what stands in it beyond the letters keeps its value.
+#[tactic(auto, using(crate::specs::WayBack::going_back))]
 pub fn word_of_pair(
     rank: usize,
     letters: &[u8],
@@ -66,14 +56,7 @@ pub fn word_of_pair(
     ensures { (said_value result, word.new)
         ≡ word_run rank letters.now marks.now entries.now counts.now word.old }
 {
-    check_way_back(
-        rank,
-        letters,
-        marks,
-        entries,
-        counts,
-        word.len(),
-    )?;
+    check_way_back(rank, letters, marks, entries, counts, word.len())?;
     write_word(letters, entries, word);
     Ok(letters.len())
 }

@@ -1,30 +1,12 @@
 -- `inverses::way_back::write_word` meets its contract, by the laws of specs/WayBack. Assumes nothing.
-use Rattle.inverses.specs.WayBack.{going_back}
+use Rattle.std.proofs.lemmas.Slice.Zip.{either_empty_from_Zip}
+use Rattle.inverses.specs.WayBack.{end_writing, going_back}
 use Rattle.inverses.proofs.way_back.write_word.Goals as goal
 
-pub loop-cell-init : goal.loop-cell-init
-loop-cell-init c = search going_back
+pub loop-letter-preserved : goal.loop-letter-preserved
+loop-letter-preserved c = search (c.in-Some.ensures.steps.0, c.in-Some.ensures.steps.1, going_back)
 
-pub place_told-place-requires : goal.place_told-place-requires
-place_told-place-requires c = search going_back
-
-pub bounds-letters-cell : goal.bounds-letters-cell
-bounds-letters-cell c = search going_back
-
-pub bounds-word-place : goal.bounds-word-place
-bounds-word-place c = search going_back
-
-pub overflow_add-cell : goal.overflow_add-cell
-overflow_add-cell c = search going_back
-
-pub loop-cell-smaller : goal.loop-cell-smaller
-loop-cell-smaller c = search going_back
-
-pub loop-cell-preserved : goal.loop-cell-preserved
-loop-cell-preserved c = search going_back
-
-pub shape_of-word : goal.shape_of-word
-shape_of-word c = search going_back
-
+-- The loop ends where letters or entries do.
 pub returns : goal.returns
-returns c = search going_back
+returns c =
+    end_writing c.requires c.loop-letter.invariant (either_empty_from_Zip c.loop-letter.letter-iterator c.next.new.self _ c.in-None.is c.next.ensures.steps)
