@@ -15,7 +15,7 @@ use Rattle.std.specs.Int.{w64}
 use Rattle.hypoplactic.specs.Junctions.{down_out, out_of}
 use Rattle.hypoplactic.specs.Ribbons.{down_after}
 use Rattle.hypoplactic.specs.Words.{Within, tick}
-use Rattle.words.specs.Tables.{Slot, Table, letter_least, slot_is, table_store}
+use Rattle.words.specs.Tables.{Slot, Table, letter_least, letter_most, slot_is, table_store}
 
 -- ---- one step
 
@@ -57,8 +57,8 @@ step_start xs ms e = record {
 
 -- One cell more.
 module _ {x : ℕ} (xs ms : List ℕ) (i : ℕ) (w : Within 64 xs) (l : i < length xs) (p : 1 ≤ i) (e : x ≡ get_or xs (i - 1) 0) where
-  at : Slot xs (i - 1) (x - 1)
-  at = rw e (slot_is xs (i - 1) w (omega arith))
+  at : Slot x (x - 1)
+  at = rw e (slot_is _ (letter_least xs (i - 1) w (omega arith)) (letter_most xs (i - 1) w (omega arith)))
 
   pub letter_told : 1 ≤ x
   letter_told = rw e (letter_least xs (i - 1) w (omega arith))

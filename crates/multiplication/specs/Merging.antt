@@ -5,14 +5,14 @@
 --     count_of xs o                      how often the letter o, if there is one, stands in xs
 --     Ahead                             the set of the letters above a, and how often the next larger letter stands in each factor
 --     Merging                           the loop's invariant: so for all factors with these tables
---     bit_one, bit_zero                 the bit from the tests that the code makes
---     merge_start, merge_turn, merge_end, merge_under     the loop
+--     merge_start, merge_occurs, merge_absent, merge_end, merge_under     the loop
 --     merging                           the ruleset of the functions that make the set
 -- Assumes nothing.
-use Rattle.std.specs.Prelude.{ℕ, zero, suc, ◌+◌, ◌*◌, ◌-◌, ◌^◌, ◌%◌, ◌≤◌, ◌<◌, ◌≡◌, List, ◌++◌, Bool, true, false, cond, ◌&&◌, ◌||◌, get_or}
+use Rattle.std.specs.Prelude.{ℕ, suc, ◌+◌, ◌*◌, ◌-◌, ◌^◌, ◌%◌, ◌≤◌, ◌<◌, ◌≡◌, List, ◌++◌, Bool, true, false, cond, ◌&&◌, ◌||◌, get_or}
 use Rattle.std.proofs.Math.Path.{refl}
 use Rattle.std.proofs.Common.{sym, ap₂, ◌∙◌, arith, rules}
 use Rattle.std.proofs.Math.Option.{Option, none, some}
+use mir.Val.{bool_byte}
 use Rattle.std.specs.Int.Bits.{bit_or}
 use Rattle.std.proofs.Math.Dec.{ltb}
 use Rattle.outcomes.specs.Counts.{TrueCounts}
@@ -36,18 +36,10 @@ unfoldable pub product_bit : ℕ → ℕ → ℕ → ℕ → ℕ → Bool
 product_bit first_next second_next first_down_lem second_count second_down =
     ltb 0 first_next && (ltb 0 first_down_lem || ltb 0 second_count) || ltb 0 second_next && ltb 0 second_down
 
--- The tests as the code makes them: the two ways, then either of them.
-module _ {from within across : Bool} (first_next second_next first_down_lem second_count second_down : ℕ)
-    (a : across ≡ (ltb 0 first_down_lem || ltb 0 second_count)) (f : from ≡ (ltb 0 first_next && across)) (w : within ≡ (ltb 0 second_next && ltb 0 second_down)) where
-  told : (from || within) ≡ product_bit first_next second_next first_down_lem second_count second_down
-  unfolding product_bit
-  told = rw (f, w, a)
-
-  pub bit_one : {t : Bool} → t ≡ (from || within) → t ≡ true → 1 ≡ tick (product_bit first_next second_next first_down_lem second_count second_down) 0
-  bit_one e q = rw (← told, ← e, q)
-
-  pub bit_zero : {t : Bool} → t ≡ (from || within) → t ≡ false → 0 ≡ tick (product_bit first_next second_next first_down_lem second_count second_down) 0
-  bit_zero e q = rw (← told, ← e, q)
+-- A bit from a test.
+bit_of : (b : Bool) → bool_byte b ≡ tick b 0
+bit_of true = refl
+bit_of false = refl
 
 -- ---- tables of two factors
 
@@ -157,20 +149,27 @@ module _ {n : ℕ} {xs ms ys ns cs ds es gs : List ℕ} (t : Tables n xs ms ys n
 pub merge_start : (n : ℕ) (cs ds es gs : List ℕ) → n ≤ 64 → Merging n cs ds es gs n 0 0 0
 merge_start n cs ds es gs l = record { reached = l; ahead = λ xs ms ys ns t. start t }
 
--- One letter down.
-pub merge_turn : {b first_next' second_next' : ℕ} {occurs : Bool} (n : ℕ) (cs ds es gs : List ℕ) (a set first_next second_next : ℕ)
-    → Merging n cs ds es gs a set first_next second_next → 0 < a
-    → b ≡ tick (product_bit first_next second_next (get_or ds (a - 1) 0) (get_or es (a - 1) 0) (get_or gs (a - 1) 0)) 0
-    → occurs ≡ (ltb 0 (get_or cs (a - 1) 0) || ltb 0 (get_or es (a - 1) 0))
-    → first_next' ≡ cond occurs (get_or cs (a - 1) 0) first_next → second_next' ≡ cond occurs (get_or es (a - 1) 0) second_next
-    → Merging n cs ds es gs (a - 1) (bit_or (set * 2 ^ 1 % 2 ^ 64) b) first_next' second_next'
-merge_turn n cs ds es gs zero set first_next second_next h l e o f s = let z : ⊥ = omega arith in absurd z
-merge_turn n cs ds es gs (suc a) set first_next second_next h l e o f s =
-    let down : suc a - 1 ≡ a = omega arith in
-    rw (e, f, s, o, down) record {
-      reached = omega (arith, h.reached);
-      ahead = λ xs ms ys ns t. turn t a set first_next second_next (omega (arith, h.reached)) (h.ahead xs ms ys ns t);
-    }
+-- One letter down, which stands in a factor or in none.
+module _ {b : Bool} {bit : ℕ} (n : ℕ) (cs ds es gs : List ℕ) (a set first_next second_next : ℕ) (h : Merging n cs ds es gs a set first_next second_next)
+    (l : 0 < a) (o : bit ≡ bool_byte b)
+    (e : b ≡ product_bit first_next second_next (get_or ds (a - 1) 0) (get_or es (a - 1) 0) (get_or gs (a - 1) 0)) where
+  merge_turn : {first_next' second_next' : ℕ} {occurs : Bool} → (ltb 0 (get_or cs (a - 1) 0) || ltb 0 (get_or es (a - 1) 0)) ≡ occurs
+      → first_next' ≡ cond occurs (get_or cs (a - 1) 0) first_next → second_next' ≡ cond occurs (get_or es (a - 1) 0) second_next
+      → Merging n cs ds es gs (a - 1) (bit_or (set * 2 ^ 1 % 2 ^ 64) bit) first_next' second_next'
+  merge_turn k f s =
+      let back : suc (a - 1) ≡ a = omega (arith, l) in
+      rw (o, bit_of b, e, f, s, ← k) record {
+        reached = omega (arith, h.reached);
+        ahead = λ xs ms ys ns t. turn t (a - 1) set first_next second_next (omega (arith, l, h.reached)) (rw (← back) at (h.ahead xs ms ys ns t));
+      }
+
+  pub merge_occurs : (ltb 0 (get_or cs (a - 1) 0) || ltb 0 (get_or es (a - 1) 0)) ≡ true
+      → Merging n cs ds es gs (a - 1) (bit_or (set * 2 ^ 1 % 2 ^ 64) bit) (get_or cs (a - 1) 0) (get_or es (a - 1) 0)
+  merge_occurs k = merge_turn k refl refl
+
+  pub merge_absent : (ltb 0 (get_or cs (a - 1) 0) || ltb 0 (get_or es (a - 1) 0)) ≡ false
+      → Merging n cs ds es gs (a - 1) (bit_or (set * 2 ^ 1 % 2 ^ 64) bit) first_next second_next
+  merge_absent k = merge_turn k refl refl
 
 -- All letters are done.
 pub merge_end : (n : ℕ) (cs ds es gs : List ℕ) (a set first_next second_next : ℕ) → Merging n cs ds es gs a set first_next second_next → a ≤ 0
@@ -184,4 +183,4 @@ merge_end n cs ds es gs a set first_next second_next h l =
 pub merge_under : (n : ℕ) (cs ds es gs : List ℕ) (a set first_next second_next : ℕ) → Merging n cs ds es gs a set first_next second_next → 0 < a → a - 1 < 64
 merge_under n cs ds es gs a set first_next second_next h l = omega (arith, h.reached)
 
-pub ruleset merging = (bit_one, bit_zero, merge_start, merge_turn, merge_end, merge_under, rules)
+pub ruleset merging = (merge_start, merge_occurs, merge_absent, merge_end, merge_under, rules)

@@ -1,12 +1,11 @@
 -- The product of two tableaux: what the operation over tables of both factors replies, and what lent memory then holds.
---     product_checked                     what 1 to 6 and 17 of the factors say, and then 13 of both outputs; checked_factors, checked_rooms: by their verdicts
 --     Factors n xs ms cs ys ns es        two tableaux of a rank that fit together, with their letter counts
 --     filled_product                     filled by the counts of both, added, and the set that both make, outputs hold the product
---     first_cells, .. counts_fit         what the tables and their sums ask, once the checks have passed
---     refused_product, passed_product    the reply, and all outputs, from the verdict of the checks on
---     checking, replying                 the rulesets of the checks and of the operation
+--     first_cells, .. counts_fit         what the tables and their sums ask, once the checks of the factors have passed
+--     factors_refused, letters_refused, marks_refused, product_passed    the reply, and all outputs, from the checks on
+--     replying                           the ruleset of the operation
 -- Assumes nothing.
-use Rattle.std.specs.Prelude.{Option, Some, None, Result, Ok, Err}
+use Rattle.std.specs.Prelude.{refl, Ok, Err}
 use Prim.Native.Nat.{ℕ, suc, ◌+◌, ◌≤◌}
 use Rattle.std.specs.Prelude.{◌≡◌}
 use Rattle.std.proofs.Math.Path.{sym}
@@ -17,50 +16,26 @@ use Rattle.std.specs.Int.{w64}
 use Rattle.outcomes.specs.Counts.{TrueCounts, counts_of}
 use Rattle.hypoplactic.specs.Junctions.{down_out}
 use Rattle.outcomes.specs.Judgements.{room_judged, tableau_rooms}
-use Rattle.outcomes.specs.Replies.{Said, gives, first, or_else, passed, written}
+use Rattle.outcomes.specs.Replies.{Said, gives, first, passed, written}
 use Rattle.hypoplactic.specs.Ribbons.{LetterStep, TableauAt}
 use Rattle.hypoplactic.specs.Words.{Within, tick}
 use Rattle.outcomes.proofs.Theory.Counts.{counts_whole}
 use Rattle.outcomes.proofs.Theory.Judgements.{room_judged_lem}
 use Rattle.hypoplactic.proofs.Theory.Limits.{accepted_within}
 use Rattle.hypoplactic.proofs.Theory.Occurrences.{count-length}
-use Rattle.outcomes.proofs.Theory.Passing.{first-append}
 use Rattle.outcomes.proofs.Theory.StepJudgements.{ribbon-length}
 use Rattle.products.specs.Products.{factors_judgements, product_letters, product_marks, product_run, product_says, product_word}
 use Rattle.products.proofs.Theory.ProductContents.{product_accepted, product_count, product_length}
 use Rattle.products.proofs.Theory.ProductReplies.{factors_passing}
-use Rattle.refusals.specs.Chains.{chaining, goes_on}
-use Rattle.refusals.specs.Running.{checks_then, stops_there, then_passing, run_refused, run_passed}
-use Rattle.refusals.specs.Said.{said_refusal, said_verdict}
+use Rattle.refusals.specs.Chains.{halts, proceeds}
+use Rattle.refusals.specs.Running.{all_passing, checks_then, goes_further, run_passed, run_refused, stops_there}
+use Rattle.refusals.specs.Said.{said_refusal}
 use Rattle.refusals.specs.declared.refusal.Refusal.{Refusal}
 use Rattle.words.specs.Tables.{Table, Counts, true_counts}
 use Rattle.fillings.specs.Filled.{filled}
 use Rattle.fillings.specs.Tableau.{filled_word}
 use Rattle.multiplication.specs.Merging.{Merged, Tables}
 use Rattle.multiplication.specs.Sums.{Sums, SumsFit}
-
--- ---- the checks
-
--- What 1 to 6 and 17 of the factors say, and then 13 of outputs of so many elements.
-unfoldable pub product_checked : ℕ → List ℕ → List ℕ → List ℕ → List ℕ → List ℕ → List ℕ → ℕ → ℕ → Said
-product_checked n xs ms cs ys ns es letters marks =
-    checks_then (factors_judgements n xs ms cs ys ns es) (tableau_rooms (length xs + length ys) letters marks)
-
--- The factors are refused, or what follows decides.
-module _ {v : Result (Unit {0}) Refusal} (n : ℕ) (xs ms cs ys ns es : List ℕ) (e : said_verdict v ≡ first (factors_judgements n xs ms cs ys ns es) passed) where
-  pub checked_factors : (letters marks : ℕ) (r : Refusal) → v ≡ Err r → said_refusal r ≡ product_checked n xs ms cs ys ns es letters marks
-  unfolding product_checked
-  checked_factors letters marks r q = stops_there (factors_judgements n xs ms cs ys ns es) e _ r q
-
-  pub checked_rooms : {s : Said} (letters marks : ℕ) → v ≡ Ok tt
-      → s ≡ or_else (room_judged (length xs + length ys) letters) (or_else (room_judged (length xs + length ys) marks) passed)
-      → s ≡ product_checked n xs ms cs ys ns es letters marks
-  unfolding product_checked checks_then
-  checked_rooms letters marks q g =
-      goes_on (first (factors_judgements n xs ms cs ys ns es) passed) _ e q g
-      ∙ sym (first-append (factors_judgements n xs ms cs ys ns es) (tableau_rooms (length xs + length ys) letters marks) passed)
-
-pub ruleset checking = (checked_factors, checked_rooms, chaining)
 
 -- ---- two factors
 
@@ -112,59 +87,80 @@ module _ {n : ℕ} {xs ms cs ys ns es : List ℕ} (h : Factors n xs ms cs ys ns 
 
 -- ---- the operation
 
--- The verdict of 1 to 6 and 17 on the factors and of 13 passes.
-module _ {v : Result (Unit {0}) Refusal} (n : ℕ) (xs ms cs ys ns es : List ℕ) (letters marks : ℕ)
-    (e : said_verdict v ≡ product_checked n xs ms cs ys ns es letters marks) (q : v ≡ Ok tt) where
-  -- Both are tableaux that fit together, with true letter counts,
-  factors : Factors n xs ms cs ys ns es
-  unfolding product_checked
-  factors =
-      let (one, other, few, counts, counts') = (factors_passing n xs ms cs ys ns es).0 (then_passing _ _ e q).0 in
-      record { first = one; second = other; few = few; first_counts = counts; second_counts = counts' }
-
-  -- and the outputs have room for them.
-  room : (length xs + length ys ≤ letters) × (length xs + length ys ≤ marks)
-  unfolding product_checked
-  room = let (checks, (as_letters, (as_marks, t))) = then_passing _ _ e q in ((room_judged_lem _ _).0 as_letters, (room_judged_lem _ _).0 as_marks)
-
-  -- So the letters of each are up to 64, and its marks are as many,
-  pub first_cells : Within 64 xs × (length ms ≡ length xs)
-  first_cells = (accepted_within factors.first.word, ribbon-length LetterStep xs ms factors.first.tableau)
-
-  pub second_cells : Within 64 ys × (length ns ≡ length ys)
-  second_cells = (accepted_within factors.second.word, ribbon-length LetterStep ys ns factors.second.tableau)
-
-  -- the cells are few,
-  pub cells_fit : Fits w64 (length xs + length ys)
-  cells_fit = record { fits = omega (arith, factors.few) }
-
-  -- the rank is at most 64,
-  pub rank_high : n ≤ 64
-  rank_high = factors.first.word.rank_high
-
-  -- and the counts can be added.
-  pub counts_fit : SumsFit cs es
-  counts_fit = fit factors
-
--- The operation, from that verdict on:
-module _ {v : Result (Unit {0}) Refusal} (n : ℕ) (xs ms cs ys ns es letters marks counts : List ℕ)
-    (e : said_verdict v ≡ product_checked n xs ms cs ys ns es (length letters) (length marks)) where
-  -- a refusal, and all outputs are as they were,
-  pub refused_product : (r : Refusal) → v ≡ Err r
+-- What 1 to 6 and 17 of the factors say, and then 13 of outputs of so many elements.
+module _ (n : ℕ) (xs ms cs ys ns es : List ℕ) where
+  -- The factors are refused, and all outputs are as they were.
+  pub factors_refused : (letters marks counts : List ℕ) (r : Refusal) → said_refusal r ≡ first (factors_judgements n xs ms cs ys ns es) passed
       → (said_refusal r, (letters, (marks, counts))) ≡ product_run n xs ms cs ys ns es letters marks counts
-  unfolding product_run product_says product_checked
-  refused_product r q = run_refused _ _ e _ _ (letters, (marks, counts)) r q
+  unfolding product_run product_says
+  factors_refused letters marks counts r e =
+      let rooms : List Said = tableau_rooms (length xs + length ys) (length letters) (length marks) in
+      run_refused {v = Err r} (factors_judgements n xs ms cs ys ns es) rooms (stops_there {v = Err r} (factors_judgements n xs ms cs ys ns es) e rooms r refl)
+      _ _ (letters, (marks, counts)) r refl
 
-  -- or letters and marks, filled by the counts of both factors and the set that these make, hold the product, beside the sums of both counts.
-  pub passed_product : {ds gs sums : List ℕ} {set : ℕ} (ls ks : List ℕ) → v ≡ Ok tt → Table (λ a. tick (down_out a xs ms) 0) ds
-      → Table (λ a. tick (down_out a ys ns) 0) gs → Merged n cs ds es gs set → Sums cs es sums → (ls, ks) ≡ filled n sums set letters marks
-      → (gives ((length xs + length ys) ∷ []), (ls, (ks, sums))) ≡ product_run n xs ms cs ys ns es letters marks counts
-  unfolding product_run product_says product_checked
-  passed_product {sums = sums} ls ks q d g m s f =
-      let (as_letters, as_marks) = room n xs ms cs ys ns es (length letters) (length marks) e q in
-      let both : Factors n xs ms cs ys ns es = factors n xs ms cs ys ns es (length letters) (length marks) e q in
-      let cells = f ∙ filled_product both letters marks d g m s as_letters as_marks in
-      run_passed _ _ e _ _ (letters, (marks, counts)) (ls, (ks, sums)) q
-      (ap₂ (λ (c : List ℕ × List ℕ) (t : List ℕ). (c.0, (c.1, t))) cells (sums_counts both s))
+  -- The factors pass.
+  module _ (e : gives [] ≡ first (factors_judgements n xs ms cs ys ns es) passed) where
+    -- Both are tableaux that fit together, with true letter counts.
+    factors : Factors n xs ms cs ys ns es
+    factors =
+        let (one, other, few, counts, counts') = (factors_passing n xs ms cs ys ns es).0 (all_passing {v = Ok tt} (factors_judgements n xs ms cs ys ns es) e refl) in
+        record { first = one; second = other; few = few; first_counts = counts; second_counts = counts' }
 
-pub ruleset replying = (cells_fit, rank_high, counts_fit, passed_product, refused_product, rules)
+    -- So the letters of each are up to 64, and its marks are as many,
+    pub first_cells : Within 64 xs × (length ms ≡ length xs)
+    first_cells = (accepted_within factors.first.word, ribbon-length LetterStep xs ms factors.first.tableau)
+
+    pub second_cells : Within 64 ys × (length ns ≡ length ys)
+    second_cells = (accepted_within factors.second.word, ribbon-length LetterStep ys ns factors.second.tableau)
+
+    -- the cells are few,
+    pub cells_fit : Fits w64 (length xs + length ys)
+    cells_fit = record { fits = omega (arith, factors.few) }
+
+    -- the rank is at most 64,
+    pub rank_high : n ≤ 64
+    rank_high = factors.first.word.rank_high
+
+    -- and the counts can be added.
+    pub counts_fit : SumsFit cs es
+    counts_fit = fit factors
+
+    module _ (letters marks counts : List ℕ) where
+      abbrev rooms : List Said
+      rooms = tableau_rooms (length xs + length ys) (length letters) (length marks)
+
+      checked : {s : Said} → s ≡ first rooms passed → s ≡ checks_then (factors_judgements n xs ms cs ys ns es) rooms
+      unfolding checks_then
+      checked f = goes_further {v = Ok tt} (factors_judgements n xs ms cs ys ns es) e [] rooms refl f
+
+      room_refused : (r : Refusal) → said_refusal r ≡ first rooms passed
+          → (said_refusal r, (letters, (marks, counts))) ≡ product_run n xs ms cs ys ns es letters marks counts
+      unfolding product_run product_says
+      room_refused r f =
+          run_refused {v = Err r} (factors_judgements n xs ms cs ys ns es) rooms (checked f) _ _ (letters, (marks, counts)) r refl
+
+      -- The letters have no room, and all outputs are as they were;
+      pub letters_refused : (r : Refusal) → said_refusal r ≡ room_judged (length xs + length ys) (length letters)
+          → (said_refusal r, (letters, (marks, counts))) ≡ product_run n xs ms cs ys ns es letters marks counts
+      letters_refused r f = room_refused r (halts r _ f)
+
+      module _ (f : gives [] ≡ room_judged (length xs + length ys) (length letters)) where
+        -- or the marks have none,
+        pub marks_refused : (r : Refusal) → said_refusal r ≡ room_judged (length xs + length ys) (length marks)
+            → (said_refusal r, (letters, (marks, counts))) ≡ product_run n xs ms cs ys ns es letters marks counts
+        marks_refused r g = room_refused r (proceeds f (halts r _ g))
+
+        -- or letters and marks, filled by the counts of both factors and the set that these make, hold the product, beside the sums of both counts.
+        pub product_passed : {ds gs sums : List ℕ} {set : ℕ} (ls ks : List ℕ) → gives [] ≡ room_judged (length xs + length ys) (length marks)
+            → Table (λ a. tick (down_out a xs ms) 0) ds → Table (λ a. tick (down_out a ys ns) 0) gs → Merged n cs ds es gs set → Sums cs es sums
+            → (ls, ks) ≡ filled n sums set letters marks
+            → (gives ((length xs + length ys) ∷ []), (ls, (ks, sums))) ≡ product_run n xs ms cs ys ns es letters marks counts
+        unfolding product_run product_says
+        product_passed {sums = sums} ls ks g d d' m s h =
+            let all : gives [] ≡ first rooms passed = proceeds f (proceeds g refl) in
+            let (as_letters, (as_marks, t)) = all_passing {v = Ok tt} rooms all refl in
+            let cells = h ∙ filled_product factors letters marks d d' m s ((room_judged_lem _ _).0 as_letters) ((room_judged_lem _ _).0 as_marks) in
+            run_passed {v = Ok tt} (factors_judgements n xs ms cs ys ns es) rooms (checked all) _ _ (letters, (marks, counts)) (ls, (ks, sums)) refl
+            (ap₂ (λ (c : List ℕ × List ℕ) (t : List ℕ). (c.0, (c.1, t))) cells (sums_counts factors s))
+
+pub ruleset replying = (first_cells, second_cells, cells_fit, rank_high, counts_fit, factors_refused, letters_refused, marks_refused, product_passed, rules)

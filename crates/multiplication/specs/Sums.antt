@@ -6,8 +6,11 @@
 --     sum_fits, sum_under    a sum fits, and its place is within the table
 --     summing                the ruleset of the function that adds
 -- Assumes nothing.
-use Rattle.std.specs.Prelude.{ℕ, suc, ◌+◌, ◌^◌, ◌≤◌, ◌<◌, ◌≡◌, refl, ◌⊎◌, List, length, get_or, set, replicate}
-use Rattle.std.proofs.Common.{◌∙◌, ⊎_elim, eq-or-lt_of_le, add-one, arith, length-set, get_or-set_same, get_or-set_other, Fits, rules}
+use Rattle.std.specs.Prelude.{ℕ, zero, suc, ◌+◌, ◌^◌, ◌≤◌, ◌<◌, ◌≡◌, List, length, get_or}
+use Rattle.std.proofs.Common.{◌∙◌, ⊎_elim, eq-or-lt_of_le, sym, add-one, arith, Fits, rules}
+use Rattle.std.specs.Array.{IsFromFnResult, IsFromFnResultFrom}
+use Rattle.std.specs.Fn.{Called}
+use denote.Param.Members.{Mut}
 use Rattle.std.specs.Int.{w16}
 
 -- Every sum fits 16 bits.
@@ -19,40 +22,21 @@ pub record Sums (cs es sums : List ℕ) : Type 0 where
   pub size : length sums ≡ 64
   pub entry : (j : ℕ) → j < 64 → get_or sums j 0 ≡ get_or cs j 0 + get_or es j 0
 
--- The first j sums are in the table.
-pub record Summing (cs es : List ℕ) (j : ℕ) (table : List ℕ) : Type 0 where
-  pub reached : j ≤ 64
-  pub size : length table ≡ 64
-  pub done : (k : ℕ) → k < j → get_or table k 0 ≡ get_or cs k 0 + get_or es k 0
+-- What a closure of a place that stays as it was gives at each place.
+module _ {F : Type 0} {g : Mut F (ℕ × Unit {0}) ℕ} {f : F} (h : ℕ → ℕ) (same : (x y : ℕ) (q : F) → Called g f (x, tt) y q → (q ≡ f) × (y ≡ h x)) where
+  given_at : (ys : List ℕ) (i n : ℕ) → IsFromFnResultFrom g f ys i n → (k : ℕ) → i ≤ k → k < i + n → get_or ys k 0 ≡ h k
+  given_at ys i zero r k a l = let z : ⊥ = omega arith in absurd z
+  given_at ys i (suc n) (q, y, e, c, r) k a l =
+      let (stays, gives) = same i y q c in
+      let rest : IsFromFnResultFrom g f ys (i + 1) n = rw stays at r in
+      ⊎_elim (λ p. rw (← p) (e.1 0 ∙ gives)) (λ p. given_at ys (i + 1) n rest k (omega arith) (omega arith)) (eq-or-lt_of_le a)
 
--- Before the first letter,
-pub sum_start : (cs es : List ℕ) → Summing cs es 0 (replicate 64 0)
-sum_start cs es = record { reached = omega arith; size = refl; done = λ k l. let z : ⊥ = omega arith in absurd z }
+  -- The table of what it gives.
+  pub given_each : {ys : List ℕ} {n : ℕ} → IsFromFnResult g f ys n → (k : ℕ) → k < n → get_or ys k 0 ≡ h k
+  given_each {ys} {n} r k l = given_at ys 0 n r.each k (omega arith) (omega arith)
 
--- one letter more,
-pub sum_turn : (cs es : List ℕ) (j : ℕ) (table : List ℕ) → Summing cs es j table → j < 64
-    → Summing cs es (j + 1) (set table j (get_or cs j 0 + get_or es j 0))
-sum_turn cs es j table h l = rw (add-one j) (record {
-  reached = l;
-  size = length-set table j _ ∙ h.size;
-  done = λ k m. ⊎_elim
-      (λ e. rw e (get_or-set_same table j (get_or cs j 0 + get_or es j 0) 0 (omega (arith, h.size))))
-      (λ m. get_or-set_other table j k (get_or cs j 0 + get_or es j 0) 0 (λ e. omega arith) ∙ h.done k m)
-      (below k m);
-})
-  where
-    below : (k : ℕ) → k < suc j → (k ≡ j) ⊎ (k < j)
-    below k m = eq-or-lt_of_le (omega arith)
-
--- and past the last.
-pub sum_end : (cs es : List ℕ) (j : ℕ) (table : List ℕ) → Summing cs es j table → 64 ≤ j → Sums cs es table
-sum_end cs es j table h l = record { size = h.size; entry = λ k m. h.done k (omega arith) }
-
--- What the addition and the store ask.
+-- What the addition asks.
 pub sum_fits : (cs es : List ℕ) (j : ℕ) → SumsFit cs es → j < 64 → Fits w16 (get_or cs j 0 + get_or es j 0)
 sum_fits cs es j h l = record { fits = h.fit j l }
 
-pub sum_under : (cs es : List ℕ) (j : ℕ) (table : List ℕ) → Summing cs es j table → j < 64 → j < length table
-sum_under cs es j table h l = omega (arith, h.size)
-
-pub ruleset summing = (sum_start, sum_turn, sum_end, sum_fits, sum_under, rules)
+pub ruleset summing = (sum_fits, rules)

@@ -2,104 +2,55 @@
 // alone.
 ghost use Rattle.std.specs.Prelude.{◌≡◌};
 ghost use Rattle.products.specs.Products.{product_run};
-ghost use Rattle.refusals.specs.Said.{said_verdict, said_value};
-ghost use Rattle.multiplication.specs.Product.{product_checked};
+ghost use Rattle.refusals.specs.Said.{said_value};
 
 use crate::downs::downs_of;
 use crate::merging::merged_set;
 use crate::sums::sum_counts;
 use fillings::tableau::fill_tableau;
+use lent::tableaux::CountedTableau;
 use refusals::numbers::check_room;
-use second_tableaux::factors::check_factors;
 use refusals::refusal::Refusal;
+use second_tableaux::factors::check_factors;
 
-// 1 to 6 and 17 of the factors, then 13 of both outputs. The cells are added only where 2 has passed.
-fn check_product(
-    rank: usize,
-    first_letters: &[u8],
-    first_marks: &[u8],
-    first_counts: &[u16; 64],
-    second_letters: &[u8],
-    second_marks: &[u8],
-    second_counts: &[u16; 64],
-    letters: usize,
-    marks: usize,
-) -> Result<(), Refusal>
-    ensures { said_verdict result
-        ≡ product_checked
-        rank
-        first_letters.now
-        first_marks.now
-        first_counts.now
-        second_letters.now
-        second_marks.now
-        second_counts.now
-        letters
-        marks }
-{
-    check_factors(
-        rank,
-        first_letters,
-        first_marks,
-        first_counts,
-        second_letters,
-        second_marks,
-        second_counts,
-    )?;
-    let cells = first_letters.len() + second_letters.len();
-    check_room(cells, letters)?;
-    check_room(cells, marks)
-}
-
-// The product of two tableaux, into lent letters, marks and letter counts, or the refusal of 1 to 6, 17 or 13, which leaves all as they were.
+// The product of two tableaux, both at the rank of the first, into lent letters, marks and letter counts, or the refusal of 1 to 6, 17 or 13, which leaves all
+// as they were. The cells are added only where 2 has passed.
+#[tactic(auto, using(crate::specs::Product::replying))]
 pub fn product(
-    rank: usize,
-    first_letters: &[u8],
-    first_marks: &[u8],
-    first_counts: &[u16; 64],
-    second_letters: &[u8],
-    second_marks: &[u8],
-    second_counts: &[u16; 64],
+    one: &CountedTableau,
+    other: &CountedTableau,
     letters: &mut [u8],
     marks: &mut [u8],
     counts: &mut [u16; 64],
 ) -> Result<usize, Refusal>
     ensures { (said_value result, (letters.new, (marks.new, counts.new)))
         ≡ product_run
-        rank
-        first_letters.now
-        first_marks.now
-        first_counts.now
-        second_letters.now
-        second_marks.now
-        second_counts.now
+        one.now.rank
+        one.now.letters.now
+        one.now.marks.now
+        one.now.counts.now
+        other.now.letters.now
+        other.now.marks.now
+        other.now.counts.now
         letters.old
         marks.old
         counts.old }
 {
-    check_product(
-        rank,
-        first_letters,
-        first_marks,
-        first_counts,
-        second_letters,
-        second_marks,
-        second_counts,
-        letters.len(),
-        marks.len(),
-    )?;
-    let cells = first_letters.len() + second_letters.len();
-    let first_downs = downs_of(first_letters, first_marks);
-    let second_downs = downs_of(second_letters, second_marks);
+    check_factors(one, other)?;
+    let cells = one.letters.len() + other.letters.len();
+    check_room(cells, letters.len())?;
+    check_room(cells, marks.len())?;
+    let first_downs = downs_of(one.letters, one.marks);
+    let second_downs = downs_of(other.letters, other.marks);
     let set = merged_set(
-        rank,
-        first_counts,
+        one.rank,
+        one.counts,
         &first_downs,
-        second_counts,
+        other.counts,
         &second_downs,
     );
-    let sums = sum_counts(first_counts, second_counts);
-    fill_tableau(rank, &sums, set, letters, marks);
+    let sums = sum_counts(one.counts, other.counts);
+    fill_tableau(one.rank, &sums, set, letters, marks);
     *counts = sums;
     Ok(cells)
 }

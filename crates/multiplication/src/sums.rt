@@ -2,15 +2,10 @@
 ghost use Rattle.multiplication.specs.Sums.{SumsFit, Sums};
 
 // The sums of two tables of counts, letter by letter.
+#[tactic(auto, using(crate::specs::Sums::summing))]
 pub(crate) fn sum_counts(one: &[u16; 64], other: &[u16; 64]) -> [u16; 64]
     requires { SumsFit one.now other.now }
     ensures { Sums one.now other.now result }
 {
-    let mut table = [0u16; 64];
-    let mut j = 0;
-    while j < 64 {
-        table[j] = one[j] + other[j];
-        j += 1;
-    }
-    table
+    std::array::from_fn(|j| one[j] + other[j])
 }

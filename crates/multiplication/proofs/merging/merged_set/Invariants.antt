@@ -5,6 +5,3 @@ use Rattle.multiplication.proofs.merging.merged_set.Given as goal
 abbrev pub invariant-loop-a : goal.invariant-loop-a
 invariant-loop-a l =
     Merging l.rank l.first_counts l.first_downs l.second_counts l.second_downs l.a l.set l.first_next l.second_next
-
-abbrev pub decreases-loop-a : goal.decreases-loop-a
-decreases-loop-a l = l.a
