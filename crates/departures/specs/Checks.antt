@@ -1,24 +1,18 @@
 -- The checks of a departure.
 --     window_cells                    4 5 6 17 7 8 of a window
 --     cell_checks, depart_checks       what 4 to 8 and 17, and then 18, and what all checks say
---     cells_checked                  4 to 8 and 17, and 18, from the verdict on the used cells as a stored pair, of which 1, 2 and 3 pass
---     sizes_refused, sizes_passed    what follows from the verdict on 1, 2 and 3
---     checking                       the ruleset of the checks
+--     used_counted                   what a stored pair of the used cells is judged by says the same where 1, 2 and 3 pass
 -- Assumes nothing.
-use Rattle.std.specs.Prelude.{Option, Some, None, Result, Ok, Err}
-use Rattle.std.specs.Prelude.{ℕ, ◌-◌, ◌≡◌, refl, List, [], ◌∷◌, ◌++◌, eqb, drop, length, take}
-use Rattle.std.proofs.Math.Nat.{sub-zero}
-use Rattle.std.proofs.Common.{◌∙◌, length-take-le, rules}
+use Rattle.std.specs.Prelude.{ℕ, ◌≡◌, refl, List, [], ◌∷◌, ◌++◌, drop, length, take}
+use Rattle.std.proofs.Common.{length-take-le}
 use Rattle.hypoplactic.specs.Insertion.{Pair, pair_with}
-use Rattle.outcomes.specs.Replies.{Said, passed, or_else, first, refuse_if}
+use Rattle.outcomes.specs.Replies.{Said, passed, first}
 use Rattle.outcomes.specs.Judgements.{alike_judged, counted_pair_judgements, length_judged, rank_judged}
 use Rattle.outcomes.proofs.Theory.Judgements.{alike-judged, length-judged, rank_judged_lem}
 use Rattle.outcomes.proofs.Theory.Passing.{Passing, first_past}
-use Rattle.refusals.specs.Running.{checks_then, checked_last, stops_there, goes_further}
-use Rattle.refusals.specs.Said.{said_refusal, said_verdict}
-use Rattle.refusals.specs.declared.refusal.Refusal.{Refusal}
+use Rattle.refusals.specs.Running.{checks_then}
 use Rattle.windows.specs.Departures.{empty_judged, window_judgements}
-use Rattle.admissions.specs.Checks.{Sized, size_judgements, sizes_sized}
+use Rattle.admissions.specs.Checks.{Sized, size_judgements}
 
 -- What a window is judged by after 1, 2 and 3: 4 to 8 of the used cells, and 17 of the counts of the used letters.
 abbrev pub window_cells : ℕ → ℕ → Pair → List ℕ → List Said
@@ -36,7 +30,7 @@ depart_checks n used p cs =
 -- ---- the used cells
 
 -- Of the used cells as a stored pair 1, 2 and 3 refuse nothing, and the rest is judged of them.
-used_counted : (n used : ℕ) (xs ms rs cs : List ℕ) → Sized n used (length xs) (length ms) (length rs)
+pub used_counted : (n used : ℕ) (xs ms rs cs : List ℕ) → Sized n used (length xs) (length ms) (length rs)
     → first (counted_pair_judgements n (take used xs) (take used ms) (take used rs) cs) passed ≡ first (window_cells n used (pair_with xs ms rs) cs) passed
 used_counted n used xs ms rs cs h =
     let as_letters : length (take used xs) ≡ used = length-take-le used xs h.in_letters in
@@ -46,28 +40,3 @@ used_counted n used xs ms rs cs h =
     let pass : Passing js
     = ((rank_judged_lem n).1 (h.low, h.high), ((length-judged used).1 h.few, ((alike-judged used (used ∷ used ∷ [])).1 (refl, (refl, tt)), tt))) in
     rw (as_letters, as_marks, as_entries) (first_past js (window_cells n used (pair_with xs ms rs) cs) passed pass)
-
--- The cells, then whether there are any.
-pub cells_checked : (t u v : Result (Unit {0}) Refusal) (n used : ℕ) (xs ms rs cs : List ℕ) → said_verdict t ≡ or_else (said_verdict u) (said_verdict v)
-    → said_verdict u ≡ first (counted_pair_judgements n (take (used - 0) xs) (take (used - 0) ms) (take (used - 0) rs) cs) passed
-    → said_verdict v ≡ refuse_if (eqb used 0) 18 0 passed → Sized n used (length xs) (length ms) (length rs)
-    → said_verdict t ≡ cell_checks n used (pair_with xs ms rs) cs
-unfolding empty_judged
-cells_checked t u v n used xs ms rs cs e f g h = checked_last t u v _ e (rw sub-zero at f ∙ used_counted n used xs ms rs cs h) _ g
-
--- ---- 1, 2 and 3
-
--- The verdict on the sizes,
-module _ {v : Result (Unit {0}) Refusal} (n used : ℕ) (xs ms rs cs : List ℕ)
-    (e : said_verdict v ≡ first (size_judgements n used (length xs) (length ms) (length rs)) passed) where
-  -- which refuses,
-  pub sizes_refused : (r : Refusal) → v ≡ Err r → said_refusal r ≡ depart_checks n used (pair_with xs ms rs) cs
-  unfolding depart_checks
-  sizes_refused r q = stops_there _ e _ r q
-
-  -- or passes, and the other checks decide,
-  pub sizes_passed : {s : Said} → v ≡ Ok tt → s ≡ cell_checks n used (pair_with xs ms rs) cs → s ≡ depart_checks n used (pair_with xs ms rs) cs
-  unfolding depart_checks
-  sizes_passed q h = goes_further _ e _ _ q h
-
-pub ruleset checking = (cells_checked, sizes_refused, sizes_passed, sizes_sized, rules)

@@ -4,7 +4,7 @@
 --     passed_window                      what holds once they have passed; passed_some, passed_read, passed_counted: what is then asked
 --     replying                           the ruleset of the operation
 -- That the cell with the entry 1 taken out leaves the pair of the other letters is departs of windows. Assumes nothing.
-use Rattle.std.specs.Prelude.{Option, Some, None, Result, Ok, Err}
+use Rattle.std.specs.Prelude.{Some, IsSome, Result, Ok, Err}
 use Rattle.std.specs.Prelude.{ℕ, ◌-◌, ◌≤◌, ◌<◌, ◌≡◌, length, get_or, take}
 use Rattle.std.proofs.Common.{arith, ◌∙◌, get_or-take, length-take-le, rules}
 use Rattle.std.proofs.Math.Path.{sym, ap}
@@ -19,8 +19,8 @@ use Rattle.refusals.specs.declared.refusal.Refusal.{Refusal}
 use Rattle.windows.specs.Departures.{WindowAt, depart_run, depart_says}
 use Rattle.windows.specs.Gaps.{closed}
 use Rattle.windows.proofs.Theory.Departures.{departs, empty-judged, first_letter, oldest_counted, oldest_stands, window_passing}
-use Rattle.closings.specs.Closings.{closed_entries, closed_letters, closed_marks}
-use Rattle.closings.specs.Oldest.{oldest_found, oldest_place}
+use Rattle.closings.specs.Closings.{closed_entries, closed_elements, closed_marks}
+use Rattle.closings.specs.Oldest.{oldest_found, oldest_place, oldest_there}
 use Rattle.departures.specs.Checks.{depart_checks}
 
 -- A letter of some rank, of which there is one.
@@ -50,11 +50,14 @@ module _ {v : Result (Unit {0}) Refusal} (n used : ℕ) (xs ms rs cs : List ℕ)
     passed_some = passed_window.1
 
     -- The oldest letter's cell is there, and so is the letter.
-    module _ {k : ℕ} (o : k ≡ oldest_place (take used rs)) where
+    pub passed_there : IsSome (oldest_place (take used rs))
+    passed_there =
+        let size : length (take used rs) ≡ used = length-take-le used rs passed_window.0.in_recording in
+        oldest_there (take used rs) (oldest_stands passed_window.0.cells (omega (arith, passed_window.1)))
+
+    module _ {k : ℕ} (o : oldest_place (take used rs) ≡ Some k) where
       found : (k < length (take used rs)) × (get_or (take used rs) k 0 ≡ 1)
-      found =
-          let size : length (take used rs) ≡ used = length-take-le used rs passed_window.0.in_recording in
-          rw o (oldest_found (take used rs) (oldest_stands passed_window.0.cells (omega (arith, passed_window.1))))
+      found = oldest_found (take used rs) o
 
       within : k < used
       within = omega (arith, found.0, length-take-le used rs passed_window.0.in_recording)
@@ -73,10 +76,10 @@ module _ {v : Result (Unit {0}) Refusal} (n used : ℕ) (xs ms rs cs : List ℕ)
           record { low = low; high = high; some = some }
 
       -- With that cell out of each list and that letter counted one less, what is left is the window of the others.
-      pub depart_passed : {us vs ws ds : List ℕ} → us ≡ closed_letters k used xs → vs ≡ closed_marks k used rs ms → ws ≡ closed_entries k used rs
+      pub depart_passed : {us vs ws ds : List ℕ} → us ≡ closed_elements k used xs → vs ≡ closed_marks k used rs ms → ws ≡ closed_entries k used rs
           → ds ≡ one_less cs (get_or xs k 0)
           → (gives ((used - 1) ∷ []), (pair_with us vs ws, ds)) ≡ depart_run n used (pair_with xs ms rs) cs
-      unfolding depart_checks depart_run depart_says closed_letters closed_marks closed_entries closed
+      unfolding depart_checks depart_run depart_says closed_elements closed_marks closed_entries closed
       depart_passed {us} {vs} {ws} {ds} letters marks entries less =
           let cells = departs passed_window.0.cells k found.0 found.1 in
           let left = first_letter passed_window.0.cells k found.0 found.1 in
@@ -84,4 +87,4 @@ module _ {v : Result (Unit {0}) Refusal} (n used : ℕ) (xs ms rs cs : List ℕ)
           let fewer = less ∙ ap (λ (a : ℕ). one_less cs a) (sym letter_there ∙ sym left) in
           run_passed _ _ e {A = Pair × List ℕ} _ _ (pair_with xs ms rs, cs) (pair_with us vs ws, ds) q (λ i. (pair i, fewer i))
 
-pub ruleset replying = (depart_refused, depart_passed, passed_some, passed_read, passed_counted, rules)
+pub ruleset replying = (depart_refused, depart_passed, passed_some, passed_there, passed_read, passed_counted, rules)

@@ -11,6 +11,7 @@ use refusals::refusal::Refusal;
 use validity::counted::check_counted_pair;
 
 // 4 to 8 and 17 of the used cells, and 18, once 1, 2 and 3 have passed. They pass again of the used cells alone.
+#[tactic(auto, using(crate::specs::Checks::used_counted), unfolding(refusals::specs::Running::checks_then, windows::specs::Departures::empty_judged))]
 fn check_used_cells(
     rank: usize,
     used: usize,
@@ -25,9 +26,9 @@ fn check_used_cells(
 {
     check_counted_pair(
         rank,
-        &letters[0..used],
-        &marks[0..used],
-        &entries[0..used],
+        &letters[..used],
+        &marks[..used],
+        &entries[..used],
         counts,
     )?;
     if used == 0 {
@@ -37,6 +38,7 @@ fn check_used_cells(
 }
 
 // All checks of a departure.
+#[tactic(auto, using(admissions::specs::Checks::sized), unfolding(refusals::specs::Running::checks_then, crate::specs::Checks::depart_checks))]
 pub(crate) fn check_departure(
     rank: usize,
     used: usize,
@@ -48,12 +50,6 @@ pub(crate) fn check_departure(
     ensures { said_verdict result
         ≡ depart_checks rank used (pair_with letters.now marks.now entries.now) counts.now }
 {
-    check_sizes(
-        rank,
-        used,
-        letters.len(),
-        marks.len(),
-        entries.len(),
-    )?;
+    check_sizes(rank, used, letters.len(), marks.len(), entries.len())?;
     check_used_cells(rank, used, letters, marks, entries, counts)
 }

@@ -8,7 +8,7 @@ ghost use Rattle.windows.specs.Departures.{depart_run};
 ghost use Rattle.departures.specs.Departure.{Counted};
 
 use crate::checks::check_departure;
-use closings::lists::{close_entries, close_letters, close_marks};
+use closings::lists::{close_elements, close_entries, close_marks};
 use closings::oldest::oldest_cell;
 use refusals::refusal::Refusal;
 
@@ -17,12 +17,12 @@ fn drop_count(letter: u8, counts: &mut [u16; 64])
     requires { Counted letter counts.old }
     ensures { counts.new ≡ one_less counts.old letter }
 {
-    let slot = letter as usize - 1;
-    counts[slot] = counts[slot] - 1;
+    counts[usize::from(letter) - 1] -= 1;
 }
 
 // The oldest letter leaves the window in the first cells of three lent lists, of which so many are used. The last used element of each list keeps its value,
 // as those beyond do. The counts of an accepted call are those of the used letters, before and after. The marks are closed while the entries are as they were.
+#[tactic(auto, using(crate::specs::Departure::replying))]
 pub fn remove_oldest(
     rank: usize,
     used: usize,
@@ -34,14 +34,11 @@ pub fn remove_oldest(
     ensures { (said_value result, (pair_with letters.new marks.new entries.new, counts.new))
         ≡ depart_run rank used (pair_with letters.old marks.old entries.old) counts.old }
 {
-    check_departure(
-        rank, used, letters, marks, entries, counts,
-    )?;
-    let left = used - 1;
-    let at = oldest_cell(used, entries);
+    check_departure(rank, used, letters, marks, entries, counts)?;
+    let at = oldest_cell(used, entries).unwrap();
     drop_count(letters[at], counts);
-    close_letters(at, used, letters);
+    close_elements(at, used, letters);
     close_marks(at, used, marks, entries);
     close_entries(at, used, entries);
-    Ok(left)
+    Ok(used - 1)
 }
