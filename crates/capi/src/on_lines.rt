@@ -15,6 +15,7 @@ use structs::counts::count_written;
 use structs::readings::line_reply;
 use structs::replies::{CountReply, LineReply};
 use word_readers::word::read_word_line;
+use lent::tableaux::{Pair, Tableau};
 use writers::line::{
     write_junction_line, write_pair_line, write_returned_line, write_tableau_line, write_word_line,
 };
@@ -49,7 +50,7 @@ pub extern "C" fn luchtrav_write_tableau_line(
 ) -> CountReply
     ensures { (result, out.new) ≡ replied count_of (t_line_run rank letters.now marks.now out.old) }
 {
-    count_written(write_tableau_line(rank, letters, marks, out))
+    count_written(write_tableau_line(&Tableau { rank, letters, marks }, out))
 }
 
 // The P line of a pair.
@@ -64,7 +65,7 @@ pub extern "C" fn luchtrav_write_pair_line(
     ensures { (result, out.new)
         ≡ replied count_of (p_line_run rank letters.now marks.now entries.now out.old) }
 {
-    count_written(write_pair_line(rank, letters, marks, entries, out))
+    count_written(write_pair_line(&Pair { rank, letters, marks, entries }, out))
 }
 
 // The J line of a word.

@@ -15,6 +15,7 @@ use structs::counts::{count_used, count_written, done_verdict};
 use structs::replies::{CountReply, DoneReply};
 use validity::counted::check_counted_pair;
 use validity::tableau::check_pair;
+use lent::tableaux::{CountedPair, Pair};
 
 // 1 to 8 of a pair.
 #[unsafe(no_mangle)]
@@ -26,7 +27,7 @@ pub extern "C" fn luchtrav_check_pair(
 ) -> DoneReply
     ensures { result ≡ done_of (first (pair_judgements rank letters.now marks.now entries.now) passed) }
 {
-    done_verdict(check_pair(rank, letters, marks, entries))
+    done_verdict(check_pair(&Pair { rank, letters, marks, entries }))
 }
 
 // 1 to 6 of a pair, 17 of its letter counts, 7 and 8.
@@ -42,7 +43,7 @@ pub extern "C" fn luchtrav_check_counted_pair(
         ≡ done_of
         (first (counted_pair_judgements rank letters.now marks.now entries.now counts.now) passed) }
 {
-    done_verdict(check_counted_pair(rank, letters, marks, entries, counts))
+    done_verdict(check_counted_pair(&CountedPair { rank, letters, marks, entries, counts }))
 }
 
 // One letter into the pair in the first cells of three lent lists, and its count into the lent counts.

@@ -10,6 +10,7 @@ use structs::counts::count_written;
 use structs::readings::line_reply;
 use structs::replies::{CountReply, LineReply};
 use writers::line::write_run_line;
+use lent::tableaux::Tableau;
 
 // The C line of a word.
 #[unsafe(no_mangle)]
@@ -29,7 +30,7 @@ pub extern "C" fn luchtrav_write_run_line(
 ) -> CountReply
     ensures { (result, out.new) ≡ replied count_of (c_line_run rank letters.now marks.now out.old) }
 {
-    count_written(write_run_line(rank, letters, marks, out))
+    count_written(write_run_line(&Tableau { rank, letters, marks }, out))
 }
 
 // A C line, into lent letters, marks and counts.

@@ -16,13 +16,14 @@ use tableaux::moves::{lower_count_tableau, lower_tableau, raise_count_tableau, r
 use validity::counted::check_counted_tableau;
 use validity::tableau::check_tableau;
 use viewer::viewers::look_once;
+use lent::tableaux::{CountedTableau, Tableau};
 
 // 1 to 6 of a tableau: the making of a ribbon viewer.
 #[unsafe(no_mangle)]
 pub extern "C" fn luchtrav_check_tableau(rank: usize, letters: &[u8], marks: &[u8]) -> DoneReply
     ensures { result ≡ done_of (first (tableau_judgements rank letters.now marks.now) passed) }
 {
-    done_verdict(check_tableau(rank, letters, marks))
+    done_verdict(check_tableau(&Tableau { rank, letters, marks }))
 }
 
 // 1 to 6 of a tableau, and 17 of its letter counts.
@@ -35,7 +36,7 @@ pub extern "C" fn luchtrav_check_counted_tableau(
 ) -> DoneReply
     ensures { result ≡ done_of (first (counted_judgements rank letters.now marks.now counts.now) passed) }
 {
-    done_verdict(check_counted_tableau(rank, letters, marks, counts))
+    done_verdict(check_counted_tableau(&CountedTableau { rank, letters, marks, counts }))
 }
 
 // The column reading of a tableau, into a lent word.

@@ -10,6 +10,7 @@ use acceptance::word::check_word;
 use refusals::numbers::check_room;
 use refusals::refusal::Refusal;
 use validity::counted::check_counted_tableau;
+use lent::tableaux::CountedTableau;
 
 // 15: at most 20 cells or letters.
 fn check_small(cells: usize) -> Result<(), Refusal>
@@ -28,7 +29,7 @@ pub(crate) fn check_class(rank: usize, letters: &[u8], marks: &[u8], counts: &[u
         (counted_judgements rank letters.now marks.now counts.now)
         (small_judged (length letters.now) ∷ []) }
 {
-    check_counted_tableau(rank, letters, marks, counts)?;
+    check_counted_tableau(&CountedTableau { rank, letters, marks, counts })?;
     check_small(letters.len())
 }
 

@@ -15,6 +15,7 @@ use refusals::numbers::check_length;
 use refusals::refusal::Refusal;
 use scans::line::{Line, scan_line};
 use writers::line::write_pair_line;
+use lent::tableaux::Pair;
 
 // 1 and 2 of a tableau that was read, and 2 of the entries beside it.
 fn check_counts(rank: usize, cells: usize, entries: usize) -> Result<(), Refusal>
@@ -51,13 +52,7 @@ fn write_values(
 {
     check_counts(rank, cells, count)?;
     let bytes = narrow_letters(&letters[0..cells]);
-    write_pair_line(
-        rank,
-        &bytes[0..cells],
-        &marks[0..cells],
-        &entries[0..count],
-        out,
-    )
+    write_pair_line(&Pair { rank, letters: &bytes[0..cells], marks: &marks[0..cells], entries: &entries[0..count] }, out)
 }
 
 // The P line of a T text and an N text, or the refusal of 14, 1 to 8 or 13, which leaves lent memory as it was. The places of 14 in the second text count on

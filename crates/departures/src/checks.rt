@@ -9,6 +9,7 @@ ghost use Rattle.departures.specs.Checks.{cell_checks, depart_checks};
 use admissions::checks::check_sizes;
 use refusals::refusal::Refusal;
 use validity::counted::check_counted_pair;
+use lent::tableaux::CountedPair;
 
 // 4 to 8 and 17 of the used cells, and 18, once 1, 2 and 3 have passed. They pass again of the used cells alone.
 #[tactic(auto, using(crate::specs::Checks::used_counted), unfolding(refusals::specs::Running::checks_then, windows::specs::Departures::empty_judged))]
@@ -24,13 +25,7 @@ fn check_used_cells(
     ensures { said_verdict result
         ≡ cell_checks rank used (pair_with letters.now marks.now entries.now) counts.now }
 {
-    check_counted_pair(
-        rank,
-        &letters[..used],
-        &marks[..used],
-        &entries[..used],
-        counts,
-    )?;
+    check_counted_pair(&CountedPair { rank, letters: &letters[..used], marks: &marks[..used], entries: &entries[..used], counts })?;
     if used == 0 {
         return Err(Refusal::Empty);
     }

@@ -7,6 +7,7 @@ ghost use Rattle.lines.specs.TableauLine.{Reached};
 use refusals::refusal::Refusal;
 use ribbons::pair::pair_of_word;
 use writers::line::write_tableau_line;
+use lent::tableaux::Tableau;
 
 // The T line of the first cells of a tableau.
 #[tactic(auto, using(crate::specs::TableauLine::lining))]
@@ -21,7 +22,7 @@ fn write_cells(
     ensures { (said_value result, out.new)
         ≡ t_line_run rank (take cells letters.now) (take cells marks.now) out.old }
 {
-    write_tableau_line(rank, &letters[..cells], &marks[..cells], out)
+    write_tableau_line(&Tableau { rank, letters: &letters[..cells], marks: &marks[..cells] }, out)
 }
 
 // The tableau line of a word, into a lent buffer, or the refusal of 1, 2, 4 or 13, which leaves the buffer as it was.

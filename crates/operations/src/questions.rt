@@ -13,6 +13,7 @@ use validity::counted::{check_counted_pair, check_counted_tableau};
 use viewer::viewers::look_once;
 use weights::two_words::compare_weights;
 use words::junctions::junctions;
+use lent::tableaux::{CountedPair, CountedTableau};
 
 // Questions about words, 0 to 5.
 pub(crate) fn ask_words(
@@ -65,9 +66,9 @@ pub(crate) fn ask_tableau(
         return print_cell(rt, look_once(rank, a, b, index));
     }
     if operation == 10 {
-        return print_verdict(rt, check_counted_tableau(rank, a, b, counts));
+        return print_verdict(rt, check_counted_tableau(&CountedTableau { rank, letters: a, marks: b, counts }));
     }
-    print_verdict(rt, check_counted_pair(rank, a, b, entries, counts))
+    print_verdict(rt, check_counted_pair(&CountedPair { rank, letters: a, marks: b, entries, counts }))
 }
 
 // Class and weights of two tableaux, 36 and 37. Letters and marks of the second are c and d, its counts q.

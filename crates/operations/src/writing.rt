@@ -13,6 +13,7 @@ use refusals::answers::Written;
 use run_conversions::forms::{runs_to_tableau, tableau_to_runs};
 use std::io;
 use word_readers::word::read_word_line;
+use lent::tableaux::{Pair, Tableau};
 use writers::line::{
     write_junction_line, write_pair_line, write_run_line, write_tableau_line, write_word_line,
 };
@@ -52,13 +53,13 @@ fn write_tableau(
         return convert_lines(a, b, out);
     }
     if operation == 22 {
-        return write_run_line(rank, a, b, out);
+        return write_run_line(&Tableau { rank, letters: a, marks: b }, out);
     }
     if operation == 23 {
-        return write_tableau_line(rank, a, b, out);
+        return write_tableau_line(&Tableau { rank, letters: a, marks: b }, out);
     }
     if operation == 24 {
-        return write_pair_line(rank, a, b, entries, out);
+        return write_pair_line(&Pair { rank, letters: a, marks: b, entries }, out);
     }
     write_word(operation, rank, index, a, b, entries, counts, out)
 }

@@ -17,6 +17,7 @@ use scans::line::Line;
 use scans::pair::scan_pair;
 use validity::tableau::check_pair;
 use words::tables::letter_counts;
+use lent::tableaux::Pair;
 
 // 1 to 8 of a pair that was read, and 13 of lent letters, marks and entries.
 fn check_pair_read(
@@ -32,7 +33,7 @@ fn check_pair_read(
         ≡ checks_then (pair_judgements rank cells.now steps.now places.now)
         (pair_rooms (length cells.now) letters marks entries) }
 {
-    check_pair(rank, cells, steps, places)?;
+    check_pair(&Pair { rank, letters: cells, marks: steps, entries: places })?;
     check_pair_rooms(cells.len(), letters, marks, entries)
 }
 

@@ -16,6 +16,7 @@ use refusals::refusal::Refusal;
 use scans::line::{Line, scan_line};
 use validity::tableau::check_tableau;
 use words::tables::letter_counts;
+use lent::tableaux::Tableau;
 
 // 1 to 6 of a tableau that was read, and 13 of lent letters and marks.
 fn check_tableau_read(
@@ -29,7 +30,7 @@ fn check_tableau_read(
         ≡ checks_then (tableau_judgements rank cells.now steps.now)
         (room_judged (length cells.now) letters ∷ room_judged (length cells.now) marks ∷ []) }
 {
-    check_tableau(rank, cells, steps)?;
+    check_tableau(&Tableau { rank, letters: cells, marks: steps })?;
     check_room(cells.len(), letters)?;
     check_room(cells.len(), marks)
 }

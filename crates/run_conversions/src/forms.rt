@@ -9,6 +9,7 @@ use refusals::answers::Sizes;
 use run_readers::runs::read_run_line;
 use writers::line::{write_run_line, write_tableau_line};
 use refusals::refusal::Refusal;
+use lent::tableaux::Tableau;
 
 // What a writer answers where a reader has: how many cells were read, or the refusal.
 fn as_written(line: Result<Sizes, Refusal>) -> Result<usize, Refusal>
@@ -31,7 +32,7 @@ pub fn tableau_to_runs(text: &[u8], out: &mut [u8]) -> Result<usize, Refusal>
     let Ok(Sizes { rank: rank, count: cells }) = read else {
         return as_written(read);
     };
-    write_run_line(rank, &letters[0..cells], &marks[0..cells], out)
+    write_run_line(&Tableau { rank, letters: &letters[0..cells], marks: &marks[0..cells] }, out)
 }
 
 // The T line of a C line's tableau, or the refusal of 14, 1, 2, 4, 19, 20 or 13, which leaves lent memory as it was.
@@ -45,5 +46,5 @@ pub fn runs_to_tableau(text: &[u8], out: &mut [u8]) -> Result<usize, Refusal>
     let Ok(Sizes { rank: rank, count: cells }) = read else {
         return as_written(read);
     };
-    write_tableau_line(rank, &letters[0..cells], &marks[0..cells], out)
+    write_tableau_line(&Tableau { rank, letters: &letters[0..cells], marks: &marks[0..cells] }, out)
 }

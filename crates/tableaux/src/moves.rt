@@ -16,6 +16,7 @@ use operators::changes::{Side, move_letters};
 use refusals::numbers::check_index;
 use validity::counted::check_counted_tableau;
 use refusals::refusal::Refusal;
+use lent::tableaux::CountedTableau;
 
 // The move of either side in the lent letters, the counts being lent for reading: all of the move but the change of counts.
 fn move_cells(
@@ -28,7 +29,7 @@ fn move_cells(
 ) -> Result<usize, Refusal>
     ensures { (said_value result, letters.new) ≡ move_cells_run rank (move_by side index) letters.old marks.now counts.now }
 {
-    let verdict = check_counted_tableau(rank, letters, marks, counts);
+    let verdict = check_counted_tableau(&CountedTableau { rank, letters, marks, counts });
     verdict?;
     let inversion = has_below(index, letters, marks);
     move_letters(side, rank, index, inversion, letters)
@@ -91,7 +92,7 @@ fn check_repeat(
     ensures { said_verdict result
         ≡ checks_then (counted_judgements rank letters.now marks.now counts.now) (index_judged rank index ∷ []) }
 {
-    check_counted_tableau(rank, letters, marks, counts)?;
+    check_counted_tableau(&CountedTableau { rank, letters, marks, counts })?;
     check_index(rank, index)
 }
 

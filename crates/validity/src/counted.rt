@@ -9,6 +9,7 @@ ghost use Rattle.refusals.specs.Said.{said_verdict};
 use crate::tableau::{check_pair_sizes, check_ribbon, check_tableau_sizes};
 use acceptance::letters::check_letters;
 use counts::shape::check_counted_shape;
+use lent::tableaux::{CountedPair, CountedTableau};
 use refusals::refusal::Refusal;
 
 // 4, 5, 6 and 17: the cells of a tableau or of a pair, and its letter counts.
@@ -29,30 +30,34 @@ fn check_counted_cells(
 }
 
 // 1 to 6 of a tableau, and 17.
-pub fn check_counted_tableau(
-    rank: usize,
-    letters: &[u8],
-    marks: &[u8],
-    counts: &[u16; 64],
-) -> Result<(), Refusal>
-    ensures { said_verdict result ≡ first (counted_judgements rank letters.now marks.now counts.now) passed }
+pub fn check_counted_tableau(tableau: &CountedTableau) -> Result<(), Refusal>
+    ensures { said_verdict result
+        ≡ first
+        (counted_judgements tableau.now.rank tableau.now.letters.now tableau.now.marks.now tableau.now.counts.now)
+        passed }
 {
-    check_tableau_sizes(rank, letters.len(), marks.len())?;
-    check_counted_cells(rank, letters, marks, counts)
+    check_tableau_sizes(tableau.rank, tableau.letters.len(), tableau.marks.len())?;
+    check_counted_cells(tableau.rank, tableau.letters, tableau.marks, tableau.counts)
 }
 
 // 1 to 6 of a pair, 17, 7 and 8.
-pub fn check_counted_pair(
-    rank: usize,
-    letters: &[u8],
-    marks: &[u8],
-    entries: &[u16],
-    counts: &[u16; 64],
-) -> Result<(), Refusal>
+pub fn check_counted_pair(pair: &CountedPair) -> Result<(), Refusal>
     ensures { said_verdict result
-        ≡ first (counted_pair_judgements rank letters.now marks.now entries.now counts.now) passed }
+        ≡ first
+        (counted_pair_judgements
+        pair.now.rank
+        pair.now.letters.now
+        pair.now.marks.now
+        pair.now.entries.now
+        pair.now.counts.now)
+        passed }
 {
-    check_pair_sizes(rank, letters.len(), marks.len(), entries.len())?;
-    check_counted_cells(rank, letters, marks, counts)?;
-    check_ribbon(letters.len(), entries, marks)
+    check_pair_sizes(
+        pair.rank,
+        pair.letters.len(),
+        pair.marks.len(),
+        pair.entries.len(),
+    )?;
+    check_counted_cells(pair.rank, pair.letters, pair.marks, pair.counts)?;
+    check_ribbon(pair.letters.len(), pair.entries, pair.marks)
 }

@@ -6,6 +6,7 @@ ghost use Rattle.outcomes.specs.Judgements.{alike_judged, entries_judged, length
 ghost use Rattle.refusals.specs.Said.{said_verdict};
 
 use acceptance::letters::check_letters;
+use lent::tableaux::{Pair, Tableau};
 use recordings::recording::{check_entries, check_recording};
 use refusals::chains::check_limits;
 use refusals::numbers::{check_marks_alike, check_parts_alike};
@@ -43,11 +44,12 @@ pub(crate) fn check_tableau_sizes(rank: usize, letters: usize, marks: usize) -> 
 }
 
 // 1 to 6 of a tableau.
-pub fn check_tableau(rank: usize, letters: &[u8], marks: &[u8]) -> Result<(), Refusal>
-    ensures { said_verdict result ≡ first (tableau_judgements rank letters.now marks.now) passed }
+pub fn check_tableau(tableau: &Tableau) -> Result<(), Refusal>
+    ensures { said_verdict result
+        ≡ first (tableau_judgements tableau.now.rank tableau.now.letters.now tableau.now.marks.now) passed }
 {
-    check_tableau_sizes(rank, letters.len(), marks.len())?;
-    check_cells(rank, letters, marks)
+    check_tableau_sizes(tableau.rank, tableau.letters.len(), tableau.marks.len())?;
+    check_cells(tableau.rank, tableau.letters, tableau.marks)
 }
 
 // 1, 2 and 3 of a pair.
@@ -64,10 +66,16 @@ pub(crate) fn check_pair_sizes(
 }
 
 // 1 to 8 of a pair.
-pub fn check_pair(rank: usize, letters: &[u8], marks: &[u8], entries: &[u16]) -> Result<(), Refusal>
-    ensures { said_verdict result ≡ first (pair_judgements rank letters.now marks.now entries.now) passed }
+pub fn check_pair(pair: &Pair) -> Result<(), Refusal>
+    ensures { said_verdict result
+        ≡ first (pair_judgements pair.now.rank pair.now.letters.now pair.now.marks.now pair.now.entries.now) passed }
 {
-    check_pair_sizes(rank, letters.len(), marks.len(), entries.len())?;
-    check_cells(rank, letters, marks)?;
-    check_ribbon(letters.len(), entries, marks)
+    check_pair_sizes(
+        pair.rank,
+        pair.letters.len(),
+        pair.marks.len(),
+        pair.entries.len(),
+    )?;
+    check_cells(pair.rank, pair.letters, pair.marks)?;
+    check_ribbon(pair.letters.len(), pair.entries, pair.marks)
 }

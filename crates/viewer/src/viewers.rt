@@ -7,6 +7,7 @@ use coordinates::cells::cell_through;
 use refusals::answers::Cell;
 use validity::tableau::check_tableau;
 use refusals::refusal::Refusal;
+use lent::tableaux::Tableau;
 
 // Letters and marks may be lent for different times.
 #[derive(Clone, Copy)]
@@ -25,7 +26,7 @@ pub fn viewer_of<'a, 'b>(rank: usize, letters: &'a [u8], marks: &'b [u8]) -> Vie
     Viewer {
         letters,
         marks,
-        made: check_tableau(rank, letters, marks),
+        made: check_tableau(&Tableau { rank, letters, marks }),
     }
 }
 

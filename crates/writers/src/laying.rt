@@ -14,6 +14,7 @@ ghost use Rattle.writers.specs.RunForms.{run_form};
 use crate::fields::write_field;
 use crate::items::{list_size, parts_size, ribbon_size, write_list, write_parts, write_ribbon};
 use crate::runs::{runs_size, write_runs};
+use lent::tableaux::{Pair, Tableau};
 use line_sizes::sizes::{field_size, line_size};
 use refusals::numbers::check_room;
 use refusals::refusal::Refusal;
@@ -76,55 +77,42 @@ impl<'a> Rest for Letters<'a> {
 
 // The cells of a tableau.
 #[derive(Clone, Copy)]
-pub(crate) struct Cells<'a> {
-    pub letters: &'a [u8],
-    pub marks: &'a [u8],
-}
+pub(crate) struct Cells<'a>(pub Tableau<'a>);
 
 impl<'a> Rest for Cells<'a> {
-    ghost bytes = { λ t. listed (length t.letters.now) (items first_cell cell (cells t.letters.now t.marks.now)) };
+    ghost bytes = { λ t. listed (length t.0.letters.now) (items first_cell cell (cells t.0.letters.now t.0.marks.now)) };
 
-    ghost ready = { λ t. (length t.letters.now ≤ 1024) × (length t.marks.now ≡ length t.letters.now) };
+    ghost ready = { λ t. (length t.0.letters.now ≤ 1024) × (length t.0.marks.now ≡ length t.0.letters.now) };
 
     fn size(&self) -> usize {
-        ribbon_size(self.letters, self.marks)
+        ribbon_size(self.0.letters, self.0.marks)
     }
 
     fn write(&self, out: &mut [u8], start: usize) -> usize {
-        write_ribbon(self.letters, self.marks, out, start)
+        write_ribbon(self.0.letters, self.0.marks, out, start)
     }
 }
 
 // The runs of the cells of a tableau.
 #[derive(Clone, Copy)]
-pub(crate) struct Runs<'a> {
-    pub letters: &'a [u8],
-    pub marks: &'a [u8],
-}
+pub(crate) struct Runs<'a>(pub Tableau<'a>);
 
 impl<'a> Rest for Runs<'a> {
-    ghost bytes = { λ t. run_form t.letters.now t.marks.now };
+    ghost bytes = { λ t. run_form t.0.letters.now t.0.marks.now };
 
-    ghost ready = { λ t. (length t.letters.now ≤ 1024) × (length t.marks.now ≡ length t.letters.now) };
+    ghost ready = { λ t. (length t.0.letters.now ≤ 1024) × (length t.0.marks.now ≡ length t.0.letters.now) };
 
     fn size(&self) -> usize {
-        runs_size(self.letters, self.marks)
+        runs_size(self.0.letters, self.0.marks)
     }
 
     fn write(&self, out: &mut [u8], start: usize) -> usize {
-        write_runs(self.letters, self.marks, out, start)
+        write_runs(self.0.letters, self.0.marks, out, start)
     }
 }
 
 // The cells of a pair, and its entries.
-#[derive(Clone, Copy)]
-pub(crate) struct Parts<'a> {
-    pub letters: &'a [u8],
-    pub marks: &'a [u8],
-    pub entries: &'a [u16],
-}
-
-impl<'a> Rest for Parts<'a> {
+impl<'a> Rest for Pair<'a> {
     ghost bytes = { λ p. parts p.letters.now p.marks.now p.entries.now };
 
     ghost ready = { λ p. Alike p.letters.now p.marks.now p.entries.now };

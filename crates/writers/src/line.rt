@@ -5,8 +5,9 @@ ghost use Rattle.outcomes.specs.LineOperations.{e_line_run, j_line_run, p_line_r
 ghost use Rattle.refusals.specs.Said.{number, place, said_value};
 ghost use Rattle.run_lines.specs.Operations.{c_line_run};
 
-use crate::laying::{Cells, Letters, Number, Parts, Runs, write_line};
+use crate::laying::{Cells, Letters, Number, Runs, write_line};
 use acceptance::word::check_word;
+use lent::tableaux::{Pair, Tableau};
 use refusals::answers::Junctions;
 use refusals::refusal::{Refusal, Returned};
 use validity::tableau::{check_pair, check_tableau};
@@ -23,55 +24,32 @@ pub fn write_word_line(rank: usize, word: &[u8], out: &mut [u8]) -> Result<usize
 
 // The T line of a tableau: 1 to 6, then 13.
 #[tactic(auto, using(crate::specs::Runs::running))]
-pub fn write_tableau_line(
-    rank: usize,
-    letters: &[u8],
-    marks: &[u8],
-    out: &mut [u8],
-) -> Result<usize, Refusal>
-    ensures { (said_value result, out.new) ≡ t_line_run rank letters.now marks.now out.old }
+pub fn write_tableau_line(tableau: &Tableau, out: &mut [u8]) -> Result<usize, Refusal>
+    ensures { (said_value result, out.new)
+        ≡ t_line_run tableau.now.rank tableau.now.letters.now tableau.now.marks.now out.old }
 {
-    check_tableau(rank, letters, marks)?;
-    write_line(b'T', rank, &Cells { letters, marks }, out)
+    check_tableau(tableau)?;
+    write_line(b'T', tableau.rank, &Cells(*tableau), out)
 }
 
 // The C line of a tableau: 1 to 6, then 13.
 #[tactic(auto, using(crate::specs::Runs::running))]
-pub fn write_run_line(
-    rank: usize,
-    letters: &[u8],
-    marks: &[u8],
-    out: &mut [u8],
-) -> Result<usize, Refusal>
-    ensures { (said_value result, out.new) ≡ c_line_run rank letters.now marks.now out.old }
+pub fn write_run_line(tableau: &Tableau, out: &mut [u8]) -> Result<usize, Refusal>
+    ensures { (said_value result, out.new)
+        ≡ c_line_run tableau.now.rank tableau.now.letters.now tableau.now.marks.now out.old }
 {
-    check_tableau(rank, letters, marks)?;
-    write_line(b'C', rank, &Runs { letters, marks }, out)
+    check_tableau(tableau)?;
+    write_line(b'C', tableau.rank, &Runs(*tableau), out)
 }
 
 // The P line of a pair: 1 to 8, then 13.
 #[tactic(auto, using(crate::specs::Runs::running))]
-pub fn write_pair_line(
-    rank: usize,
-    letters: &[u8],
-    marks: &[u8],
-    entries: &[u16],
-    out: &mut [u8],
-) -> Result<usize, Refusal>
+pub fn write_pair_line(pair: &Pair, out: &mut [u8]) -> Result<usize, Refusal>
     ensures { (said_value result, out.new)
-        ≡ p_line_run rank letters.now marks.now entries.now out.old }
+        ≡ p_line_run pair.now.rank pair.now.letters.now pair.now.marks.now pair.now.entries.now out.old }
 {
-    check_pair(rank, letters, marks, entries)?;
-    write_line(
-        b'P',
-        rank,
-        &Parts {
-            letters,
-            marks,
-            entries,
-        },
-        out,
-    )
+    check_pair(pair)?;
+    write_line(b'P', pair.rank, pair, out)
 }
 
 // The J line of a word, with the junction set and the rows that the word has: 1, 2 and 4, then 13. No function writes a J line of other numbers.
