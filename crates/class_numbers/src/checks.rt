@@ -7,10 +7,10 @@ ghost use Rattle.refusals.specs.Running.{checks_then};
 ghost use Rattle.refusals.specs.Said.{said_verdict};
 
 use acceptance::word::check_word;
+use lent::tableaux::CountedTableau;
 use refusals::numbers::check_room;
 use refusals::refusal::Refusal;
 use validity::counted::check_counted_tableau;
-use lent::tableaux::CountedTableau;
 
 // 15: at most 20 cells or letters.
 fn check_small(cells: usize) -> Result<(), Refusal>
@@ -23,13 +23,23 @@ fn check_small(cells: usize) -> Result<(), Refusal>
 }
 
 // 1 to 6 of a tableau, 17 of its letter counts, then 15.
-pub(crate) fn check_class(rank: usize, letters: &[u8], marks: &[u8], counts: &[u16; 64]) -> Result<(), Refusal>
+pub(crate) fn check_class(
+    rank: usize,
+    letters: &[u8],
+    marks: &[u8],
+    counts: &[u16; 64],
+) -> Result<(), Refusal>
     ensures { said_verdict result
         ≡ checks_then
         (counted_judgements rank letters.now marks.now counts.now)
         (small_judged (length letters.now) ∷ []) }
 {
-    check_counted_tableau(&CountedTableau { rank, letters, marks, counts })?;
+    check_counted_tableau(&CountedTableau {
+        rank,
+        letters,
+        marks,
+        counts,
+    })?;
     check_small(letters.len())
 }
 

@@ -5,12 +5,17 @@ ghost use Rattle.refusals.specs.Said.{said_value};
 
 use crate::checks::{check_asked, check_class, check_short};
 use crate::ribbon::{held, number_in, write_word};
+use refusals::refusal::Refusal;
 use ribbon_orders::orders::orders_of;
 use ribbons::pair::pair_of_word;
-use refusals::refusal::Refusal;
 
 // How many words the class of a tableau has, or the refusal of 1 to 6, 17 or 15.
-pub fn class_size(rank: usize, letters: &[u8], marks: &[u8], counts: &[u16; 64]) -> Result<u64, Refusal>
+pub fn class_size(
+    rank: usize,
+    letters: &[u8],
+    marks: &[u8],
+    counts: &[u16; 64],
+) -> Result<u64, Refusal>
     ensures { said_value result ≡ class_size_says rank letters.now marks.now counts.now }
 {
     check_class(rank, letters, marks, counts)?;

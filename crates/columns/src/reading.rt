@@ -9,10 +9,10 @@ ghost use Rattle.refusals.specs.Running.{checks_then};
 ghost use Rattle.refusals.specs.Said.{said_verdict, said_value};
 ghost use Rattle.columns.specs.Columns.{Ended, NextColumn, RightSteps, is_down, is_right, some_down};
 
+use lent::tableaux::CountedTableau;
 use refusals::numbers::check_room;
 use refusals::refusal::Refusal;
 use validity::counted::check_counted_tableau;
-use lent::tableaux::CountedTableau;
 
 // The first right step of some steps.
 fn first_right(steps: &[u8]) -> Option<usize>
@@ -98,7 +98,12 @@ fn check_reading(
         (counted_judgements rank letters.now marks.now counts.now)
         (room_judged (length letters.now) room ∷ []) }
 {
-    check_counted_tableau(&CountedTableau { rank, letters, marks, counts })?;
+    check_counted_tableau(&CountedTableau {
+        rank,
+        letters,
+        marks,
+        counts,
+    })?;
     check_room(letters.len(), room)
 }
 

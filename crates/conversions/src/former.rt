@@ -8,6 +8,7 @@ ghost use Rattle.refusals.specs.Said.{said_refusal, said_verdict, said_value};
 ghost use Rattle.conversions.specs.Breaks.{BreakFits, broken_at};
 ghost use Rattle.conversions.specs.Values.{Roomed, values_run};
 
+use lent::tableaux::Pair;
 use line_items::letters::narrow_letters;
 use line_items::room::{no_letters, no_marks};
 use refusals::chains::check_limits;
@@ -15,7 +16,6 @@ use refusals::numbers::check_length;
 use refusals::refusal::Refusal;
 use scans::line::{Line, scan_line};
 use writers::line::write_pair_line;
-use lent::tableaux::Pair;
 
 // 1 and 2 of a tableau that was read, and 2 of the entries beside it.
 fn check_counts(rank: usize, cells: usize, entries: usize) -> Result<(), Refusal>
@@ -52,7 +52,15 @@ fn write_values(
 {
     check_counts(rank, cells, count)?;
     let bytes = narrow_letters(&letters[0..cells]);
-    write_pair_line(&Pair { rank, letters: &bytes[0..cells], marks: &marks[0..cells], entries: &entries[0..count] }, out)
+    write_pair_line(
+        &Pair {
+            rank,
+            letters: &bytes[0..cells],
+            marks: &marks[0..cells],
+            entries: &entries[0..count],
+        },
+        out,
+    )
 }
 
 // The P line of a T text and an N text, or the refusal of 14, 1 to 8 or 13, which leaves lent memory as it was. The places of 14 in the second text count on

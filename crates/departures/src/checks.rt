@@ -7,9 +7,9 @@ ghost use Rattle.admissions.specs.Checks.{Sized};
 ghost use Rattle.departures.specs.Checks.{cell_checks, depart_checks};
 
 use admissions::checks::check_sizes;
+use lent::tableaux::CountedPair;
 use refusals::refusal::Refusal;
 use validity::counted::check_counted_pair;
-use lent::tableaux::CountedPair;
 
 // 4 to 8 and 17 of the used cells, and 18, once 1, 2 and 3 have passed. They pass again of the used cells alone.
 #[tactic(auto, using(crate::specs::Checks::used_counted), unfolding(refusals::specs::Running::checks_then, windows::specs::Departures::empty_judged))]
@@ -25,7 +25,13 @@ fn check_used_cells(
     ensures { said_verdict result
         ≡ cell_checks rank used (pair_with letters.now marks.now entries.now) counts.now }
 {
-    check_counted_pair(&CountedPair { rank, letters: &letters[..used], marks: &marks[..used], entries: &entries[..used], counts })?;
+    check_counted_pair(&CountedPair {
+        rank,
+        letters: &letters[..used],
+        marks: &marks[..used],
+        entries: &entries[..used],
+        counts,
+    })?;
     if used == 0 {
         return Err(Refusal::Empty);
     }

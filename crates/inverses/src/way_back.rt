@@ -9,10 +9,10 @@ ghost use Rattle.refusals.specs.Running.{checks_then};
 ghost use Rattle.refusals.specs.Said.{said_verdict, said_value};
 ghost use Rattle.inverses.specs.Recorded.{Recorded};
 
+use lent::tableaux::CountedPair;
 use refusals::numbers::check_room;
 use refusals::refusal::Refusal;
 use validity::counted::check_counted_pair;
-use lent::tableaux::CountedPair;
 
 // 1 to 6 of the pair, 17 of its letter counts, 7 and 8, and 13: room for as many letters as it has cells.
 #[tactic(auto, unfolding(refusals::specs::Running::checks_then))]
@@ -29,7 +29,13 @@ fn check_way_back(
         (counted_pair_judgements rank letters.now marks.now entries.now counts.now)
         (room_judged (length letters.now) room ∷ []) }
 {
-    check_counted_pair(&CountedPair { rank, letters, marks, entries, counts })?;
+    check_counted_pair(&CountedPair {
+        rank,
+        letters,
+        marks,
+        entries,
+        counts,
+    })?;
     check_room(letters.len(), room)
 }
 

@@ -4,10 +4,10 @@ ghost use Rattle.refusals.specs.Said.{said_value};
 ghost use Rattle.run_lines.specs.Operations.{c_line_run, word_run_line_run};
 ghost use Rattle.lines.specs.TableauLine.{Reached};
 
+use lent::tableaux::Tableau;
 use refusals::refusal::Refusal;
 use ribbons::pair::pair_of_word;
 use writers::line::write_run_line;
-use lent::tableaux::Tableau;
 
 // The C line of the first cells of a tableau.
 #[tactic(auto, using(crate::specs::RunLine::run_lining))]
@@ -22,7 +22,14 @@ fn write_runs(
     ensures { (said_value result, out.new)
         ≡ c_line_run rank (take cells letters.now) (take cells marks.now) out.old }
 {
-    write_run_line(&Tableau { rank, letters: &letters[..cells], marks: &marks[..cells] }, out)
+    write_run_line(
+        &Tableau {
+            rank,
+            letters: &letters[..cells],
+            marks: &marks[..cells],
+        },
+        out,
+    )
 }
 
 // The C line of a word, into a lent buffer, or the refusal of 1, 2, 4 or 13, which leaves the buffer as it was.

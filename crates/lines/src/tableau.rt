@@ -4,10 +4,10 @@ ghost use Rattle.outcomes.specs.LineOperations.{t_line_run, tableau_line_run};
 ghost use Rattle.refusals.specs.Said.{said_value};
 ghost use Rattle.lines.specs.TableauLine.{Reached};
 
+use lent::tableaux::Tableau;
 use refusals::refusal::Refusal;
 use ribbons::pair::pair_of_word;
 use writers::line::write_tableau_line;
-use lent::tableaux::Tableau;
 
 // The T line of the first cells of a tableau.
 #[tactic(auto, using(crate::specs::TableauLine::lining))]
@@ -22,7 +22,14 @@ fn write_cells(
     ensures { (said_value result, out.new)
         ≡ t_line_run rank (take cells letters.now) (take cells marks.now) out.old }
 {
-    write_tableau_line(&Tableau { rank, letters: &letters[..cells], marks: &marks[..cells] }, out)
+    write_tableau_line(
+        &Tableau {
+            rank,
+            letters: &letters[..cells],
+            marks: &marks[..cells],
+        },
+        out,
+    )
 }
 
 // The tableau line of a word, into a lent buffer, or the refusal of 1, 2, 4 or 13, which leaves the buffer as it was.

@@ -53,7 +53,13 @@ fn print_line(text: &[u8], out: &mut [u8]) -> usize
 {
     let mut word = [0u8; 1024];
     let line = read_word_line(text, &mut word);
-    let Ok(Sizes { rank: rank, count: letters }) = line else {
+    let Ok(
+        Sizes {
+            rank: rank,
+            count: letters,
+        },
+    ) = line
+    else {
         return print_refused(line, out);
     };
     print_letters(rank, letters, &word, out)

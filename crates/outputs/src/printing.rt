@@ -10,10 +10,10 @@ ghost use Rattle.outputs.specs.Printing.{Printed, Ready};
 ghost use Rattle.outputs.specs.ThreeLines.{Held};
 
 use columns::reading::column_reading;
+use lent::tableaux::Pair;
 use refusals::answers::Junctions;
 use ribbons::pair::pair_of_word;
 use writers::line::{write_junction_line, write_pair_line, write_word_line};
-use lent::tableaux::Pair;
 
 // The P line of a pair; how many bytes it has.
 fn print_pair(rank: usize, letters: &[u8], marks: &[u8], entries: &[u16], out: &mut [u8]) -> usize
@@ -21,7 +21,15 @@ fn print_pair(rank: usize, letters: &[u8], marks: &[u8], entries: &[u16], out: &
     requires entries_in_bounds { length (p_line rank letters.now marks.now entries.now) ≤ length out.old }
     ensures { Printed (p_line rank letters.now marks.now entries.now) out.old out.new result }
 {
-    let Ok(bytes) = write_pair_line(&Pair { rank, letters, marks, entries }, out) else {
+    let Ok(bytes) = write_pair_line(
+        &Pair {
+            rank,
+            letters,
+            marks,
+            entries,
+        },
+        out,
+    ) else {
         return 0;
     };
     bytes

@@ -8,6 +8,7 @@ ghost use Rattle.refusals.specs.Said.{said_sizes, said_verdict};
 ghost use Rattle.readers.specs.PairStores.{PairCopied};
 
 use buffers::copies::copy;
+use lent::tableaux::Pair;
 use line_items::letters::narrow_letters;
 use line_items::room::{no_letters, no_marks};
 use refusals::answers::Sizes;
@@ -17,7 +18,6 @@ use scans::line::Line;
 use scans::pair::scan_pair;
 use validity::tableau::check_pair;
 use words::tables::letter_counts;
-use lent::tableaux::Pair;
 
 // 1 to 8 of a pair that was read, and 13 of lent letters, marks and entries.
 fn check_pair_read(
@@ -33,7 +33,12 @@ fn check_pair_read(
         ≡ checks_then (pair_judgements rank cells.now steps.now places.now)
         (pair_rooms (length cells.now) letters marks entries) }
 {
-    check_pair(&Pair { rank, letters: cells, marks: steps, entries: places })?;
+    check_pair(&Pair {
+        rank,
+        letters: cells,
+        marks: steps,
+        entries: places,
+    })?;
     check_pair_rooms(cells.len(), letters, marks, entries)
 }
 
@@ -80,7 +85,10 @@ fn store_pair(
     )?;
     copy_pair(cells, steps, places, letters, marks, entries);
     *counts = letter_counts(rank, cells);
-    Ok(Sizes { rank: rank, count: cells.len() })
+    Ok(Sizes {
+        rank: rank,
+        count: cells.len(),
+    })
 }
 
 // The pair of a P line into lent letters, marks, entries and letter counts, or the refusal of 14, 1 to 8 or 13, which leaves them as they were.

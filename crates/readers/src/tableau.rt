@@ -7,6 +7,7 @@ ghost use Rattle.refusals.specs.Said.{said_sizes, said_verdict};
 ghost use Rattle.readers.specs.Stores.{Copied};
 
 use buffers::copies::copy;
+use lent::tableaux::Tableau;
 use line_items::letters::narrow_letters;
 use line_items::room::{no_letters, no_marks};
 use refusals::answers::Sizes;
@@ -16,7 +17,6 @@ use refusals::refusal::Refusal;
 use scans::line::{Line, scan_line};
 use validity::tableau::check_tableau;
 use words::tables::letter_counts;
-use lent::tableaux::Tableau;
 
 // 1 to 6 of a tableau that was read, and 13 of lent letters and marks.
 fn check_tableau_read(
@@ -30,7 +30,11 @@ fn check_tableau_read(
         ≡ checks_then (tableau_judgements rank cells.now steps.now)
         (room_judged (length cells.now) letters ∷ room_judged (length cells.now) marks ∷ []) }
 {
-    check_tableau(&Tableau { rank, letters: cells, marks: steps })?;
+    check_tableau(&Tableau {
+        rank,
+        letters: cells,
+        marks: steps,
+    })?;
     check_room(cells.len(), letters)?;
     check_room(cells.len(), marks)
 }
@@ -55,16 +59,13 @@ fn store_tableau(
     ensures { (said_sizes result, (letters.new, (marks.new, counts.new)))
         ≡ tableau_read letters.old marks.old counts.old rank cells.now steps.now }
 {
-    check_tableau_read(
-        rank,
-        cells,
-        steps,
-        letters.len(),
-        marks.len(),
-    )?;
+    check_tableau_read(rank, cells, steps, letters.len(), marks.len())?;
     copy_cells(cells, steps, letters, marks);
     *counts = letter_counts(rank, cells);
-    Ok(Sizes { rank: rank, count: cells.len() })
+    Ok(Sizes {
+        rank: rank,
+        count: cells.len(),
+    })
 }
 
 // The tableau of a T line into lent letters, marks and letter counts, or the refusal of 14, 1 to 6 or 13, which leaves them as they were.

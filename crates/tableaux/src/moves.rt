@@ -12,11 +12,11 @@ ghost use Rattle.tableaux.specs.Moves.{move_cells_run};
 
 use crate::changed_counts::{change_counts, count_taken};
 use inversions::scan::has_below;
+use lent::tableaux::CountedTableau;
 use operators::changes::{Side, move_letters};
 use refusals::numbers::check_index;
-use validity::counted::check_counted_tableau;
 use refusals::refusal::Refusal;
-use lent::tableaux::CountedTableau;
+use validity::counted::check_counted_tableau;
 
 // The move of either side in the lent letters, the counts being lent for reading: all of the move but the change of counts.
 fn move_cells(
@@ -29,7 +29,12 @@ fn move_cells(
 ) -> Result<usize, Refusal>
     ensures { (said_value result, letters.new) ≡ move_cells_run rank (move_by side index) letters.old marks.now counts.now }
 {
-    let verdict = check_counted_tableau(&CountedTableau { rank, letters, marks, counts });
+    let verdict = check_counted_tableau(&CountedTableau {
+        rank,
+        letters,
+        marks,
+        counts,
+    });
     verdict?;
     let inversion = has_below(index, letters, marks);
     move_letters(side, rank, index, inversion, letters)
@@ -92,7 +97,12 @@ fn check_repeat(
     ensures { said_verdict result
         ≡ checks_then (counted_judgements rank letters.now marks.now counts.now) (index_judged rank index ∷ []) }
 {
-    check_counted_tableau(&CountedTableau { rank, letters, marks, counts })?;
+    check_counted_tableau(&CountedTableau {
+        rank,
+        letters,
+        marks,
+        counts,
+    })?;
     check_index(rank, index)
 }
 

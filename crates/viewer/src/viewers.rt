@@ -4,10 +4,10 @@ ghost use Rattle.outcomes.specs.TableauOperations.{look_says, through_says, view
 ghost use Rattle.refusals.specs.Said.{said_cell, said_verdict};
 
 use coordinates::cells::cell_through;
-use refusals::answers::Cell;
-use validity::tableau::check_tableau;
-use refusals::refusal::Refusal;
 use lent::tableaux::Tableau;
+use refusals::answers::Cell;
+use refusals::refusal::Refusal;
+use validity::tableau::check_tableau;
 
 // Letters and marks may be lent for different times.
 #[derive(Clone, Copy)]
@@ -26,7 +26,11 @@ pub fn viewer_of<'a, 'b>(rank: usize, letters: &'a [u8], marks: &'b [u8]) -> Vie
     Viewer {
         letters,
         marks,
-        made: check_tableau(&Tableau { rank, letters, marks }),
+        made: check_tableau(&Tableau {
+            rank,
+            letters,
+            marks,
+        }),
     }
 }
 
@@ -40,7 +44,12 @@ impl<'a, 'b> Viewer<'a, 'b> {
 }
 
 // One look, through a viewer that is made for it.
-pub fn look_once(rank: usize, letters: &[u8], marks: &[u8], place: usize) -> Result<Option<Cell>, Refusal>
+pub fn look_once(
+    rank: usize,
+    letters: &[u8],
+    marks: &[u8],
+    place: usize,
+) -> Result<Option<Cell>, Refusal>
     ensures { said_cell result ≡ look_says rank letters.now marks.now place }
 {
     viewer_of(rank, letters, marks).look(place)
