@@ -18,6 +18,7 @@ pub struct Viewer<'a, 'b> {
 }
 
 // A viewer of letters and marks at a rank. It is always made: whether they are a tableau of the rank, `made` says.
+#[tactic(auto, using(coordinates::specs::Looking::made_says))]
 pub fn viewer_of<'a, 'b>(rank: usize, letters: &'a [u8], marks: &'b [u8]) -> Viewer<'a, 'b>
     ensures { (result.letters ≡ letters.entry)
         × (result.marks ≡ marks.entry)
