@@ -3,7 +3,7 @@
 --     shared_cases     the cases; tests stand as 1 and 0 (told), lent letters and marks one after the other (filling), an item as its three numbers
 --                     (item_numbers), numbers compared as two (compared), a cell and the number beside it as two (going)
 -- That the two sides of every case are equal is proved in proofs/Theory/Shared.antt. Assumes nothing.
-use Rattle.std.specs.Prelude.{ℕ, Bool, true, false, List, [], ◌∷◌, ◌++◌, map, length, replicate, set}
+use Rattle.std.specs.Prelude.{ℕ, Bool, true, false, Option, Some, None, List, [], ◌∷◌, ◌++◌, map, length, replicate, set}
 use Rattle.std.proofs.Math.Option.{none, some}
 use Rattle.grammar.specs.Lines.{Run}
 use Rattle.grammar.specs.Reading.{letters, marks}
@@ -16,7 +16,7 @@ use Rattle.acceptance.specs.Bytes.{narrowed}
 use Rattle.buffers.specs.Copies.{copied}
 use Rattle.buffers.specs.Pulls.{pulled}
 use Rattle.buffers.specs.Shifts.{pushed}
-use Rattle.closings.specs.Closings.{closed_entries, closed_letters, closed_marks}
+use Rattle.closings.specs.Closings.{closed_elements, closed_entries, closed_marks}
 use Rattle.closings.specs.Oldest.{oldest_place}
 use Rattle.numerals.specs.Bytes.{starts_with}
 use Rattle.occurrences.specs.Places.{stands_left}
@@ -62,6 +62,11 @@ tally n rs = tallies.inside_lead n rs ∷ tallies.rising_lead 0 rs ∷ tallies.l
 abbrev pub compared : List ℕ → List ℕ → List ℕ
 compared cs ds = told (same_tables cs ds) ∷ comparison_number (compare_tables cs ds) ∷ []
 
+-- A place, where there is one.
+abbrev pub placed : Option ℕ → List ℕ
+placed (Some p) = p ∷ []
+placed None = []
+
 -- A cell that goes first, and the number beside it.
 abbrev pub going : ℕ × ℕ → List ℕ
 going c = c.0 ∷ c.1 ∷ []
@@ -88,7 +93,7 @@ shared_cases =
     ∷ case (opened_marks 1 2 (0 ∷ 0 ∷ 9 ∷ 9 ∷ []) ++ opened_marks 2 2 (0 ∷ 1 ∷ 9 ∷ [])) (0 ∷ 0 ∷ 1 ∷ 9 ∷ 0 ∷ 1 ∷ 0 ∷ [])
     ∷ case (opened_marks 3 2 (0 ∷ 1 ∷ 9 ∷ 9 ∷ []) ++ opened_marks 0 2 (0 ∷ 1 ∷ [])) (0 ∷ 1 ∷ 9 ∷ 9 ∷ 0 ∷ 1 ∷ [])
     -- an element out of the used ones, the last of them keeping its value; as it was where the place is past them; a used count beyond the list
-    ∷ case (closed_letters 1 3 (1 ∷ 2 ∷ 3 ∷ 9 ∷ []) ++ closed_letters 3 3 (1 ∷ 2 ∷ 3 ∷ 9 ∷ []) ++ closed_letters 0 9 (1 ∷ 2 ∷ []))
+    ∷ case (closed_elements 1 3 (1 ∷ 2 ∷ 3 ∷ 9 ∷ []) ++ closed_elements 3 3 (1 ∷ 2 ∷ 3 ∷ 9 ∷ []) ++ closed_elements 0 9 (1 ∷ 2 ∷ []))
     (1 ∷ 3 ∷ 3 ∷ 9 ∷ 1 ∷ 2 ∷ 3 ∷ 9 ∷ 2 ∷ 2 ∷ [])
     -- a mark, and the step that joins its neighbours: a rise, a fall, none out of a last cell, none into a first one; past the used ones
     ∷ case (closed_marks 1 3 (2 ∷ 1 ∷ 3 ∷ []) (0 ∷ 1 ∷ 0 ∷ 9 ∷ []) ++ closed_marks 1 3 (3 ∷ 1 ∷ 2 ∷ []) (0 ∷ 1 ∷ 0 ∷ 9 ∷ []))
@@ -97,8 +102,9 @@ shared_cases =
     (0 ∷ 1 ∷ 1 ∷ 9 ∷ 0 ∷ 1 ∷ 0 ∷ 9 ∷ [])
     -- an entry, the others one less, of which 0 stays; past the used ones all of these are one less
     ∷ case (closed_entries 1 3 (2 ∷ 1 ∷ 3 ∷ 9 ∷ []) ++ closed_entries 3 3 (2 ∷ 0 ∷ 3 ∷ 9 ∷ [])) (1 ∷ 2 ∷ 3 ∷ 9 ∷ 1 ∷ 0 ∷ 2 ∷ 9 ∷ [])
-    -- the first entry 1; where there is none, how many entries there are
-    ∷ case (oldest_place (2 ∷ 1 ∷ 1 ∷ []) ∷ oldest_place (1 ∷ []) ∷ oldest_place (2 ∷ 3 ∷ []) ∷ oldest_place [] ∷ []) (1 ∷ 0 ∷ 2 ∷ 0 ∷ [])
+    -- the first entry 1, where there is one
+    ∷ case (placed (oldest_place (2 ∷ 1 ∷ 1 ∷ [])) ++ placed (oldest_place (1 ∷ [])) ++ placed (oldest_place (2 ∷ 3 ∷ [])) ++ placed (oldest_place []))
+    (1 ∷ 0 ∷ [])
     -- a line by the grammar alone: the cells read before it breaks, of which as many are kept as have room, and marks only where the line tells steps
     ∷ case (kept (1 ∷ 2 ∷ 3 ∷ []) (9 ∷ 9 ∷ []) ++ kept (1 ∷ []) (9 ∷ 9 ∷ [])) (1 ∷ 2 ∷ 1 ∷ 9 ∷ [])
     ∷ case (letters (whole_cells 87 true false (text "W,4,3,3,1x"))) (3 ∷ 1 ∷ [])
