@@ -1,9 +1,8 @@
 -- Letters narrowed to bytes.
 --     Narrowing n c xs bytes i the loop over letters: the first i, of c in all, are in the bytes, of which there are n
---     narrowing                the ruleset of letters narrowed to bytes
 -- Assumes nothing.
 use Rattle.std.specs.Prelude.{ℕ, min, ◌+◌, ◌≤◌, ◌<◌, ◌≡◌, refl, List, [], ◌∷◌, ◌++◌, map, length, get_or, set, take, replicate}
-use Rattle.std.proofs.Common.{ap, ◌∙◌, add-one, arith, length-take-le, take-suc, rules}
+use Rattle.std.proofs.Common.{ap, ◌∙◌, add-one, arith, length-take-le, take-suc}
 use Rattle.std.proofs.lemmas.List.{map-append, length-map}
 use Rattle.acceptance.specs.Bytes.{narrowed}
 use Rattle.scans.specs.Kept.{kept, kept_enough, kept_next, length-kept}
@@ -46,5 +45,3 @@ module _ {n c : ℕ} {xs bytes : List ℕ} {i : ℕ} (h : Narrowing n c xs bytes
   -- and all of them.
   pub narrow_end : c ≤ i → bytes ≡ kept (map narrowed xs) (blank n)
   narrow_end l = h.bytes_are ∙ kept_enough narrowed i xs (blank n) (omega (arith, h.count, blank_long n {xs = blank n} refl))
-
-pub ruleset narrowing = (narrow_start, narrow_letter, narrow_place, narrow_turn, narrow_end, rules)

@@ -12,10 +12,8 @@ pub fn narrow_letters(letters: &[u16]) -> [u8; 1024]
 {
     let count = letters.len().min(1024);
     let mut bytes = [0u8; 1024];
-    let mut i = 0;
-    while i < count {
+    for i in 0..count {
         bytes[i] = narrow(letters[i]);
-        i += 1;
     }
     bytes
 }

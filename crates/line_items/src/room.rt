@@ -3,6 +3,8 @@ ghost use Rattle.std.specs.Prelude.{◌≡◌};
 ghost use Rattle.line_items.specs.Blank.{blank};
 
 // Room for the letters or the entries of a line.
+// Kept: no_letters and no_marks differ in the type alone, but one function of any type would be given the zero to repeat, and be no more than `[zero; 1024]`.
+#[tactic(auto, unfolding(crate::specs::Blank::blank))]
 pub fn no_letters() -> [u16; 1024]
     ensures { result ≡ blank 1024 }
 {
@@ -10,6 +12,7 @@ pub fn no_letters() -> [u16; 1024]
 }
 
 // Room for the marks of a line.
+#[tactic(auto, unfolding(crate::specs::Blank::blank))]
 pub fn no_marks() -> [u8; 1024]
     ensures { result ≡ blank 1024 }
 {

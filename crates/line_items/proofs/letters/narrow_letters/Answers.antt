@@ -1,33 +1,13 @@
--- `line_items::letters::narrow_letters` meets its contract, by the laws of specs/Letters. The invariant: the first i letters are narrowed. Assumes nothing.
-use Rattle.line_items.specs.Letters.{narrowing}
+-- None, one letter more, and all of them.
+use Rattle.std.proofs.Common.{arith}
+use Rattle.line_items.specs.Letters.{narrow_end, narrow_start, narrow_turn}
 use Rattle.line_items.proofs.letters.narrow_letters.Goals as goal
 
-pub least-count-requires : goal.least-count-requires
-least-count-requires c = search narrowing
-
 pub loop-i-init : goal.loop-i-init
-loop-i-init c = search narrowing
-
-pub offset_bounds-letters-i : goal.offset_bounds-letters-i
-offset_bounds-letters-i c = search narrowing
-
-pub bounds-letters-i : goal.bounds-letters-i
-bounds-letters-i c = search narrowing
-
-pub narrow-requires : goal.narrow-requires
-narrow-requires c = search narrowing
-
-pub bounds-bytes-i : goal.bounds-bytes-i
-bounds-bytes-i c = search narrowing
-
-pub overflow_add-i : goal.overflow_add-i
-overflow_add-i c = search narrowing
-
-pub loop-i-smaller : goal.loop-i-smaller
-loop-i-smaller c = search narrowing
+loop-i-init c = narrow_start _ _ c.min-count.ensures
 
 pub loop-i-preserved : goal.loop-i-preserved
-loop-i-preserved c = search narrowing
+loop-i-preserved c = narrow_turn c.loop-i.invariant (omega arith) c.narrow.ensures
 
 pub returns : goal.returns
-returns c = search narrowing
+returns c = narrow_end c.loop-i.invariant (omega arith)
