@@ -86,40 +86,23 @@ fn write_reading(letters: &[u8], marks: &[u8], word: &mut [u8])
 
 // 1 to 6 of the tableau, 17 of its letter counts, and 13 of a word of so many elements.
 #[tactic(auto, unfolding(refusals::specs::Running::checks_then))]
-fn check_reading(
-    rank: usize,
-    letters: &[u8],
-    marks: &[u8],
-    counts: &[u16; 64],
-    room: usize,
-) -> Result<(), Refusal>
+fn check_reading(tableau: &CountedTableau, room: usize) -> Result<(), Refusal>
     ensures { said_verdict result
         ≡ checks_then
-        (counted_judgements rank letters.now marks.now counts.now)
-        (room_judged (length letters.now) room ∷ []) }
+        (counted_judgements tableau.now.rank tableau.now.letters.now tableau.now.marks.now tableau.now.counts.now)
+        (room_judged (length tableau.now.letters.now) room ∷ []) }
 {
-    check_counted_tableau(&CountedTableau {
-        rank,
-        letters,
-        marks,
-        counts,
-    })?;
-    check_room(letters.len(), room)
+    check_counted_tableau(tableau)?;
+    check_room(tableau.letters.len(), room)
 }
 
 // The column reading of a tableau that brings its letter counts, into a lent word.
 #[tactic(auto, using(crate::specs::Reading::replying))]
-pub fn column_reading(
-    rank: usize,
-    letters: &[u8],
-    marks: &[u8],
-    counts: &[u16; 64],
-    word: &mut [u8],
-) -> Result<usize, Refusal>
+pub fn column_reading(tableau: &CountedTableau, word: &mut [u8]) -> Result<usize, Refusal>
     ensures { (said_value result, word.new)
-        ≡ reading_run rank letters.now marks.now counts.now word.old }
+        ≡ reading_run tableau.now.rank tableau.now.letters.now tableau.now.marks.now tableau.now.counts.now word.old }
 {
-    check_reading(rank, letters, marks, counts, word.len())?;
-    write_reading(letters, marks, word);
-    Ok(letters.len())
+    check_reading(tableau, word.len())?;
+    write_reading(tableau.letters, tableau.marks, word);
+    Ok(tableau.letters.len())
 }

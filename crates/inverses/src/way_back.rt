@@ -16,27 +16,14 @@ use validity::counted::check_counted_pair;
 
 // 1 to 6 of the pair, 17 of its letter counts, 7 and 8, and 13: room for as many letters as it has cells.
 #[tactic(auto, unfolding(refusals::specs::Running::checks_then))]
-fn check_way_back(
-    rank: usize,
-    letters: &[u8],
-    marks: &[u8],
-    entries: &[u16],
-    counts: &[u16; 64],
-    room: usize,
-) -> Result<(), Refusal>
+fn check_way_back(pair: &CountedPair, room: usize) -> Result<(), Refusal>
     ensures { said_verdict result
         ≡ checks_then
-        (counted_pair_judgements rank letters.now marks.now entries.now counts.now)
-        (room_judged (length letters.now) room ∷ []) }
+        (counted_pair_judgements pair.now.rank pair.now.letters.now pair.now.marks.now pair.now.entries.now pair.now.counts.now)
+        (room_judged (length pair.now.letters.now) room ∷ []) }
 {
-    check_counted_pair(&CountedPair {
-        rank,
-        letters,
-        marks,
-        entries,
-        counts,
-    })?;
-    check_room(letters.len(), room)
+    check_counted_pair(pair)?;
+    check_room(pair.letters.len(), room)
 }
 
 // The letter of each cell at its place in the lent word. The entry of a cell tells its place: places count from 0, entries from 1.
@@ -52,18 +39,11 @@ fn write_word(letters: &[u8], entries: &[u16], word: &mut [u8])
 
 // Pair back to word, the pair with its letter counts, into the lent word; what stands in it beyond the letters keeps its value.
 #[tactic(auto, using(crate::specs::WayBack::going_back))]
-pub fn word_of_pair(
-    rank: usize,
-    letters: &[u8],
-    marks: &[u8],
-    entries: &[u16],
-    counts: &[u16; 64],
-    word: &mut [u8],
-) -> Result<usize, Refusal>
+pub fn word_of_pair(pair: &CountedPair, word: &mut [u8]) -> Result<usize, Refusal>
     ensures { (said_value result, word.new)
-        ≡ word_run rank letters.now marks.now entries.now counts.now word.old }
+        ≡ word_run pair.now.rank pair.now.letters.now pair.now.marks.now pair.now.entries.now pair.now.counts.now word.old }
 {
-    check_way_back(rank, letters, marks, entries, counts, word.len())?;
-    write_word(letters, entries, word);
-    Ok(letters.len())
+    check_way_back(pair, word.len())?;
+    write_word(pair.letters, pair.entries, word);
+    Ok(pair.letters.len())
 }
