@@ -19,6 +19,7 @@ use refusals::refusal::Refusal;
 use validity::counted::check_counted_tableau;
 
 // The move of either side in the lent letters, the counts being lent for reading: all of the move but the change of counts.
+#[tactic(auto, using(crate::specs::Moves::shifting))]
 fn move_cells(
     side: Side,
     rank: usize,
@@ -29,18 +30,19 @@ fn move_cells(
 ) -> Result<usize, Refusal>
     ensures { (said_value result, letters.new) ≡ move_cells_run rank (move_by side index) letters.old marks.now counts.now }
 {
-    let verdict = check_counted_tableau(&CountedTableau {
+    let tableau = CountedTableau {
         rank,
         letters,
         marks,
         counts,
-    });
-    verdict?;
+    };
+    check_counted_tableau(&tableau)?;
     let inversion = has_below(index, letters, marks);
     move_letters(side, rank, index, inversion, letters)
 }
 
 // The move of either side, in the lent letters and counts.
+#[tactic(auto, using(crate::specs::Moves::moving))]
 pub fn move_tableau(
     side: Side,
     rank: usize,
@@ -52,10 +54,9 @@ pub fn move_tableau(
     ensures { (said_value result, (letters.new, counts.new))
         ≡ move_tableau_run rank (move_by side index) letters.old marks.now counts.old }
 {
-    let answer = move_cells(side, rank, index, letters, marks, counts);
-    answer?;
-    change_counts(side, index, counts);
-    answer
+    let place = move_cells(side, rank, index, letters, marks, counts)?;
+    change_counts(side, index as u8, counts);
+    Ok(place)
 }
 
 // Raising: the first i+1 in ribbon order becomes i.
@@ -87,67 +88,57 @@ pub fn lower_tableau(
 }
 
 // 1 to 6, 17 and 9.
-fn check_repeat(
-    rank: usize,
-    index: usize,
-    letters: &[u8],
-    marks: &[u8],
-    counts: &[u16; 64],
-) -> Result<(), Refusal>
+#[tactic(auto, unfolding(refusals::specs::Running::checks_then))]
+fn check_repeat(index: usize, tableau: &CountedTableau) -> Result<(), Refusal>
     ensures { said_verdict result
-        ≡ checks_then (counted_judgements rank letters.now marks.now counts.now) (index_judged rank index ∷ []) }
+        ≡ checks_then
+        (counted_judgements tableau.now.rank tableau.now.letters.now tableau.now.marks.now tableau.now.counts.now)
+        (index_judged tableau.now.rank index ∷ []) }
 {
-    check_counted_tableau(&CountedTableau {
-        rank,
-        letters,
-        marks,
-        counts,
-    })?;
-    check_index(rank, index)
+    check_counted_tableau(tableau)?;
+    check_index(tableau.rank, index)
 }
 
 // How often the move of either side can be made, one after the other: never under an inversion, else once for each letter that it takes.
-pub fn repeat_tableau(
-    side: Side,
-    rank: usize,
-    index: usize,
-    letters: &[u8],
-    marks: &[u8],
-    counts: &[u16; 64],
-) -> Result<usize, Refusal>
-    ensures { said_value result ≡ repeat_tableau_says rank (move_by side index) letters.now marks.now counts.now }
+#[tactic(auto, using(crate::specs::Moves::repeating))]
+pub fn repeat_tableau(side: Side, index: usize, tableau: &CountedTableau) -> Result<usize, Refusal>
+    ensures { said_value result
+        ≡ repeat_tableau_says
+        tableau.now.rank
+        (move_by side index)
+        tableau.now.letters.now
+        tableau.now.marks.now
+        tableau.now.counts.now }
 {
-    check_repeat(rank, index, letters, marks, counts)?;
-    if has_below(index, letters, marks) {
+    check_repeat(index, tableau)?;
+    if has_below(index, tableau.letters, tableau.marks) {
         return Ok(0);
     }
-    Ok(count_taken(side, index, counts))
+    Ok(count_taken(side, index as u8, tableau.counts))
 }
 
 // How often raising can be repeated.
-pub fn raise_count_tableau(
-    rank: usize,
-    index: usize,
-    letters: &[u8],
-    marks: &[u8],
-    counts: &[u16; 64],
-) -> Result<usize, Refusal>
+pub fn raise_count_tableau(index: usize, tableau: &CountedTableau) -> Result<usize, Refusal>
     ensures { said_value result
-        ≡ repeat_tableau_says rank (record { side = raising; index = index }) letters.now marks.now counts.now }
+        ≡ repeat_tableau_says
+        tableau.now.rank
+        (record { side = raising; index = index })
+        tableau.now.letters.now
+        tableau.now.marks.now
+        tableau.now.counts.now }
 {
-    repeat_tableau(Side::Raising, rank, index, letters, marks, counts)
+    repeat_tableau(Side::Raising, index, tableau)
 }
 
 // How often lowering can be repeated.
-pub fn lower_count_tableau(
-    rank: usize,
-    index: usize,
-    letters: &[u8],
-    marks: &[u8],
-    counts: &[u16; 64],
-) -> Result<usize, Refusal>
+pub fn lower_count_tableau(index: usize, tableau: &CountedTableau) -> Result<usize, Refusal>
     ensures { said_value result
-        ≡ repeat_tableau_says rank (record { side = lowering; index = index }) letters.now marks.now counts.now }
+        ≡ repeat_tableau_says
+        tableau.now.rank
+        (record { side = lowering; index = index })
+        tableau.now.letters.now
+        tableau.now.marks.now
+        tableau.now.counts.now }
 {
-    repeat_tableau(Side::Lowering, rank, index, letters, marks, counts)
+    repeat_tableau(Side::Lowering, index, tableau)
 }

@@ -1,28 +1,16 @@
--- `tableaux::moves::move_tableau` meets its contract, by the laws of specs/Moves. Assumes nothing.
-use Rattle.tableaux.specs.Moves.{moving}
-use borrow.Author.Rules.{rules}
+-- The reply and the letters of `move_cells`, and the counts beside them.
+use Rattle.std.proofs.Common.{rules}
+use Rattle.tableaux.specs.Moves.{index_byte, move_made, move_movable, move_stopped}
 use Rattle.tableaux.proofs.moves.move_tableau.Goals as goal
 
-pub move_cells-answer-requires : goal.move_cells-answer-requires
-move_cells-answer-requires c = search rules
+pub returns-in_err-place : goal.returns-in_err-place
+returns-in_err-place c = let e = move_stopped _ _ _ _ _ _ _ c.in_err-place.ensures in search (rules, e)
 
-pub enum_known-answer : goal.enum_known-answer
-enum_known-answer c = search rules
-
-pub shape_of-letters-in-Refused : goal.shape_of-letters-in-Refused
-shape_of-letters-in-Refused c = search rules
-
-pub returns-in-Refused : goal.returns-in-Refused
-returns-in-Refused c = search moving
-
-pub enum_told-1 : goal.enum_told-1
-enum_told-1 c = search rules
+pub overflow_cast-index : goal.overflow_cast-index
+overflow_cast-index c = index_byte _ _ _ (move_movable _ _ _ _ _ c.args.side _ c.in_ok-place.ensures)
 
 pub change_counts-requires : goal.change_counts-requires
-change_counts-requires c = search moving
-
-pub shape_of-letters : goal.shape_of-letters
-shape_of-letters c = search rules
+change_counts-requires c = move_movable _ _ _ _ _ _ _ c.in_ok-place.ensures
 
 pub returns : goal.returns
-returns c = search moving
+returns c = move_made _ _ _ _ _ _ _ c.in_ok-place.ensures c.change_counts.ensures
