@@ -10,6 +10,7 @@ use refusals::refusal::Refusal;
 use validity::tableau::check_tableau;
 
 // Letters and marks may be lent for different times.
+// Kept: two lists, and no `lent::tableaux::Tableau`, whose lists are lent for one time: it would ask more of who makes a viewer (`viewer_of`).
 #[derive(Clone, Copy)]
 pub struct Viewer<'a, 'b> {
     pub letters: &'a [u8],
@@ -45,13 +46,8 @@ impl<'a, 'b> Viewer<'a, 'b> {
 }
 
 // One look, through a viewer that is made for it.
-pub fn look_once(
-    rank: usize,
-    letters: &[u8],
-    marks: &[u8],
-    place: usize,
-) -> Result<Option<Cell>, Refusal>
-    ensures { said_cell result ≡ look_says rank letters.now marks.now place }
+pub fn look_once(tableau: &Tableau, place: usize) -> Result<Option<Cell>, Refusal>
+    ensures { said_cell result ≡ look_says tableau.now.rank tableau.now.letters.now tableau.now.marks.now place }
 {
-    viewer_of(rank, letters, marks).look(place)
+    viewer_of(tableau.rank, tableau.letters, tableau.marks).look(place)
 }
