@@ -3,9 +3,10 @@
 
     python3 scripts/unused.py      # each finding in a line, and then exit status 1; two lines of figures
 
-Used is what can be reached from a root: `main` of a program, a function of the C interface, and a public name that a page of promises has in code,
-as a theorem has that stands for itself. A function leads to what its text, its contract and its proof name, a definition or a law to what its type
-and its body name, a ruleset to all of its laws: which of them a search takes is not to be seen. Names are compared as they are imported, so a local
+Used is what can be reached from a root: `main` of a program, a function of the C interface, an `impl` or a trait, and a public name that a page of
+promises has in code, as a theorem has that stands for itself. A function leads to what its text, its contract, its attributes and its proof name (a
+call `x.f()` to every method f), a definition or a law to what its type and its body name, a ruleset to all of its laws: which of them a search takes
+is not to be seen. Names are compared as they are imported, so a local
 name that is spelled like a law counts as a use of it. What is public and has to be so for another reason than its uses is EXPLAINED.
 """
 import re
@@ -25,7 +26,7 @@ NAME = r"[^\s(){}\[\],;:.=«»⌜⌝]+"
 WORDS = r"((?:(?:abbrev|unfoldable|pub|record|data|ruleset) )*)"
 SIGNATURE = re.compile(rf"{WORDS}({NAME}(?: {NAME})*) :(?= |$)")
 NAMED = re.compile(rf"((?:pub )?(?:record|data|ruleset) )({NAME})")
-ITEM = re.compile(r"^ *(pub(?:\(crate\))? )?(?:extern \"C\" )?(fn|struct|enum|const) (\w+)", re.M)
+ITEM = re.compile(r"^(?:#\[.*\]\n)*(?: +#\[.*\]\n)*( *)(pub(?:\(crate\))? )?(?:final )?(?:extern \"C\" )?(fn|struct|enum|const|trait|impl)\b(?: (\w+))?", re.M)
 TOKEN = re.compile(r"\[\]|[^\s(){}\[\],;⌜⌝«»]+")  # of definitions and contracts
 PATH = re.compile(r"\w+(?:::\w+)*")  # of code
 
@@ -35,6 +36,7 @@ class Declaration:
 
     def __init__(self, path, line, names, words, kind):
         self.path, self.line, self.names, self.words, self.kind, self.lines = path, line, names, words, kind, []
+        self.method = False
 
     def __str__(self):
         return f"{self.path.relative_to(ROOT)}:{self.line}: {' '.join(self.names)} ({self.kind})"
@@ -121,17 +123,25 @@ class File:
         for match in re.finditer(r"^use ([^;]+);", text, re.M):
             for module, name, alias in leaves("", "".join(match[1].split("\n"))):
                 self.imports[alias or name] = (module, name, text.count("\n", 0, match.start()) + 1)
-        starts = list(ITEM.finditer(text))
+        starts, given = list(ITEM.finditer(text)), False  # given: within a trait, or an `impl` of one, whose functions are called through it
         for match, end in zip(starts, [*(after.start() for after in starts[1:]), len(text)]):
-            kind = {"fn": "function"}.get(match[2], match[2])
-            words = "exported" if "extern" in match[0] or match[3] == "main" else (match[1] or "")
-            self.items.append(Declaration(self.path, text.count("\n", 0, match.start(2)) + 1, [match[3]], words, kind))
-            self.items[-1].lines.append(text[match.start() : end])
+            kind, whole = {"fn": "function"}.get(match[3], match[3]), text[match.start() : end]
+            if kind in ("trait", "impl"):
+                given = kind == "trait" or " for " in whole.partition("{")[0]
+            inner = kind == "function" and match[1] != ""
+            root = kind in ("trait", "impl") or "extern" in match[0] or match[4] == "main" or inner and given
+            name = [] if kind in ("trait", "impl") else [match[4]]
+            self.items.append(Declaration(self.path, text.count("\n", 0, match.start(3)) + 1, name, "exported" if root else (match[2] or ""), kind))
+            self.items[-1].lines.append(whole)
+            self.items[-1].method = inner
 
 
 FILES = {path: File(path) for path in sorted([*CRATES.glob("*/specs/**/*.antt"), *CRATES.glob("*/proofs/**/*.antt"), *CRATES.glob("*/src/**/*.rt")])}
 ITEMS = [item for file in FILES.values() for item in file.items]
 INDEX = {(item.path, name): item for item in ITEMS for name in item.names}
+METHODS = {}
+for method in (item for item in ITEMS if item.method):
+    METHODS.setdefault(method.names[0], []).append(method)
 ON_PAGES = {name for page in PAGES for name in re.findall(r"(?<!`)`([^`\s]+)`(?!`)", page.read_text())}
 
 
@@ -144,7 +154,10 @@ def file_of(module, crate):
         first, *parts = module.split("::")
         if not (CRATES / first).is_dir():
             first, parts = crate, [part for part in (first, *parts) if part != "crate"]
-        path = CRATES / first / "src" / ("/".join(parts or ["lib"]) + ".rt")
+        if parts[:1] in (["specs"], ["proofs"]):
+            path = CRATES / first / ("/".join(parts) + ".antt")
+        else:
+            path = CRATES / first / "src" / ("/".join(parts or ["lib"]) + ".rt")
     return path if path in FILES else None
 
 
@@ -169,6 +182,7 @@ def uses(item):
         if first in file.imports:  # a module by its last name
             module = "::".join(filter(None, (*file.imports[first][:2], rest)))
         found.append(INDEX.get((file_of(module, item.crate), name)) if module else None)
+        found += METHODS.get(name, []) if module or f".{name}(" in item.lines[0] or f".{name}::" in item.lines[0] else []
     return {other for other in found if other and other is not item} | ({*proofs_of(item)} if item.kind == "function" else set())
 
 
