@@ -13,7 +13,7 @@ use refusals::answers::Sizes;
 use refusals::chains::check_limits;
 use refusals::numbers::check_room;
 use refusals::refusal::Refusal;
-use scans::line::{Line, scan_line};
+use scans::line::{Head, scan_line};
 
 // 1, 2 and 4 of a word that was read, and 13 of lent letters.
 fn check_word_read(rank: usize, word: &[u8], room: usize) -> Result<(), Refusal>
@@ -30,7 +30,10 @@ fn store_word(rank: usize, word: &[u8], letters: &mut [u8]) -> Result<Sizes, Ref
 {
     check_word_read(rank, word, letters.len())?;
     copy(word, letters);
-    Ok(Sizes { rank: rank, count: word.len() })
+    Ok(Sizes {
+        rank,
+        count: word.len(),
+    })
 }
 
 // The word of a W line into lent letters, or the refusal of 14, 1, 2, 4 or 13, which leaves them as they were.
@@ -40,13 +43,12 @@ pub fn read_word_line(text: &[u8], letters: &mut [u8]) -> Result<Sizes, Refusal>
     let mut values = no_letters();
     // A W line tells no marks, so none are lent.
     let mut marks = [0u8; 0];
-    let line = scan_line(text, b'W', true, false, &mut values, &mut marks);
-    match line {
-        Line::Broken(place) => Err(Refusal::Line(place)),
-        Line::Read(rank, count, _) => {
+    match scan_line(text, b'W', true, false, &mut values, &mut marks) {
+        Err(broken) => Err(Refusal::Line(broken.place)),
+        Ok(Head { rank, count, .. }) => {
             check_limits(rank, count)?;
-            let bytes = narrow_letters(&values[0..count]);
-            store_word(rank, &bytes[0..count], letters)
+            let bytes = narrow_letters(&values[..count]);
+            store_word(rank, &bytes[..count], letters)
         }
     }
 }
