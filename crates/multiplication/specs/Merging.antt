@@ -27,14 +27,14 @@ use Rattle.products.specs.Products.{product_word}
 use Rattle.products.proofs.Theory.ProductSteps.{product_junction, product_no_junction}
 use Rattle.words.specs.Bits.{number-none, number_more, under_power, or_bit}
 use Rattle.words.specs.Junctions.{next_step}
-use Rattle.words.specs.Tables.{Table}
+use Rattle.multiplication.specs.Downs.{Flags}
 
 -- ---- one bit
 
 -- Of a letter whose next larger letter stands so often in the first and in the second factor: down in the product.
-unfoldable pub product_bit : ℕ → ℕ → ℕ → ℕ → ℕ → Bool
-product_bit first_next second_next first_down_lem second_count second_down =
-    ltb 0 first_next && (ltb 0 first_down_lem || ltb 0 second_count) || ltb 0 second_next && ltb 0 second_down
+unfoldable pub product_bit : ℕ → ℕ → Bool → ℕ → Bool → Bool
+product_bit first_next second_next first_down second_count second_down =
+    ltb 0 first_next && (first_down || ltb 0 second_count) || ltb 0 second_next && second_down
 
 -- A bit from a test.
 bit_of : (b : Bool) → bool_byte b ≡ tick b 0
@@ -44,16 +44,16 @@ bit_of false = refl
 -- ---- tables of two factors
 
 -- Letter counts and down steps of the first factor, and of the second.
-pub record Tables (n : ℕ) (xs ms ys ns cs ds es gs : List ℕ) : Type 0 where
+pub record Tables (n : ℕ) (xs ms ys ns cs : List ℕ) (ds : List Bool) (es : List ℕ) (gs : List Bool) : Type 0 where
   pub first : TableauAt n xs ms
   pub second : TableauAt n ys ns
   pub first_counts : TrueCounts xs cs
-  pub first_downs : Table (λ a. tick (down_out a xs ms) 0) ds
+  pub first_downs : Flags (λ a. down_out a xs ms) ds
   pub second_counts : TrueCounts ys es
-  pub second_downs : Table (λ a. tick (down_out a ys ns) 0) gs
+  pub second_downs : Flags (λ a. down_out a ys ns) gs
 
 -- The set is that of the product of any factors with these tables.
-pub record Merged (n : ℕ) (cs ds es gs : List ℕ) (set : ℕ) : Type 0 where
+pub record Merged (n : ℕ) (cs : List ℕ) (ds : List Bool) (es : List ℕ) (gs : List Bool) (set : ℕ) : Type 0 where
   pub is : (xs ms ys ns : List ℕ) → Tables n xs ms ys ns cs ds es gs → set ≡ junction_set (product_word xs ms ys ns)
 
 -- How often a letter stands in a word, if there is one.
@@ -68,18 +68,13 @@ pub record Ahead (xs ms ys ns : List ℕ) (a set first_next second_next : ℕ) :
   pub second_ahead : second_next ≡ count_of ys (next_larger a (xs ++ ys))
 
 -- The loop's invariant.
-pub record Merging (n : ℕ) (cs ds es gs : List ℕ) (a set first_next second_next : ℕ) : Type 0 where
+pub record Merging (n : ℕ) (cs : List ℕ) (ds : List Bool) (es : List ℕ) (gs : List Bool) (a set first_next second_next : ℕ) : Type 0 where
   pub reached : a ≤ 64
   pub ahead : (xs ms ys ns : List ℕ) → Tables n xs ms ys ns cs ds es gs → Ahead xs ms ys ns a set first_next second_next
 
 -- ---- the loop
 
--- A test that a table holds as 1 or 0.
-tick_told : (b : Bool) → ltb 0 (tick b 0) ≡ b
-tick_told true = refl
-tick_told false = refl
-
-module _ {n : ℕ} {xs ms ys ns cs ds es gs : List ℕ} (t : Tables n xs ms ys ns cs ds es gs) where
+module _ {n : ℕ} {xs ms ys ns cs es : List ℕ} {ds gs : List Bool} (t : Tables n xs ms ys ns cs ds es gs) where
   -- No letter above the rank stands in either factor,
   none_above : (a : ℕ) → n ≤ a → next_larger a (xs ++ ys) ≡ none
   none_above a l =
@@ -99,16 +94,16 @@ module _ {n : ℕ} {xs ms ys ns cs ds es gs : List ℕ} (t : Tables n xs ms ys n
 
   -- The bit of a letter is its junction.
   bit_is : (a first_next second_next : ℕ) → first_next ≡ count_of xs (next_larger a (xs ++ ys)) → second_next ≡ count_of ys (next_larger a (xs ++ ys))
-      → product_bit first_next second_next (tick (down_out a xs ms) 0) (count a ys) (tick (down_out a ys ns) 0) ≡ junction (product_word xs ms ys ns) a
+      → product_bit first_next second_next (down_out a xs ms) (count a ys) (down_out a ys ns) ≡ junction (product_word xs ms ys ns) a
   unfolding product_bit
   bit_is a first_next second_next e f = go (next_larger a (xs ++ ys)) refl e f
     where
       go : (o : Option ℕ) → next_larger a (xs ++ ys) ≡ o → first_next ≡ count_of xs o → second_next ≡ count_of ys o
-          → (ltb 0 first_next && (ltb 0 (tick (down_out a xs ms) 0) || ltb 0 (count a ys)) || ltb 0 second_next && ltb 0 (tick (down_out a ys ns) 0))
+          → (ltb 0 first_next && (down_out a xs ms || ltb 0 (count a ys)) || ltb 0 second_next && down_out a ys ns)
           ≡ junction (product_word xs ms ys ns) a
       go none q e f = rw (e, f) (sym (product_no_junction xs ms ys ns t.first.tableau t.second.tableau a q))
       go (some b) q e f =
-          rw (e, f, tick_told (down_out a xs ms), tick_told (down_out a ys ns), ← occurs_count b xs, ← occurs_count b ys, ← occurs_count a ys)
+          rw (e, f, ← occurs_count b xs, ← occurs_count b ys, ← occurs_count a ys)
           (sym (product_junction xs ms ys ns t.first.tableau t.second.tableau a b q))
 
   -- The next larger letter of b is the letter after b where that stands in either factor.
@@ -124,7 +119,7 @@ module _ {n : ℕ} {xs ms ys ns cs ds es gs : List ℕ} (t : Tables n xs ms ys n
   -- One letter down.
   turn : (a set first_next second_next : ℕ) → a < 64 → Ahead xs ms ys ns (suc a) set first_next second_next
       → Ahead xs ms ys ns a
-      (bit_or (set * 2 ^ 1 % 2 ^ 64) (tick (product_bit first_next second_next (get_or ds a 0) (get_or es a 0) (get_or gs a 0)) 0))
+      (bit_or (set * 2 ^ 1 % 2 ^ 64) (tick (product_bit first_next second_next (get_or ds a false) (get_or es a 0) (get_or gs a false)) 0))
       (cond (ltb 0 (get_or cs a 0) || ltb 0 (get_or es a 0)) (get_or cs a 0) first_next)
       (cond (ltb 0 (get_or cs a 0) || ltb 0 (get_or es a 0)) (get_or es a 0) second_next)
   turn a set first_next second_next l h =
@@ -146,13 +141,13 @@ module _ {n : ℕ} {xs ms ys ns cs ds es gs : List ℕ} (t : Tables n xs ms ys n
           under_power _ (64 - suc a) 63 (number-below (junction (product_word xs ms ys ns)) (64 - suc a) (suc (suc a))) (omega arith)
 
 -- Before the largest letter.
-pub merge_start : (n : ℕ) (cs ds es gs : List ℕ) → n ≤ 64 → Merging n cs ds es gs n 0 0 0
+pub merge_start : (n : ℕ) (cs : List ℕ) (ds : List Bool) (es : List ℕ) (gs : List Bool) → n ≤ 64 → Merging n cs ds es gs n 0 0 0
 merge_start n cs ds es gs l = record { reached = l; ahead = λ xs ms ys ns t. start t }
 
 -- One letter down, which stands in a factor or in none.
-module _ {b : Bool} {bit : ℕ} (n : ℕ) (cs ds es gs : List ℕ) (a set first_next second_next : ℕ) (h : Merging n cs ds es gs a set first_next second_next)
+module _ {b : Bool} {bit : ℕ} (n : ℕ) (cs : List ℕ) (ds : List Bool) (es : List ℕ) (gs : List Bool) (a set first_next second_next : ℕ) (h : Merging n cs ds es gs a set first_next second_next)
     (l : 0 < a) (o : bit ≡ bool_byte b)
-    (e : b ≡ product_bit first_next second_next (get_or ds (a - 1) 0) (get_or es (a - 1) 0) (get_or gs (a - 1) 0)) where
+    (e : b ≡ product_bit first_next second_next (get_or ds (a - 1) false) (get_or es (a - 1) 0) (get_or gs (a - 1) false)) where
   merge_turn : {first_next' second_next' : ℕ} {occurs : Bool} → (ltb 0 (get_or cs (a - 1) 0) || ltb 0 (get_or es (a - 1) 0)) ≡ occurs
       → first_next' ≡ cond occurs (get_or cs (a - 1) 0) first_next → second_next' ≡ cond occurs (get_or es (a - 1) 0) second_next
       → Merging n cs ds es gs (a - 1) (bit_or (set * 2 ^ 1 % 2 ^ 64) bit) first_next' second_next'
@@ -172,7 +167,7 @@ module _ {b : Bool} {bit : ℕ} (n : ℕ) (cs ds es gs : List ℕ) (a set first_
   merge_absent k = merge_turn k refl refl
 
 -- All letters are done.
-pub merge_end : (n : ℕ) (cs ds es gs : List ℕ) (a set first_next second_next : ℕ) → Merging n cs ds es gs a set first_next second_next → a ≤ 0
+pub merge_end : (n : ℕ) (cs : List ℕ) (ds : List Bool) (es : List ℕ) (gs : List Bool) (a set first_next second_next : ℕ) → Merging n cs ds es gs a set first_next second_next → a ≤ 0
     → Merged n cs ds es gs set
 unfolding junction_set
 merge_end n cs ds es gs a set first_next second_next h l =
@@ -180,7 +175,7 @@ merge_end n cs ds es gs a set first_next second_next h l =
     record { is = λ xs ms ys ns t. rw none at (h.ahead xs ms ys ns t).built }
 
 -- The place of the next letter is within a table.
-pub merge_under : (n : ℕ) (cs ds es gs : List ℕ) (a set first_next second_next : ℕ) → Merging n cs ds es gs a set first_next second_next → 0 < a → a - 1 < 64
+pub merge_under : (n : ℕ) (cs : List ℕ) (ds : List Bool) (es : List ℕ) (gs : List Bool) (a set first_next second_next : ℕ) → Merging n cs ds es gs a set first_next second_next → 0 < a → a - 1 < 64
 merge_under n cs ds es gs a set first_next second_next h l = omega (arith, h.reached)
 
 pub ruleset merging = (merge_start, merge_occurs, merge_absent, merge_end, merge_under, rules)

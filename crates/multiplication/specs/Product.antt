@@ -5,7 +5,7 @@
 --     factors_refused, letters_refused, marks_refused, product_passed    the reply, and all outputs, from the checks on
 --     replying                           the ruleset of the operation
 -- Assumes nothing.
-use Rattle.std.specs.Prelude.{refl, Ok, Err}
+use Rattle.std.specs.Prelude.{Bool, refl, Ok, Err}
 use Prim.Native.Nat.{ℕ, suc, ◌+◌, ◌≤◌}
 use Rattle.std.specs.Prelude.{◌≡◌}
 use Rattle.std.proofs.Math.Path.{sym}
@@ -18,7 +18,7 @@ use Rattle.hypoplactic.specs.Junctions.{down_out}
 use Rattle.outcomes.specs.Judgements.{room_judged, tableau_rooms}
 use Rattle.outcomes.specs.Replies.{Said, gives, first, passed, written}
 use Rattle.hypoplactic.specs.Ribbons.{LetterStep, TableauAt}
-use Rattle.hypoplactic.specs.Words.{Within, tick}
+use Rattle.hypoplactic.specs.Words.{Within}
 use Rattle.outcomes.proofs.Theory.Counts.{counts_whole}
 use Rattle.outcomes.proofs.Theory.Judgements.{room_judged_lem}
 use Rattle.hypoplactic.proofs.Theory.Limits.{accepted_within}
@@ -31,9 +31,10 @@ use Rattle.refusals.specs.Chains.{halts, proceeds}
 use Rattle.refusals.specs.Running.{all_passing, checks_then, goes_further, run_passed, run_refused, stops_there}
 use Rattle.refusals.specs.Said.{said_refusal}
 use Rattle.refusals.specs.declared.refusal.Refusal.{Refusal}
-use Rattle.words.specs.Tables.{Table, Counts, true_counts}
+use Rattle.words.specs.Tables.{Counts, true_counts}
 use Rattle.fillings.specs.Filled.{filled}
 use Rattle.fillings.specs.Tableau.{filled_word}
+use Rattle.multiplication.specs.Downs.{Flags}
 use Rattle.multiplication.specs.Merging.{Merged, Tables}
 use Rattle.multiplication.specs.Sums.{Sums, SumsFit}
 
@@ -68,8 +69,8 @@ module _ {n : ℕ} {xs ms cs ys ns es : List ℕ} (h : Factors n xs ms cs ys ns 
   sums_counts {sums} s = counts_whole (product_word xs ms ys ns) sums s.size (true_counts (added s))
 
   -- Filled by these and by the set that both make, lists that have room hold the product.
-  filled_product : {ds gs sums : List ℕ} {set : ℕ} (letters marks : List ℕ) → Table (λ a. tick (down_out a xs ms) 0) ds
-      → Table (λ a. tick (down_out a ys ns) 0) gs → Merged n cs ds es gs set → Sums cs es sums → length xs + length ys ≤ length letters
+  filled_product : {ds gs : List Bool} {sums : List ℕ} {set : ℕ} (letters marks : List ℕ) → Flags (λ a. down_out a xs ms) ds
+      → Flags (λ a. down_out a ys ns) gs → Merged n cs ds es gs set → Sums cs es sums → length xs + length ys ≤ length letters
       → length xs + length ys ≤ length marks
       → filled n sums set letters marks ≡ (written (product_letters xs ms ys ns) letters, written (product_marks xs ms ys ns) marks)
   filled_product letters marks d g m s p q =
@@ -151,8 +152,8 @@ module _ (n : ℕ) (xs ms cs ys ns es : List ℕ) where
         marks_refused r g = room_refused r (proceeds f (halts r _ g))
 
         -- or letters and marks, filled by the counts of both factors and the set that these make, hold the product, beside the sums of both counts.
-        pub product_passed : {ds gs sums : List ℕ} {set : ℕ} (ls ks : List ℕ) → gives [] ≡ room_judged (length xs + length ys) (length marks)
-            → Table (λ a. tick (down_out a xs ms) 0) ds → Table (λ a. tick (down_out a ys ns) 0) gs → Merged n cs ds es gs set → Sums cs es sums
+        pub product_passed : {ds gs : List Bool} {sums : List ℕ} {set : ℕ} (ls ks : List ℕ) → gives [] ≡ room_judged (length xs + length ys) (length marks)
+            → Flags (λ a. down_out a xs ms) ds → Flags (λ a. down_out a ys ns) gs → Merged n cs ds es gs set → Sums cs es sums
             → (ls, ks) ≡ filled n sums set letters marks
             → (gives ((length xs + length ys) ∷ []), (ls, (ks, sums))) ≡ product_run n xs ms cs ys ns es letters marks counts
         unfolding product_run product_says

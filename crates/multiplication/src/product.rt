@@ -5,7 +5,7 @@ ghost use Rattle.products.specs.Products.{product_run};
 ghost use Rattle.refusals.specs.Said.{said_value};
 
 use crate::downs::downs_of;
-use crate::merging::merged_set;
+use crate::merging::{Factor, merged_set};
 use crate::sums::sum_counts;
 use fillings::tableau::fill_tableau;
 use lent::tableaux::CountedTableau;
@@ -40,15 +40,15 @@ pub fn product(
     let cells = one.letters.len() + other.letters.len();
     check_room(cells, letters.len())?;
     check_room(cells, marks.len())?;
-    let first_downs = downs_of(one.letters, one.marks);
-    let second_downs = downs_of(other.letters, other.marks);
-    let set = merged_set(
-        one.rank,
-        one.counts,
-        &first_downs,
-        other.counts,
-        &second_downs,
-    );
+    let first = Factor {
+        counts: one.counts,
+        downs: downs_of(one.letters, one.marks),
+    };
+    let second = Factor {
+        counts: other.counts,
+        downs: downs_of(other.letters, other.marks),
+    };
+    let set = merged_set(one.rank, &first, &second);
     let sums = sum_counts(one.counts, other.counts);
     fill_tableau(one.rank, &sums, set, letters, marks);
     *counts = sums;

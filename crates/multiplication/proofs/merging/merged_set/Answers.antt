@@ -1,4 +1,4 @@
--- `multiplication::merging::merged_set` meets its contract, by the laws of specs. Assumes nothing.
+-- `multiplication::merging::merged_set` meets its contract, by the laws of specs/Merging. Assumes nothing.
 use Rattle.multiplication.specs.Merging.{merging}
 use Rattle.multiplication.proofs.merging.merged_set.Goals as goal
 
