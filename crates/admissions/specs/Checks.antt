@@ -1,14 +1,16 @@
 -- The checks of insertion.
+--     lists p                          the lists of a lent pair
 --     size_judgements, cell_judgements, room_judgements     1 2 3; 4 5 6 17 7 8 of the used cells and the new letter; 12 and 13
 --     used_judgements, free_judgements     the same of the lists of a pair
 --     used_checks, insert_checks       what 4 to 8 and 17, 12 and 13, and what all of them say
---     Sized                          1, 2 and 3 have passed: the rank is one, and the used cells are there
+--     Sized, HasUsed                 1, 2 and 3 have passed: the rank is one, and the used cells are there
 --     letters_last                   4 of the used letters and then of the new one, whose place is their number
 --     sized                          1, 2 and 3 have passed, by what the check of them says
 -- Assumes nothing.
 use Rattle.std.specs.Prelude.{ℕ, suc, ◌+◌, ◌≤◌, ◌≡◌, refl, List, [], ◌∷◌, ◌++◌, Bool, true, false, length, take}
 use Rattle.std.proofs.Common.{arith, sym}
-use Rattle.hypoplactic.specs.Insertion.{Pair}
+use Rattle.lent.specs.declared.tableaux.CountedPair.{CountedPair}
+use Rattle.hypoplactic.specs.Insertion.{Pair, pair_with}
 use Rattle.outcomes.specs.Replies.{Said, gives, passed, or_else, first, refuse_if}
 use Rattle.outcomes.specs.Counts.{counts_judged}
 use Rattle.outcomes.specs.Judgements.{entries_judged, full_judged, length_judged, letters_from, letters_judged, marks_judged, outside, pair_rooms, rank_judged, recording_judged, rising_judged, used_judged}
@@ -16,25 +18,31 @@ use Rattle.outcomes.proofs.Theory.Judgements.{length-judged, rank_judged_lem, us
 use Rattle.outcomes.proofs.Theory.Passing.{first-passed}
 use Rattle.refusals.specs.Running.{checks_then}
 
--- 1, 2 and 3, from the lengths of the three lists.
-abbrev pub size_judgements : ℕ → ℕ → ℕ → ℕ → ℕ → List Said
-size_judgements n used letters marks entries = rank_judged n ∷ length_judged used ∷ used_judged used (letters ∷ marks ∷ entries ∷ []) ∷ []
+-- The lists of a lent pair.
+abbrev pub lists : CountedPair → Pair
+lists p = pair_with p.letters.now p.marks.now p.entries.now
+
+-- 1, 2 and 3.
+abbrev pub size_judgements : ℕ → ℕ → Pair → List Said
+size_judgements n used p =
+    rank_judged n ∷ length_judged used ∷ used_judged used (length p.letters ∷ length p.marks ∷ length p.recording ∷ []) ∷ []
 
 -- 4 to 8 of the used cells and the new letter, and 17 of the counts of the used letters.
-abbrev pub cell_judgements : ℕ → ℕ → ℕ → List ℕ → List ℕ → List ℕ → List ℕ → List Said
-cell_judgements n used a xs ms rs cs =
-    letters_judged n (xs ++ a ∷ []) ∷ rising_judged xs ∷ marks_judged xs ms ∷ counts_judged cs xs ∷ entries_judged used rs ∷ recording_judged rs ms ∷ []
+abbrev pub cell_judgements : ℕ → ℕ → ℕ → Pair → List ℕ → List Said
+cell_judgements n used a p cs =
+    letters_judged n (p.letters ++ a ∷ []) ∷ rising_judged p.letters ∷ marks_judged p.letters p.marks ∷ counts_judged cs p.letters
+    ∷ entries_judged used p.recording ∷ recording_judged p.recording p.marks ∷ []
 
--- 12 and 13, from the lengths of the three lists.
-abbrev pub room_judgements : ℕ → ℕ → ℕ → ℕ → ℕ → List Said
-room_judgements used need letters marks entries = full_judged used ∷ pair_rooms need letters marks entries
+-- 12 and 13.
+abbrev pub room_judgements : ℕ → ℕ → Pair → List Said
+room_judgements used need p = full_judged used ∷ pair_rooms need (length p.letters) (length p.marks) (length p.recording)
 
 -- 4 to 8 and 17 of the used cells of a pair and the new letter, and 12 and 13 of its lists.
 abbrev pub used_judgements : ℕ → ℕ → ℕ → Pair → List ℕ → List Said
-used_judgements n used a p cs = cell_judgements n used a (take used p.letters) (take used p.marks) (take used p.recording) cs
+used_judgements n used a p cs = cell_judgements n used a (pair_with (take used p.letters) (take used p.marks) (take used p.recording)) cs
 
 abbrev pub free_judgements : ℕ → Pair → List Said
-free_judgements used p = room_judgements used (suc used) (length p.letters) (length p.marks) (length p.recording)
+free_judgements used p = room_judgements used (suc used) p
 
 -- What 4 to 8 and 17, 12 and 13 say.
 abbrev pub used_checks : ℕ → ℕ → ℕ → Pair → List ℕ → Said
@@ -42,8 +50,7 @@ used_checks n used a p cs = checks_then (used_judgements n used a p cs) (free_ju
 
 -- What all checks of insertion say.
 abbrev pub insert_checks : ℕ → ℕ → ℕ → Pair → List ℕ → Said
-insert_checks n used a p cs =
-    checks_then (size_judgements n used (length p.letters) (length p.marks) (length p.recording)) (used_judgements n used a p cs ++ free_judgements used p)
+insert_checks n used a p cs = checks_then (size_judgements n used p) (used_judgements n used a p cs ++ free_judgements used p)
 
 -- A rank, at most 1,024 used cells, and each of the three lists has them.
 pub record Sized (n used letters marks entries : ℕ) : Type 0 where
@@ -53,6 +60,10 @@ pub record Sized (n used letters marks entries : ℕ) : Type 0 where
   pub in_letters : used ≤ letters
   pub in_marks : used ≤ marks
   pub in_entries : used ≤ entries
+
+-- A lent pair has so many used cells.
+abbrev pub HasUsed : ℕ → CountedPair → Type 0
+HasUsed used p = Sized p.rank used (length p.letters.now) (length p.marks.now) (length p.entries.now)
 
 -- ---- the letters
 
@@ -77,13 +88,13 @@ letters_last n a xs = let z : 0 + length xs ≡ length xs = omega arith in rw z 
 -- ---- the sizes
 
 -- Where 1, 2 and 3 pass, the rank is one, and the used cells are there.
-pub sized : (n used x y z : ℕ) → gives [] ≡ first (size_judgements n used x y z) passed → Sized n used x y z
-sized n used x y z e =
-    let (rank, (short, (held, t))) = (first-passed (size_judgements n used x y z)).0 (sym e) in
-    let all = (used_judged_lem used (x ∷ y ∷ z ∷ [])).0 held in
+pub sized : (used : ℕ) (p : CountedPair) → gives [] ≡ first (size_judgements p.rank used (lists p)) passed → HasUsed used p
+sized used p e =
+    let (rank, (short, (held, t))) = (first-passed (size_judgements p.rank used (lists p))).0 (sym e) in
+    let all = (used_judged_lem used (length p.letters.now ∷ length p.marks.now ∷ length p.entries.now ∷ [])).0 held in
     record {
-      low = ((rank_judged_lem n).0 rank).0;
-      high = ((rank_judged_lem n).0 rank).1;
+      low = ((rank_judged_lem p.rank).0 rank).0;
+      high = ((rank_judged_lem p.rank).0 rank).1;
       few = (length-judged used).0 short;
       in_letters = all.0;
       in_marks = all.1.0;

@@ -1,31 +1,48 @@
 // The checks of insertion in rising number, each over the whole input. The used cells can be looked at once 1, 2 and 3 have passed; every later check is
 // total and linear, and the first refusal counts.
-ghost use Rattle.std.specs.Prelude.{◌+◌, ◌≤◌, ◌≡◌, [], ◌∷◌, ◌++◌, length};
-ghost use Rattle.hypoplactic.specs.Insertion.{pair_with};
+ghost use Rattle.std.specs.Prelude.{◌+◌, ◌≤◌, ◌≡◌, [], ◌∷◌, ◌++◌, length, take};
 ghost use Rattle.outcomes.specs.Replies.{first, passed};
 ghost use Rattle.outcomes.specs.Judgements.{letters_judged};
 ghost use Rattle.refusals.specs.Said.{said_verdict};
-ghost use Rattle.admissions.specs.Checks.{Sized, cell_judgements, insert_checks, room_judgements, size_judgements, used_checks};
+ghost use Rattle.admissions.specs.Checks.{HasUsed, cell_judgements, insert_checks, lists, room_judgements, size_judgements, used_checks};
 
 use acceptance::letters::check_letters;
 use counts::shape::check_counted_shape;
+use lent::tableaux::CountedPair;
 use refusals::chains::{check_limits, check_pair_rooms};
 use refusals::numbers::{check_full, check_used};
 use refusals::refusal::Refusal;
 use validity::tableau::check_ribbon;
 
 // 1, 2 and 3: what must pass before the used cells can be looked at.
-pub fn check_sizes(
-    rank: usize,
-    used: usize,
-    letters: usize,
-    marks: usize,
-    entries: usize,
-) -> Result<(), Refusal>
-    ensures { said_verdict result ≡ first (size_judgements rank used letters marks entries) passed }
+pub fn check_sizes(pair: &CountedPair, used: usize) -> Result<(), Refusal>
+    ensures { said_verdict result ≡ first (size_judgements pair.now.rank used (lists pair.now)) passed }
 {
-    check_limits(rank, used)?;
-    check_used(used, letters, marks, entries)
+    check_limits(pair.rank, used)?;
+    check_used(
+        used,
+        pair.letters.len(),
+        pair.marks.len(),
+        pair.entries.len(),
+    )
+}
+
+// The used cells alone.
+pub fn used_cells<'a>(pair: &CountedPair<'a>, used: usize) -> CountedPair<'a>
+    requires { HasUsed used pair.now }
+    ensures rank { result.rank ≡ pair.now.rank }
+    ensures letters { result.letters.now ≡ take used pair.now.letters.now }
+    ensures marks { result.marks.now ≡ take used pair.now.marks.now }
+    ensures entries { result.entries.now ≡ take used pair.now.entries.now }
+    ensures counts { result.counts.now ≡ pair.now.counts.now }
+{
+    CountedPair {
+        rank: pair.rank,
+        letters: &pair.letters[..used],
+        marks: &pair.marks[..used],
+        entries: &pair.entries[..used],
+        counts: pair.counts,
+    }
 }
 
 // 4 of the used letters and then of the new one, whose place is their number.
@@ -41,76 +58,45 @@ fn check_all_letters(rank: usize, letter: usize, letters: &[u8]) -> Result<(), R
 }
 
 // 4 to 8 of the used cells, of which there are so many, and of the new letter, and 17 of the counts of the used letters.
-fn check_cells(
-    rank: usize,
-    used: usize,
-    letter: usize,
-    letters: &[u8],
-    marks: &[u8],
-    entries: &[u16],
-    counts: &[u16; 64],
-) -> Result<(), Refusal>
+fn check_cells(cells: &CountedPair, used: usize, letter: usize) -> Result<(), Refusal>
     ensures { said_verdict result
-        ≡ first
-        (cell_judgements rank used letter letters.now marks.now entries.now counts.now)
-        passed }
+        ≡ first (cell_judgements cells.now.rank used letter (lists cells.now) cells.now.counts.now) passed }
 {
-    check_all_letters(rank, letter, letters)?;
-    check_counted_shape(letters, marks, counts)?;
-    check_ribbon(used, entries, marks)
+    check_all_letters(cells.rank, letter, cells.letters)?;
+    check_counted_shape(cells.letters, cells.marks, cells.counts)?;
+    check_ribbon(used, cells.entries, cells.marks)
 }
 
 // 12 and 13: a free cell, and room for it in each of the three lists.
-fn check_rooms(used: usize, letters: usize, marks: usize, entries: usize) -> Result<(), Refusal>
+fn check_rooms(pair: &CountedPair, used: usize) -> Result<(), Refusal>
     requires { used ≤ 1024 }
-    ensures { said_verdict result ≡ first (room_judgements used (used + 1) letters marks entries) passed }
+    ensures { said_verdict result ≡ first (room_judgements used (used + 1) (lists pair.now)) passed }
 {
     let need = used + 1;
     check_full(used)?;
-    check_pair_rooms(need, letters, marks, entries)
+    check_pair_rooms(
+        need,
+        pair.letters.len(),
+        pair.marks.len(),
+        pair.entries.len(),
+    )
 }
 
 // 4 to 8 and 17, 12 and 13, once the used count is above none of the lengths.
 #[tactic(auto, unfolding(refusals::specs::Running::checks_then))]
-fn check_used_cells(
-    rank: usize,
-    used: usize,
-    letter: usize,
-    letters: &[u8],
-    marks: &[u8],
-    entries: &[u16],
-    counts: &[u16; 64],
-) -> Result<(), Refusal>
-    requires { Sized rank used (length letters.now) (length marks.now) (length entries.now) }
-    ensures { said_verdict result
-        ≡ used_checks rank used letter (pair_with letters.now marks.now entries.now) counts.now }
+fn check_used_cells(pair: &CountedPair, used: usize, letter: usize) -> Result<(), Refusal>
+    requires { HasUsed used pair.now }
+    ensures { said_verdict result ≡ used_checks pair.now.rank used letter (lists pair.now) pair.now.counts.now }
 {
-    check_cells(
-        rank,
-        used,
-        letter,
-        &letters[..used],
-        &marks[..used],
-        &entries[..used],
-        counts,
-    )?;
-    check_rooms(used, letters.len(), marks.len(), entries.len())
+    check_cells(&used_cells(pair, used), used, letter)?;
+    check_rooms(pair, used)
 }
 
 // All checks of insertion: 1 to 6, 17, 7, 8, 12 and 13.
 #[tactic(auto, using(crate::specs::Checks::sized), unfolding(refusals::specs::Running::checks_then))]
-pub fn check_insertion(
-    rank: usize,
-    used: usize,
-    letter: usize,
-    letters: &[u8],
-    marks: &[u8],
-    entries: &[u16],
-    counts: &[u16; 64],
-) -> Result<(), Refusal>
-    ensures { said_verdict result
-        ≡ insert_checks rank used letter (pair_with letters.now marks.now entries.now) counts.now }
+pub fn check_insertion(pair: &CountedPair, used: usize, letter: usize) -> Result<(), Refusal>
+    ensures { said_verdict result ≡ insert_checks pair.now.rank used letter (lists pair.now) pair.now.counts.now }
 {
-    check_sizes(rank, used, letters.len(), marks.len(), entries.len())?;
-    check_used_cells(rank, used, letter, letters, marks, entries, counts)
+    check_sizes(pair, used)?;
+    check_used_cells(pair, used, letter)
 }

@@ -10,6 +10,7 @@ ghost use Rattle.departures.specs.Departure.{Counted};
 use crate::checks::check_departure;
 use closings::lists::{close_elements, close_entries, close_marks};
 use closings::oldest::oldest_cell;
+use lent::tableaux::CountedPair;
 use refusals::refusal::Refusal;
 
 // One less of a letter.
@@ -34,7 +35,14 @@ pub fn remove_oldest(
     ensures { (said_value result, (pair_with letters.new marks.new entries.new, counts.new))
         ≡ depart_run rank used (pair_with letters.old marks.old entries.old) counts.old }
 {
-    check_departure(rank, used, letters, marks, entries, counts)?;
+    let pair = CountedPair {
+        rank,
+        letters,
+        marks,
+        entries,
+        counts,
+    };
+    check_departure(&pair, used)?;
     let at = oldest_cell(used, entries).unwrap();
     drop_count(letters[at], counts);
     close_elements(at, used, letters);
