@@ -27,9 +27,9 @@ pub fn check_sizes(pair: &CountedPair, used: usize) -> Result<(), Refusal>
     )
 }
 
-// The used cells alone.
+// The first cells of a pair, so many or as many as there are.
+#[tactic(auto, using(std::proofs::lemmas::List::take_min))]
 pub fn used_cells<'a>(pair: &CountedPair<'a>, used: usize) -> CountedPair<'a>
-    requires { HasUsed used pair.now }
     ensures rank { result.rank ≡ pair.now.rank }
     ensures letters { result.letters.now ≡ take used pair.now.letters.now }
     ensures marks { result.marks.now ≡ take used pair.now.marks.now }
@@ -38,9 +38,9 @@ pub fn used_cells<'a>(pair: &CountedPair<'a>, used: usize) -> CountedPair<'a>
 {
     CountedPair {
         rank: pair.rank,
-        letters: &pair.letters[..used],
-        marks: &pair.marks[..used],
-        entries: &pair.entries[..used],
+        letters: &pair.letters[..used.min(pair.letters.len())],
+        marks: &pair.marks[..used.min(pair.marks.len())],
+        entries: &pair.entries[..used.min(pair.entries.len())],
         counts: pair.counts,
     }
 }
