@@ -1,4 +1,3 @@
-pub mod Checks
 pub mod Held
 pub mod WordWritten
 pub mod NumberFound

@@ -13,6 +13,7 @@ use refusals::refusal::Refusal;
 use validity::counted::check_counted_tableau;
 
 // 15: at most 20 cells or letters.
+#[tactic(auto, unfolding(numbering::specs::Operations::small_judged))]
 fn check_small(cells: usize) -> Result<(), Refusal>
     ensures { said_verdict result ≡ small_judged cells }
 {
@@ -23,27 +24,19 @@ fn check_small(cells: usize) -> Result<(), Refusal>
 }
 
 // 1 to 6 of a tableau, 17 of its letter counts, then 15.
-pub(crate) fn check_class(
-    rank: usize,
-    letters: &[u8],
-    marks: &[u8],
-    counts: &[u16; 64],
-) -> Result<(), Refusal>
+#[tactic(auto, unfolding(refusals::specs::Running::checks_then))]
+pub(crate) fn check_class(tableau: &CountedTableau) -> Result<(), Refusal>
     ensures { said_verdict result
         ≡ checks_then
-        (counted_judgements rank letters.now marks.now counts.now)
-        (small_judged (length letters.now) ∷ []) }
+        (counted_judgements tableau.now.rank tableau.now.letters.now tableau.now.marks.now tableau.now.counts.now)
+        (small_judged (length tableau.now.letters.now) ∷ []) }
 {
-    check_counted_tableau(&CountedTableau {
-        rank,
-        letters,
-        marks,
-        counts,
-    })?;
-    check_small(letters.len())
+    check_counted_tableau(tableau)?;
+    check_small(tableau.letters.len())
 }
 
 // 1, 2 and 4 of a word, then 15.
+#[tactic(auto, unfolding(refusals::specs::Running::checks_then))]
 pub(crate) fn check_short(rank: usize, word: &[u8]) -> Result<(), Refusal>
     ensures { said_verdict result ≡ checks_then (word_judgements rank word.now) (small_judged (length word.now) ∷ []) }
 {
@@ -52,6 +45,7 @@ pub(crate) fn check_short(rank: usize, word: &[u8]) -> Result<(), Refusal>
 }
 
 // 16: the number is below the size; then 13.
+#[tactic(auto, unfolding(numbering::specs::Operations::number_judged))]
 pub(crate) fn check_asked(number: u64, size: u64, need: usize, have: usize) -> Result<(), Refusal>
     ensures { said_verdict result ≡ first (number_judged number size ∷ room_judged need have ∷ []) passed }
 {

@@ -10,6 +10,7 @@ use taken_cells::first::{cell_of_letter, cell_of_number};
 use taken_cells::removal::{pulled, pulled_free};
 
 // Bytes at the beginning of 20.
+#[tactic(auto, using(crate::specs::Held::holding))]
 pub(crate) fn held(bytes: &[u8]) -> [u8; 20]
     ensures { Holds bytes.now result }
 {
@@ -19,6 +20,7 @@ pub(crate) fn held(bytes: &[u8]) -> [u8; 20]
 }
 
 // The word with a number of the ribbon in the first cells, into a lent word. Its letters are found one by one; where no word has the number, none is.
+#[tactic(auto, using(crate::specs::WordWritten::writing))]
 pub(crate) fn write_word(
     letters: [u8; 20],
     marks: [u8; 20],
@@ -32,26 +34,23 @@ pub(crate) fn write_word(
     let mut ys = letters;
     let mut ms = marks;
     let mut left = number;
-    let mut n = cells;
-    let mut i = 0;
-    while 0 < n {
+    for i in 0..cells {
+        let n = cells - i;
         let next = cell_of_number(ms, n, left);
-        let cell = next.cell;
-        if n <= cell {
+        if n <= next.cell {
             return;
         }
-        word[i] = ys[cell];
-        n -= 1;
-        let letters_left = pulled(ys, cell, n);
-        let marks_left = pulled_free(ms, cell, n);
+        word[i] = ys[next.cell];
+        let letters_left = pulled(ys, next.cell, n - 1);
+        let marks_left = pulled_free(ms, next.cell, n - 1);
         ys = letters_left;
         ms = marks_left;
         left = next.number;
-        i += 1;
     }
 }
 
 // The number of a word among those of the ribbon in the first cells, as many as it has letters.
+#[tactic(auto, using(crate::specs::NumberFound::finding))]
 pub(crate) fn number_in(letters: [u8; 20], marks: [u8; 20], word: &[u8]) -> u64
     requires { Placed word.now letters marks }
     ensures { result ≡ place_of word.now (take (length word.now) letters) (take (length word.now) marks) }
@@ -60,20 +59,17 @@ pub(crate) fn number_in(letters: [u8; 20], marks: [u8; 20], word: &[u8]) -> u64
     let mut ms = marks;
     let mut number: u64 = 0;
     let mut n = word.len();
-    let mut i = 0;
-    while i < word.len() {
-        let next = cell_of_letter(ys, ms, n, word[i]);
-        let cell = next.cell;
-        if n <= cell {
+    for letter in word {
+        let next = cell_of_letter(ys, ms, n, *letter);
+        if n <= next.cell {
             return number + next.number;
         }
         n -= 1;
-        let letters_left = pulled(ys, cell, n);
-        let marks_left = pulled_free(ms, cell, n);
+        let letters_left = pulled(ys, next.cell, n);
+        let marks_left = pulled_free(ms, next.cell, n);
         ys = letters_left;
         ms = marks_left;
         number += next.number;
-        i += 1;
     }
     number
 }
