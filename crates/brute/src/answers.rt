@@ -1,119 +1,121 @@
-// Words held to plain insertion: the pair of each, and what word and pair lead to, which is one answer too: junction set and rows as its two numbers, the word
-// back from the pair as letters, and the column reading as marks.
-ghost use Rattle.std.specs.Prelude.{◌≤◌};
+// Words held to plain insertion: the pair of each, and what word and pair lead to, which is one answer too.
+ghost use Rattle.std.specs.Prelude.{◌≡◌};
+ghost use Rattle.arrayvec.specs.ArrayVec.{array_vec_len};
 
-use crate::comparing::{added, differences, found, two_numbers};
+use crate::comparing::{Comparison, Fault};
 use crate::junctions::junction_set;
-use crate::kernel::{elements, first_bytes, pair_at_once, pair_by_letters};
+use crate::kernel::{pair_at_once, pair_by_letters, written};
 use crate::picture::{read_columns, rows_of};
+use arrayvec::ArrayVec;
 use columns::reading::column_reading;
 use inverses::way_back::word_of_pair;
-use plain_words::answer::Answer;
-use plain_words::insertion::plain_pair;
-use plain_words::{Word, word_of};
+use plain_words::Word;
+use plain_words::insertion::{Pair, plain_pair};
 use refusals::answers::Junctions;
 use words::junctions::junctions;
 
-// What word and pair lead to: the way back leads to the word.
-fn plain_answer(word: Word, pair: Answer) -> Answer {
-    let mut all = two_numbers(junction_set(word) as usize, rows_of(pair));
-    let letters = word.letters;
-    let reading = read_columns(pair);
-    all.letters = letters;
-    all.marks = reading;
-    all
+// What word and pair lead to: junction set and rows, the word back from the pair, and the column reading.
+#[derive(Debug, PartialEq, Eq, Drop)]
+struct Led {
+    junctions: Junctions,
+    word: ArrayVec<u8, 1024>,
+    reading: ArrayVec<u8, 1024>,
 }
 
-// The first entries of an array, so many of them; all where there are not so many.
-fn first_entries(entries: &[u16; 1024], count: usize) -> &[u16] {
-    let all: &[u16] = entries;
-    if 1024 < count {
-        return all;
-    }
-    &all[0..count]
-}
-
-// A word that was written; with a first letter that no word has where another count was told than the one given.
-fn written(told: usize, count: usize, word: [u8; 1024]) -> [u8; 1024] {
-    let mut all = word;
-    if told != count {
-        all[0] = 255;
-    }
-    all
-}
-
-// The kernel's junction set and rows of a word; for a refusal, rows that no word has.
-fn junctions_of(word: Word) -> Answer {
-    let letters = word.letters;
-    match junctions(word.rank, first_bytes(&letters, word.length)) {
-        Junctions::Found(set, rows) => two_numbers(set as usize, rows),
-        Junctions::Refused(_) => two_numbers(0, 1025),
+// The way back leads to the word.
+fn plain_led(word: &Word, pair: &Pair) -> Led {
+    Led {
+        junctions: Junctions {
+            set: junction_set(&word.letters),
+            rows: rows_of(&pair.tableau),
+        },
+        word: word.letters.clone().unwrap(),
+        reading: read_columns(&pair.tableau),
     }
 }
 
 // What word and pair lead to in the kernel.
-fn kernel_answer(word: Word, pair: Answer) -> Answer {
-    let letters = pair.letters;
-    let marks = pair.marks;
-    let entries = pair.entries;
-    let counts = pair.counts;
-    let cells = first_bytes(&letters, pair.length);
-    let steps = first_bytes(&marks, pair.length);
-    let mut back = [0u8; 1024];
-    let mut reading = [0u8; 1024];
-    let told = word_of_pair(
-        pair.rank,
-        cells,
-        steps,
-        first_entries(&entries, pair.length),
-        &counts,
+fn kernel_led(word: &Word, pair: &Pair) -> Result<Led, Fault> {
+    let Pair { tableau, entries } = pair;
+    let mut back = [0; 1024];
+    let letters = word_of_pair(
+        tableau.rank,
+        &tableau.letters,
+        &tableau.marks,
+        entries,
+        &tableau.counts,
         &mut back,
-    );
-    let told_too = column_reading(pair.rank, cells, steps, &counts, &mut reading);
-    let mut all = junctions_of(word);
-    let letters = written(elements(told), pair.length, back);
-    let marks = written(elements(told_too), pair.length, reading);
-    all.letters = letters;
-    all.marks = marks;
-    all
+    )?;
+    let mut reading = [0; 1024];
+    let read = column_reading(
+        tableau.rank,
+        &tableau.letters,
+        &tableau.marks,
+        &tableau.counts,
+        &mut reading,
+    )?;
+    Ok(Led {
+        junctions: junctions(word.rank, &word.letters)?,
+        word: written(&back, letters)?,
+        reading: written(&reading, read)?,
+    })
 }
 
-// How many differences there are for a word and its pair in the kernel.
-fn compare_pair(word: Word, pair: Answer) -> usize {
-    let own = plain_pair(word);
-    differences(1024, own, pair)
-        + differences(1024, plain_answer(word, own), kernel_answer(word, pair))
-}
-
-// The differences for one word: by its pair made at once and, for a word of at most 64 letters, by its pair made letter by letter.
-fn compare(word: Word) -> usize
-    requires { word.length ≤ 1024 }
-{
-    let at_once = compare_pair(word, pair_at_once(word));
-    if 64 < word.length {
-        return at_once;
+// The pair of a word in the kernel, and what it leads to there.
+fn compare_pair(words: &mut Comparison, word: &Word, own: &Pair, told: &Result<Pair, Fault>) {
+    match told {
+        Ok(pair) => {
+            words.compare(own, pair);
+            words.compare(&Ok(plain_led(word, own)), &kernel_led(word, pair));
+        }
+        // what it leads to is not asked of a pair that is none
+        Err(_) => words.compare(&false, &true),
     }
-    std::num::wrapping_add_usize(at_once, compare_pair(word, pair_by_letters(word)))
 }
 
-// How many of eight answers that are spoilt for 4323 the comparison finds: letters, marks, counts and entries of its pair, and all that these lead to.
-pub(crate) fn answers_found() -> usize {
-    let word = word_of(0, 0);
+// One word: by its pair made at once and, for a word of at most 64 letters, by its pair made letter by letter.
+pub(crate) fn compare_answers(words: &mut Comparison, word: &Word) {
     let own = plain_pair(word);
-    let pair = pair_at_once(word);
-    let led = found(
-        1024,
-        1,
-        5,
-        plain_answer(word, own),
-        kernel_answer(word, pair),
-    );
-    std::num::wrapping_add_usize(found(1024, 3, 7, own, pair), led)
+    compare_pair(words, word, &own, &pair_at_once(word));
+    if word.letters.len() <= 64 {
+        compare_pair(words, word, &own, &pair_by_letters(word));
+    }
+    words.count_one();
 }
 
-// The differences for one word, in two lines.
-pub(crate) fn compare_answers(word: Word, lines: [usize; 32]) -> [usize; 32]
-    requires { word.length ≤ 1024 }
+// Puts another element in the first one's place.
+pub(crate) fn spoil_first<T: Drop>(list: &mut ArrayVec<T, 1024>, element: T)
+    ensures { array_vec_len list.new ≡ array_vec_len list.old }
 {
-    added(0, 1, added(1, compare(word), lines))
+    if let Some(first) = list.get_mut(0) {
+        *first = element;
+    }
+}
+
+// Eight answers are spoilt for 4323: letters, marks, counts and entries of its pair, and all that these lead to.
+pub(crate) fn spoil_answers(words: &mut Comparison, word: &Word) {
+    let own = || plain_pair(word);
+    let Ok(pair) = pair_at_once(word) else {
+        return;
+    };
+    words.spoil(
+        own(),
+        &pair,
+        |pair| spoil_first(&mut pair.tableau.letters, 200),
+    );
+    words.spoil(
+        own(),
+        &pair,
+        |pair| spoil_first(&mut pair.tableau.marks, 200),
+    );
+    words.spoil(own(), &pair, |pair| pair.tableau.counts[0] = 5000);
+    words.spoil(own(), &pair, |pair| spoil_first(&mut pair.entries, 5000));
+    let own = || plain_led(word, &plain_pair(word));
+    let Ok(led) = kernel_led(word, &pair) else {
+        return;
+    };
+    words.spoil(own(), &led, |led| led.junctions.set = 5000);
+    words.spoil(own(), &led, |led| led.junctions.rows = 5000);
+    words.spoil(own(), &led, |led| spoil_first(&mut led.word, 200));
+    words.spoil(own(), &led, |led| spoil_first(&mut led.reading, 200));
 }

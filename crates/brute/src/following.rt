@@ -1,136 +1,125 @@
 // A window that follows a stream: letters arrive one after the other, the oldest leaving first where the window is full, until none is left to come; then they
 // leave, one after the other, until the window is empty. Its state after a call is held to plain insertion of the letters that are then in it: of a small
 // window after each call, of a larger one after some.
-ghost use Rattle.std.specs.Prelude.{◌≤◌};
+ghost use Rattle.std.specs.Prelude.{◌≡◌, ◌-◌};
+ghost use Rattle.arrayvec.specs.ArrayVec.{array_vec_len};
 
-use crate::comparing::{added, differences, found};
-use crate::kernel::{arrive, depart, pair_by_letters};
-use crate::short_words::{longer, rest_of};
-use plain_words::answer::{Answer, nothing};
-use plain_words::drawn::{drawn_next, drawn_stream};
+use crate::answers::spoil_first;
+use crate::comparing::{Comparison, Fault};
+use crate::kernel::Memory;
+use arrayvec::ArrayVec;
+use plain_words::Word;
+use plain_words::drawn::{Stream, Way};
 use plain_words::insertion::plain_pair;
-use plain_words::{Word, one_if, word_of};
 
 // How many letters of a stream come.
 const LETTERS: usize = 3000;
 
-// How many streams there are: each of five sizes with each of five ways in which letters are drawn.
-const STREAMS: usize = 25;
+// How many letters a window holds.
+const SIZES: [usize; 5] = [1, 2, 7, 64, 1024];
 
-// The state after so many calls, compared where it is its turn.
-fn compare_at(
-    calls: usize,
+// The letters in a window of a size, and its pair in the kernel.
+#[derive(Drop)]
+struct Window {
     size: usize,
     word: Word,
-    pair: Answer,
-    lines: [usize; 32],
-) -> [usize; 32] {
-    if calls % (size / 64 + 1) != 0 {
-        return lines;
-    }
-    let own = plain_pair(word);
-    added(28, 1, added(29, differences(own.length, own, pair), lines))
+    memory: Memory,
 }
 
-// The pair after the oldest letter has left, where one leaves.
-fn after_leaving(leaving: usize, pair: Answer) -> Answer {
-    if leaving == 0 {
-        return pair;
+impl Window {
+    // The empty window.
+    fn new(size: usize, rank: usize) -> Window {
+        Window {
+            size,
+            word: Word {
+                rank,
+                letters: ArrayVec::new(),
+            },
+            memory: Memory::new(rank),
+        }
     }
-    depart(pair)
-}
 
-// A window that is no longer followed, until it is empty.
-fn leave_all(size: usize, from: Word, state: Answer, lines: [usize; 32]) -> [usize; 32]
-    requires { size ≤ 1024 }
-{
-    let mut word = from;
-    let mut pair = state;
-    let mut all = lines;
-    let mut left = 0;
-    while left < size {
-        let leaving = one_if(0 < word.length);
-        let rest = rest_of(leaving, word);
-        word = rest;
-        let after = after_leaving(leaving, pair);
-        pair = after;
-        left += 1;
-        let more = compare_at(LETTERS + left, size, word, pair, all);
-        all = more;
+    // The oldest letter leaves, where there is one.
+    fn leave(&mut self)
+        ensures { array_vec_len self.new.word.letters ≡ array_vec_len self.old.word.letters - 1 }
+    {
+        if !self.word.letters.is_empty() {
+            self.word.letters.remove(0);
+            self.memory.depart();
+        }
     }
-    all
-}
 
-// A window of a size along a stream of a rank, whose letters are drawn in one of five ways.
-fn follow(rank: usize, size: usize, way: usize, lines: [usize; 32]) -> [usize; 32]
-    requires { size ≤ 1024 }
-{
-    let mut stream = drawn_stream(rank, way);
-    let mut word = word_of(2, 0);
-    word.rank = rank;
-    let mut pair = nothing(rank);
-    let mut all = lines;
-    let mut calls = 0;
-    while calls < LETTERS {
-        let next = drawn_next(stream);
-        stream = next;
-        let leaving = one_if(word.length == size);
-        let letters = longer(next.letter as u8, rest_of(leaving, word));
-        word = letters;
-        let after = arrive(next.letter, after_leaving(leaving, pair));
-        pair = after;
-        calls += 1;
-        let more = compare_at(calls, size, word, pair, all);
-        all = more;
+    // A letter arrives, after the oldest has left where the window is full.
+    fn arrive(&mut self, letter: u8) {
+        if self.size <= self.word.letters.len() || self.word.letters.is_full() {
+            self.leave();
+        }
+        self.word.letters.push(letter);
+        self.memory.arrive(letter);
     }
-    leave_all(size, word, pair, all)
-}
 
-// How many letters a window holds.
-fn size_of(k: usize) -> usize
-    ensures { result ≤ 1024 }
-{
-    match k % 5 {
-        0 => 1,
-        1 => 2,
-        2 => 7,
-        3 => 64,
-        _ => 1024,
+    // The state after so many calls, compared where it is its turn.
+    fn compare(&self, windows: &mut Comparison, calls: usize) {
+        if calls % (self.size / 64 + 1) == 0 {
+            windows.compare(&Ok(plain_pair(&self.word)), &self.memory.pair());
+            windows.count_one();
+        }
     }
 }
 
-// The rank of a stream: 1 to 64, small ones more often.
-fn rank_of(k: usize) -> usize {
-    match k / 5 {
-        0 => 4,
-        1 => 64,
-        2 => 16,
-        3 => 64,
-        _ => k % 5 + 1,
+// A window of a size along a stream of a rank, until it is empty.
+fn follow(windows: &mut Comparison, size: usize, rank: usize, way: Way) {
+    let mut stream = Stream::drawn(rank, way);
+    let mut window = Window::new(size, rank);
+    for calls in 0..LETTERS {
+        window.arrive(stream.next_letter());
+        window.compare(windows, calls + 1);
+    }
+    for left in 0..size {
+        window.leave();
+        window.compare(windows, (LETTERS + 1).wrapping_add(left));
     }
 }
 
-// How many of six spoilt states the comparison finds, of a window through which 4323 has passed and of which the oldest has left: replies, used count, letters,
-// marks, counts and entries.
-pub(crate) fn windows_found() -> usize {
-    let word = word_of(0, 0);
-    found(
-        3,
-        1,
-        7,
-        plain_pair(rest_of(1, word)),
-        depart(pair_by_letters(word)),
-    )
+// All streams: each of five sizes with each of five ways in which letters are drawn, at ranks from 1 to 64, small ones more often.
+pub(crate) fn compare_windows(windows: &mut Comparison) {
+    for (i, size) in SIZES.iter().enumerate() {
+        follow(windows, *size, 4, Way::AnyLetter);
+        follow(windows, *size, 64, Way::OneOfThree);
+        follow(windows, *size, 16, Way::NeverFalling);
+        follow(windows, *size, 64, Way::NeverRising);
+        follow(windows, *size, i + 1, Way::Falling);
+    }
 }
 
-// All streams, in two lines.
-pub(crate) fn compare_windows(lines: [usize; 32]) -> [usize; 32] {
-    let mut all = lines;
-    let mut k = 0;
-    while k < STREAMS {
-        let more = follow(rank_of(k), size_of(k), k / 5, all);
-        all = more;
-        k += 1;
+// Six states are spoilt, of a window through which 4323 has passed and of which the oldest has left: replies, used count, letters, marks, counts and entries.
+pub(crate) fn spoil_windows(windows: &mut Comparison, word: &Word) {
+    let mut window = Window::new(1024, word.rank);
+    for letter in &word.letters {
+        window.arrive(*letter);
     }
-    all
+    window.leave();
+    let own = || plain_pair(&window.word);
+    let told = window.memory.pair();
+    windows.spoil(Ok(own()), &told, |state| *state = Err(Fault::Replies(1)));
+    let Ok(pair) = told else {
+        return;
+    };
+    windows.spoil(own(), &pair, |pair| {
+        if pair.tableau.letters.len() < 1024 {
+            pair.insert(1);
+        }
+    });
+    windows.spoil(
+        own(),
+        &pair,
+        |pair| spoil_first(&mut pair.tableau.letters, 200),
+    );
+    windows.spoil(
+        own(),
+        &pair,
+        |pair| spoil_first(&mut pair.tableau.marks, 200),
+    );
+    windows.spoil(own(), &pair, |pair| pair.tableau.counts[0] = 5000);
+    windows.spoil(own(), &pair, |pair| spoil_first(&mut pair.entries, 5000));
 }

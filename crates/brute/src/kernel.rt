@@ -1,127 +1,164 @@
-// Pairs in the kernel's memory, and the calls on them. Arrays of 1,024 elements are lent whole. A refusal leaves a count that is in no answer.
-ghost use Rattle.std.specs.Prelude.{◌≤◌};
+// What the kernel writes, and pairs in its memory with the calls on them. Arrays of 1,024 elements are lent whole.
+ghost use Rattle.std.specs.Prelude.{◌≡◌, IfOk};
+ghost use Rattle.arrayvec.specs.ArrayVec.{array_vec_len};
 
+use crate::comparing::Fault;
+use arrayvec::ArrayVec;
 use departures::departure::remove_oldest;
+use lent::tableaux::CountedTableau;
 use pairs::insertion::insert_letter;
 use plain_words::Word;
-use plain_words::answer::{Answer, nothing};
-use refusals::answers::{Used, Written};
+use plain_words::insertion::{Pair, Tableau};
+use refusals::refusal::Refusal;
 use ribbons::pair::pair_of_word;
 
-// The first bytes of an array, so many of them; all where there are not so many.
-pub(crate) fn first_bytes(bytes: &[u8; 1024], count: usize) -> &[u8] {
-    let all: &[u8] = bytes;
-    if 1024 < count {
-        return all;
+// The first elements of memory, so many as the kernel tells.
+pub(crate) fn told<T: Copy + Default>(
+    memory: &[T; 1024],
+    count: usize,
+) -> Result<ArrayVec<T, 1024>, Fault>
+    ensures { IfOk result (λ v. array_vec_len v ≡ count) }
+{
+    match memory.get(..count) {
+        Some(elements) => Ok(ArrayVec::try_from(elements).unwrap()),
+        None => Err(Fault::Count(count)),
     }
-    &all[0..count]
 }
 
-// How many elements were written, or a number that no count is.
-pub(crate) fn elements(reply: Written) -> usize {
-    match reply {
-        Written::Elements(count) => count,
-        Written::Refused(_) => 9999,
+// The same of memory that was blank before, and is after them.
+pub(crate) fn written<T: Copy + Default + PartialEq>(
+    memory: &[T; 1024],
+    count: usize,
+) -> Result<ArrayVec<T, 1024>, Fault>
+    ensures { IfOk result (λ v. array_vec_len v ≡ count) }
+{
+    match memory.iter().rposition(|element| *element != T::default()) {
+        Some(last) if count <= last => Err(Fault::Beyond(last)),
+        _ => told(memory, count),
+    }
+}
+
+// A tableau as it is lent.
+pub(crate) fn lent(tableau: &Tableau) -> CountedTableau<'_> {
+    CountedTableau {
+        rank: tableau.rank,
+        letters: &tableau.letters,
+        marks: &tableau.marks,
+        counts: &tableau.counts,
     }
 }
 
 // The pair of a word, made at once.
-pub(crate) fn pair_at_once(word: Word) -> Answer {
-    let given = word.letters;
-    let mut letters = [0u8; 1024];
-    let mut marks = [0u8; 1024];
-    let mut entries = [0u16; 1024];
-    let mut counts = [65535u16; 64];
-    let reply = pair_of_word(
+pub(crate) fn pair_at_once(word: &Word) -> Result<Pair, Fault> {
+    let mut letters = [0; 1024];
+    let mut marks = [0; 1024];
+    let mut entries = [0; 1024];
+    let mut counts = [65535; 64];
+    let count = pair_of_word(
         word.rank,
-        first_bytes(&given, word.length),
+        &word.letters,
         &mut letters,
         &mut marks,
         &mut entries,
         &mut counts,
-    );
-    Answer {
-        rank: word.rank,
-        number: 0,
-        length: elements(reply),
-        letters,
-        marks,
-        counts,
-        entries,
-    }
+    )?;
+    Ok(Pair {
+        tableau: Tableau {
+            rank: word.rank,
+            letters: written(&letters, count)?,
+            marks: written(&marks, count)?,
+            counts,
+        },
+        entries: written(&entries, count)?,
+    })
 }
 
-// 1 for a refusal and for a used count that is not the one given, else what was there before.
-fn wrong_used(reply: Used, used: usize, before: usize) -> usize {
-    match reply {
-        Used::Cells(count) => { if count == used { before } else { 1 } }
-        Used::Refused(_) => 1,
-    }
+// A pair in memory, of which so many cells are used, and how many replies were wrong.
+#[derive(Drop)]
+pub(crate) struct Memory {
+    rank: usize,
+    used: usize,
+    letters: [u8; 1024],
+    marks: [u8; 1024],
+    entries: [u16; 1024],
+    counts: [u16; 64],
+    wrong: usize,
 }
 
-// A letter comes into a pair. A reply that does not tell the new length makes the pair's number 1 for good.
-pub(crate) fn arrive(letter: usize, pair: Answer) -> Answer {
-    let length = std::num::wrapping_add_usize(pair.length, 1);
-    let mut letters = pair.letters;
-    let mut marks = pair.marks;
-    let mut entries = pair.entries;
-    let mut counts = pair.counts;
-    let reply = insert_letter(
-        pair.rank,
-        pair.length,
-        letter,
-        &mut letters,
-        &mut marks,
-        &mut entries,
-        &mut counts,
-    );
-    Answer {
-        rank: pair.rank,
-        number: wrong_used(reply, length, pair.number),
-        length,
-        letters,
-        marks,
-        counts,
-        entries,
+impl Memory {
+    // The pair without a cell.
+    pub fn new(rank: usize) -> Memory {
+        Memory {
+            rank,
+            used: 0,
+            letters: [0; 1024],
+            marks: [0; 1024],
+            entries: [0; 1024],
+            counts: [0; 64],
+            wrong: 0,
+        }
     }
-}
 
-// The oldest letter leaves a pair that has one.
-pub(crate) fn depart(pair: Answer) -> Answer {
-    let length = std::num::wrapping_sub_usize(pair.length, 1);
-    let mut letters = pair.letters;
-    let mut marks = pair.marks;
-    let mut entries = pair.entries;
-    let mut counts = pair.counts;
-    let reply = remove_oldest(
-        pair.rank,
-        pair.length,
-        &mut letters,
-        &mut marks,
-        &mut entries,
-        &mut counts,
-    );
-    Answer {
-        rank: pair.rank,
-        number: wrong_used(reply, length, pair.number),
-        length,
-        letters,
-        marks,
-        counts,
-        entries,
+    // So many cells are used now, and the reply should tell it.
+    fn use_cells(&mut self, used: usize, reply: Result<usize, Refusal>) {
+        self.used = used;
+        if reply != Ok(used) {
+            self.wrong = self.wrong.wrapping_add(1);
+        }
+    }
+
+    // A letter comes into the pair.
+    pub fn arrive(&mut self, letter: u8) {
+        let reply = insert_letter(
+            self.rank,
+            self.used,
+            usize::from(letter),
+            &mut self.letters,
+            &mut self.marks,
+            &mut self.entries,
+            &mut self.counts,
+        );
+        self.use_cells(self.used.wrapping_add(1), reply);
+    }
+
+    // The oldest letter leaves a pair that has one.
+    pub fn depart(&mut self) {
+        let reply = remove_oldest(
+            self.rank,
+            self.used,
+            &mut self.letters,
+            &mut self.marks,
+            &mut self.entries,
+            &mut self.counts,
+        );
+        self.use_cells(self.used.wrapping_sub(1), reply);
+    }
+
+    // The cells that are used, if no reply was wrong.
+    pub fn pair(&self) -> Result<Pair, Fault> {
+        if 0 < self.wrong {
+            return Err(Fault::Replies(self.wrong));
+        }
+        Ok(Pair {
+            tableau: Tableau {
+                rank: self.rank,
+                letters: told(&self.letters, self.used)?,
+                marks: told(&self.marks, self.used)?,
+                counts: self.counts,
+            },
+            entries: told(&self.entries, self.used)?,
+        })
     }
 }
 
 // The pair of a word, its letters inserted one after the other.
-pub(crate) fn pair_by_letters(word: Word) -> Answer
-    requires { word.length ≤ 1024 }
-{
-    let mut pair = nothing(word.rank);
-    let mut i = 0;
-    while i < word.length {
-        let more = arrive(word.letters[i] as usize, pair);
-        pair = more;
-        i += 1;
+pub(crate) fn pair_by_letters(word: &Word) -> Result<Pair, Fault> {
+    let mut memory = Memory::new(word.rank);
+    for letter in &word.letters {
+        memory.arrive(*letter);
     }
-    pair
+    let _: ArrayVec<u8, 1024> = written(&memory.letters, memory.used)?;
+    let _: ArrayVec<u8, 1024> = written(&memory.marks, memory.used)?;
+    let _: ArrayVec<u16, 1024> = written(&memory.entries, memory.used)?;
+    memory.pair()
 }

@@ -18,100 +18,89 @@ mod scanning;
 mod short_words;
 mod two_words;
 
-ghost use Rattle.std.specs.Prelude.{◌≤◌};
-
-use crate::answers::{answers_found, compare_answers};
-use crate::comparing::added;
-use crate::counting::{count_moves, count_pair, moves_found, two_found};
-use crate::cutting::{compare_cut, compare_cuts, products_found};
-use crate::following::{compare_windows, windows_found};
-use crate::numbered::{classes_found, compare_class, short_tableaux};
+use crate::answers::{compare_answers, spoil_answers};
+use crate::comparing::Comparison;
+use crate::counting::Moves;
+use crate::cutting::{compare_cut, compare_cuts, spoil_products};
+use crate::following::{compare_windows, spoil_windows};
+use crate::numbered::{compare_class, short_tableaux, spoil_classes};
 use crate::short_words::{SHORT, short_word};
-use plain_words::drawn::below;
-use plain_words::{WORDS, Word, word_of};
-use std::io;
+use plain_words::drawn::{Generator, below};
+use plain_words::{WORDS, word_of};
+use std::{fmt, io};
 
-// One word: its answers, its product at one place, its moves, and what is so of it beside another word.
-fn compare_word(k: usize, word: Word, lines: [usize; 32]) -> [usize; 32]
-    requires { word.length ≤ 1024 }
-{
-    let all = compare_answers(word, lines);
-    let all = compare_cut(below(word.length + 1, k as u64), word, all);
-    let all = count_moves(k, word, added(12, 1, all));
-    count_pair(k, word, all)
+// What is printed.
+#[derive(Clone, Copy, Debug)]
+struct Report {
+    words: Comparison,
+    products: Comparison,
+    classes: Comparison,
+    moves: Moves,
+    windows: Comparison,
 }
 
-// The words of document 01 and drawn ones.
-fn compare_words(lines: [usize; 32]) -> [usize; 32] {
-    let mut state: u64 = 20201;
-    let mut all = lines;
-    let mut k = 0;
-    while k < WORDS {
-        let word = word_of(k, state);
-        state = word.state;
-        let more = compare_word(k, word, all);
-        all = more;
-        k += 1;
+impl fmt::Display for Report {
+    fn fmt<W: fmt::Write>(&self, f: &mut fmt::Formatter<W>) -> fmt::Result {
+        write!(f, "words {}", self.words)?;
+        write!(f, "products {}", self.products)?;
+        write!(f, "classes {}", self.classes)?;
+        write!(f, "{}", self.moves)?;
+        write!(f, "windows {}", self.windows)
     }
-    all
 }
 
-// All words of at most 6 letters over 1 to 3, each cut at every place, and their classes; and the classes spoilt.
-fn compare_short(lines: [usize; 32]) -> [usize; 32] {
-    let tableaux = short_tableaux();
-    let mut all = lines;
-    let mut k = 0;
-    while k < SHORT {
-        let more = compare_class(k, tableaux, compare_cuts(short_word(k), all));
-        all = more;
-        k += 1;
+impl Report {
+    // The words of document 01 and drawn ones: of each its answers, its product at one place, its moves, and what is so of it beside another word.
+    fn compare_words(&mut self) {
+        let mut generator = Generator::new(20201);
+        for k in 0..WORDS {
+            let word = word_of(k, &mut generator);
+            compare_answers(&mut self.words, &word);
+            compare_cut(
+                &mut self.products,
+                below(word.letters.len() + 1, k as u64),
+                &word,
+            );
+            self.moves.count_moves(k, &word);
+            self.moves.count_pair(k, &word, generator);
+        }
     }
-    added(11, classes_found(tableaux), all)
-}
 
-// The answers that are spoilt and found, but for classes.
-fn with_found(lines: [usize; 32]) -> [usize; 32] {
-    let all = added(3, answers_found(), lines);
-    let all = added(7, products_found(), all);
-    let all = added(27, moves_found(), all);
-    let all = added(27, two_found(4, 3), added(27, two_found(6, 2), all));
-    added(31, windows_found(), all)
-}
-
-// At the end of a line, its number. The answer is the line that then goes on.
-fn print_number(rt: &impl Print, byte: u8, line: usize, numbers: [usize; 32]) -> io::Result<usize> {
-    if byte != 10 {
-        return Ok(line);
+    // All words of at most 6 letters over 1 to 3, each cut at every place, and their classes.
+    fn compare_short(&mut self) {
+        let tableaux = short_tableaux();
+        for k in 0..SHORT {
+            compare_cuts(&mut self.products, &short_word(k));
+            compare_class(&mut self.classes, k, &tableaux);
+        }
+        spoil_classes(&mut self.classes, &tableaux);
     }
-    let at = line % 32;
-    rt.print(numbers[at])?;
-    Ok(at + 1)
-}
 
-// A text of names, one on each line, with the numbers behind them.
-fn print(rt: &impl Print, names: &[u8], numbers: [usize; 32]) -> io::Result<()> {
-    let mut line = 0;
-    let mut i = 0;
-    while i < names.len() {
-        line = print_number(rt, names[i], line, numbers)?;
-        rt.write_all(&names[i..i + 1])?;
-        i += 1;
+    // Answers that are spoilt on purpose: for 4323, for 31 times 2, for 3113, for 3243 beside 4323, and for a window through which 4323 passes.
+    fn spoil(&mut self) {
+        let mut generator = Generator::new(0);
+        let mut word = word_of(0, &mut generator);
+        spoil_answers(&mut self.words, &word);
+        spoil_windows(&mut self.windows, &word);
+        spoil_products(&mut self.products, &short_word(32));
+        self.moves.spoil_moves(&word_of(6, &mut generator));
+        self.moves
+            .spoil_two(&word_of(12, &mut generator), &mut word);
     }
-    Ok(())
 }
 
-// All lines. How many answers are spoilt stands in the numbers from the start.
+// All comparisons, and what came of them.
 fn main(rt: HostRuntime) -> io::Result<()> {
-    let lines = added(
-        2,
-        8,
-        added(6, 4, added(10, 4, added(26, 16, added(30, 6, [0; 32])))),
-    );
-    let names =
-        b"words \ndifferences \nspoilt \nfound \nproducts \ndifferences \nspoilt \nfound \nclasses \ndifferences \nspoilt \nfound \nwords moved \nmoves made \nmoves refused with 9 \nmoves refused with 10 \nmoves refused with 11 \npairs of one class \npairs of two classes \npairs of two ranks and one class \npairs of two ranks and two classes \nweights equal \nweights lower \nweights higher \nweights neither \ndifferences \nspoilt \nfound \nwindows \ndifferences \nspoilt \nfound \n";
-    print(
-        &rt,
-        names,
-        with_found(compare_windows(compare_short(compare_words(lines)))),
-    )
+    let mut report = Report {
+        words: Comparison::new(),
+        products: Comparison::new(),
+        classes: Comparison::new(),
+        moves: Moves::new(),
+        windows: Comparison::new(),
+    };
+    report.compare_words();
+    report.compare_short();
+    compare_windows(&mut report.windows);
+    report.spoil();
+    rt.print(report)
 }

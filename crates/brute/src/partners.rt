@@ -1,27 +1,35 @@
-// The second word of a pair of words, in six ways, so that every answer comes up: another drawn word; two neighbours exchanged; a step of rewriting; the same
-// letters; a move; one letter more, which the first word's rank does not have. In the last five its rank is 64, or the first word's, in the sixth the next.
-ghost use Rattle.std.specs.Prelude.{◌≤◌};
-
+// A second word beside each word, in six ways: another drawn word; two neighbours exchanged; two neighbours that a step of rewriting exchanges; the same word;
+// the word after a move; one letter more, which the first word's rank does not have. In the last five its rank is 64, or the first word's, in the sixth the next.
 use crate::scanning::plain_move;
-use crate::short_words::longer;
-use plain_words::drawn::below;
+use operators::changes::Side;
+use plain_words::drawn::Generator;
 use plain_words::{Word, word_of};
 
-// The word with the letter at a place and the one before it exchanged; as it is where there are no two such.
-fn exchanged(place: usize, word: Word) -> Word
-    requires { word.length ≤ 1024 }
-{
-    if place < 1 {
-        return word;
+// How the second word comes from the first.
+#[derive(Clone, Copy, Debug)]
+enum Partner {
+    Drawn,
+    Exchanged,
+    Rewritten,
+    Same,
+    Moved,
+    Above,
+}
+
+const PARTNERS: [Partner; 6] = [
+    Partner::Drawn,
+    Partner::Exchanged,
+    Partner::Rewritten,
+    Partner::Same,
+    Partner::Moved,
+    Partner::Above,
+];
+
+// Exchanges the letter at a place and the one before it; not where there are no two such.
+fn exchange(place: usize, word: &mut Word) {
+    if 0 < place && place < word.letters.len() {
+        word.letters.swap(place - 1, place);
     }
-    if word.length <= place {
-        return word;
-    }
-    let before = place - 1;
-    let mut other = word;
-    other.letters[place] = word.letters[before];
-    other.letters[before] = word.letters[place];
-    other
 }
 
 // Whether a letter is at least one of two others and below the other one.
@@ -30,74 +38,57 @@ fn parts(b: u8, one: u8, other: u8) -> bool {
 }
 
 // The later place of the first two neighbours that a step of rewriting exchanges, by one of two pairs of factors: acb and cab with a ≤ b < c; bac and
-// bca with a < b ≤ c, the same for the letter before b. 0 where there is no such factor.
-fn step_place(word: Word) -> usize
-    requires { word.length ≤ 1024 }
-{
-    let mut i = 2;
-    while i < word.length {
-        let first = word.letters[i - 2];
-        let second = word.letters[i - 1];
-        let third = word.letters[i];
-        if parts(third, first, second) {
-            return i - 1;
+// bca with a < b ≤ c, the same for the letter before b.
+fn rewritten_at(letters: &[u8]) -> Option<usize> {
+    for (start, factor) in letters.windows(3).enumerate() {
+        if let [first, second, third] = factor {
+            if parts(*third, *first, *second) {
+                return Some(start + 1);
+            }
+            if parts(first.wrapping_sub(1), *second, *third) {
+                return Some(start + 2);
+            }
         }
-        if parts(std::num::wrapping_sub_u8(first, 1), second, third) {
-            return i;
+    }
+    None
+}
+
+// Makes a move that changes the first letter, or one like it: raising for an odd number, else lowering. Where it is refused, the word stays.
+fn change(k: usize, word: &mut Word) {
+    let first = word.letters.first().copied().unwrap_or(0);
+    let _ = match k % 2 {
+        1 => plain_move(Side::Raising, usize::from(first).wrapping_sub(1), word),
+        _ => plain_move(Side::Lowering, usize::from(first), word),
+    };
+}
+
+// Puts the letter above the word's rank at the end, and the rank goes up to have it; where there is no such letter, or no room, the word stays.
+fn lift(word: &mut Word) {
+    if word.rank < 64 && word.letters.len() < 1024 {
+        word.rank += 1;
+        word.letters.push(word.rank as u8);
+    }
+}
+
+// The second word of the pair whose first word, of this number, is given, by the generator as it was left after that word. Words are drawn in five ways too, by
+// the number's remainder: each of these ways meets each of those, and with each both ranks.
+pub(crate) fn second_word(k: usize, word: &Word, generator: Generator) -> Word {
+    let mut other = word.clone().unwrap();
+    match PARTNERS[k / 5 % 6] {
+        Partner::Drawn => {
+            let mut generator = generator;
+            return word_of(k.wrapping_add(64), &mut generator);
         }
-        i += 1;
+        Partner::Exchanged => exchange(generator.below(word.letters.len() + 1), &mut other),
+        Partner::Rewritten => {
+            if let Some(place) = rewritten_at(&word.letters) {
+                exchange(place, &mut other);
+            }
+        }
+        Partner::Same => {}
+        Partner::Moved => change(k, &mut other),
+        Partner::Above => lift(&mut other),
     }
-    0
-}
-
-// The word after a move that changes the first letter, or one like it: raising for an odd number, else lowering.
-fn moved(k: usize, word: Word) -> Word {
-    let odd = k % 2;
-    let index = std::num::wrapping_sub_usize(word.letters[0] as usize, odd);
-    let after = plain_move(odd == 1, index, word);
-    let letters = after.letters;
-    let mut other = word;
-    other.letters = letters;
-    other
-}
-
-// The word with the letter above its rank at the end, and the rank goes up to have it; where there is no such letter, or no room, the word stays.
-fn above(word: Word) -> Word {
-    if 1023 < word.length {
-        return word;
-    }
-    if 63 < word.rank {
-        return word;
-    }
-    let rank = word.rank + 1;
-    let mut other = longer(rank as u8, word);
-    other.rank = rank;
-    other
-}
-
-// The second word, where it is no other drawn word.
-fn changed(way: usize, k: usize, word: Word) -> Word
-    requires { word.length ≤ 1024 }
-{
-    match way {
-        1 => exchanged(below(word.length + 1, word.state), word),
-        2 => exchanged(step_place(word), word),
-        3 => word,
-        4 => moved(k, word),
-        _ => above(word),
-    }
-}
-
-// The second word of the pair whose first word, of this number, is given. Words are drawn in five ways too, by the number's remainder: each of these ways
-// meets each of those, and with each both ranks.
-pub(crate) fn partner(k: usize, word: Word) -> Word
-    requires { word.length ≤ 1024 }
-{
-    let way = k / 5 % 6;
-    if way == 0 {
-        return word_of(std::num::wrapping_add_usize(k, 64), word.state);
-    }
-    let mut other = changed(way, k, word);
     if k / 30 % 2 == 1 {
         other.rank = 64;
     }

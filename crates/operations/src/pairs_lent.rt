@@ -1,124 +1,116 @@
 // The calls that write into letters, marks, entries and counts of a pair. What is lent is printed after the call.
+use crate::calls::{FIRST, OTHER};
 use departures::departure::remove_oldest;
-use notation::answers::{print_read, print_used, print_written};
-use notation::fields::number;
-use notation::lists::{bytes_of, counts_of, entries_of};
-use notation::printing::{print_bytes, print_counts, print_entries};
+use notation::answers::print_answer;
+use notation::arguments::Arguments;
+use notation::printing::{print_counts, print_list};
 use pairs::insertion::insert_letter;
 use readers::pair::read_pair_line;
 use ribbons::pair::pair_of_word;
+use std::alloc::AllocError;
 use std::io;
 
-// A lent pair after the call.
-fn print_pair_lent(
-    rt: &impl Print,
-    kinds: &[u8],
-    line: &[u8],
-    letters: [u8; 1100],
-    marks: [u8; 1100],
-    entries: [u16; 1100],
+// What is lent.
+#[derive(Drop)]
+struct Lent {
+    letters: Vec<u8>,
+    marks: Vec<u8>,
+    entries: Vec<u16>,
     counts: [u16; 64],
-) -> io::Result<()> {
-    print_bytes(rt, kinds, line, b'L', letters)?;
-    print_bytes(rt, kinds, line, b'M', marks)?;
-    print_entries(rt, kinds, line, b'E', entries)?;
-    print_counts(rt, counts)
+}
+
+impl Lent {
+    // The next arguments.
+    fn of(call: &mut Arguments<'_>) -> Result<Lent, AllocError> {
+        Ok(Lent {
+            letters: call.bytes(OTHER)?,
+            marks: call.bytes(OTHER)?,
+            entries: call.entries(OTHER)?,
+            counts: call.counts()?,
+        })
+    }
+
+    // After the call.
+    fn print(&self, rt: &impl Print) -> io::Result<()> {
+        print_list(rt, &self.letters)?;
+        print_list(rt, &self.marks)?;
+        print_list(rt, &self.entries)?;
+        print_counts(rt, &self.counts)
+    }
 }
 
 // A P line read.
-pub(crate) fn read_pair(rt: &impl Print, kinds: &[u8], line: &[u8], a: &[u8]) -> io::Result<()> {
-    let mut letters: [u8; 1100] = [0; 1100];
-    let mut marks: [u8; 1100] = [0; 1100];
-    let mut entries: [u16; 1100] = [0; 1100];
-    let mut counts = counts_of(kinds, line, b'K');
-    print_read(
+pub(crate) fn read_pair(rt: &impl Print, mut call: Arguments<'_>) -> io::Result<()> {
+    let line = call.text(FIRST)?;
+    let mut lent = Lent::of(&mut call)?;
+    print_answer(
         rt,
         read_pair_line(
-            a,
-            bytes_of(kinds, line, b'L', &mut letters),
-            bytes_of(kinds, line, b'M', &mut marks),
-            entries_of(kinds, line, b'E', &mut entries),
-            &mut counts,
+            &line,
+            &mut lent.letters,
+            &mut lent.marks,
+            &mut lent.entries,
+            &mut lent.counts,
         ),
     )?;
-    print_pair_lent(rt, kinds, line, letters, marks, entries, counts)
+    lent.print(rt)
 }
 
 // The pair of a word.
-pub(crate) fn insert_word(
-    rt: &impl Print,
-    kinds: &[u8],
-    line: &[u8],
-    rank: usize,
-    a: &[u8],
-) -> io::Result<()> {
-    let mut letters: [u8; 1100] = [0; 1100];
-    let mut marks: [u8; 1100] = [0; 1100];
-    let mut entries: [u16; 1100] = [0; 1100];
-    let mut counts = counts_of(kinds, line, b'K');
-    print_written(
+pub(crate) fn insert_word(rt: &impl Print, mut call: Arguments<'_>) -> io::Result<()> {
+    let rank = call.number();
+    let word = call.bytes(FIRST)?;
+    let mut lent = Lent::of(&mut call)?;
+    print_answer(
         rt,
         pair_of_word(
             rank,
-            a,
-            bytes_of(kinds, line, b'L', &mut letters),
-            bytes_of(kinds, line, b'M', &mut marks),
-            entries_of(kinds, line, b'E', &mut entries),
-            &mut counts,
+            &word,
+            &mut lent.letters,
+            &mut lent.marks,
+            &mut lent.entries,
+            &mut lent.counts,
         ),
     )?;
-    print_pair_lent(rt, kinds, line, letters, marks, entries, counts)
+    lent.print(rt)
 }
 
 // A letter inserted: the third number of the line.
-pub(crate) fn insert(
-    rt: &impl Print,
-    kinds: &[u8],
-    line: &[u8],
-    rank: usize,
-    used: usize,
-) -> io::Result<()> {
-    let mut letters: [u8; 1100] = [0; 1100];
-    let mut marks: [u8; 1100] = [0; 1100];
-    let mut entries: [u16; 1100] = [0; 1100];
-    let mut counts = counts_of(kinds, line, b'K');
-    print_used(
+pub(crate) fn insert(rt: &impl Print, mut call: Arguments<'_>) -> io::Result<()> {
+    let rank = call.number();
+    let used = call.number();
+    let letter = call.number();
+    let mut lent = Lent::of(&mut call)?;
+    print_answer(
         rt,
         insert_letter(
             rank,
             used,
-            number(line, 3),
-            bytes_of(kinds, line, b'L', &mut letters),
-            bytes_of(kinds, line, b'M', &mut marks),
-            entries_of(kinds, line, b'E', &mut entries),
-            &mut counts,
+            letter,
+            &mut lent.letters,
+            &mut lent.marks,
+            &mut lent.entries,
+            &mut lent.counts,
         ),
     )?;
-    print_pair_lent(rt, kinds, line, letters, marks, entries, counts)
+    lent.print(rt)
 }
 
 // The oldest letter removed.
-pub(crate) fn remove(
-    rt: &impl Print,
-    kinds: &[u8],
-    line: &[u8],
-    rank: usize,
-    used: usize,
-) -> io::Result<()> {
-    let mut letters: [u8; 1100] = [0; 1100];
-    let mut marks: [u8; 1100] = [0; 1100];
-    let mut entries: [u16; 1100] = [0; 1100];
-    let mut counts = counts_of(kinds, line, b'K');
-    print_used(
+pub(crate) fn remove(rt: &impl Print, mut call: Arguments<'_>) -> io::Result<()> {
+    let rank = call.number();
+    let used = call.number();
+    let mut lent = Lent::of(&mut call)?;
+    print_answer(
         rt,
         remove_oldest(
             rank,
             used,
-            bytes_of(kinds, line, b'L', &mut letters),
-            bytes_of(kinds, line, b'M', &mut marks),
-            entries_of(kinds, line, b'E', &mut entries),
-            &mut counts,
+            &mut lent.letters,
+            &mut lent.marks,
+            &mut lent.entries,
+            &mut lent.counts,
         ),
     )?;
-    print_pair_lent(rt, kinds, line, letters, marks, entries, counts)
+    lent.print(rt)
 }

@@ -1,94 +1,118 @@
 // The calls that change no memory: questions about words, about one tableau, and about two.
-use class_numbers::classes::{class_number, class_size};
-use classes::two_words::same_class;
-use notation::answers::{
-    print_cell, print_class, print_junctions, print_numbered, print_repeat, print_verdict,
-    print_weights,
-};
-use operators::moves::{lower_count_word, raise_count_word};
-use std::io;
-use stored_tableaux::two_tableaux::{compare_weights_of_tableaux, same_class_of_tableaux};
-use tableaux::moves::{lower_count_tableau, raise_count_tableau};
-use validity::counted::{check_counted_pair, check_counted_tableau};
-use viewer::viewers::look_once;
-use weights::two_words::compare_weights;
-use words::junctions::junctions;
+use crate::calls::{FIRST, OTHER, SECOND};
+use crate::given::Given;
 use lent::tableaux::{CountedPair, CountedTableau};
+use notation::answers::{Values, print_answer};
+use notation::arguments::Arguments;
+use refusals::refusal::Refusal;
+use std::io;
+use validity::counted::check_counted_pair;
+use viewer::viewers::look_once;
 
-// Questions about words, 0 to 5.
-pub(crate) fn ask_words(
+// A question about a word.
+pub(crate) fn one_word<T: Values + Drop, F: Fn(usize, &[u8]) -> Result<T, Refusal>>(
     rt: &impl Print,
-    operation: usize,
-    rank: usize,
-    index: usize,
-    a: &[u8],
-    b: &[u8],
-) -> io::Result<()> {
-    if operation == 0 {
-        return print_repeat(rt, raise_count_word(rank, index, a));
-    }
-    if operation == 1 {
-        return print_repeat(rt, lower_count_word(rank, index, a));
-    }
-    if operation == 2 {
-        return print_class(rt, same_class(rank, a, index, b));
-    }
-    if operation == 3 {
-        return print_weights(rt, compare_weights(rank, a, index, b));
-    }
-    if operation == 4 {
-        return print_junctions(rt, junctions(rank, a));
-    }
-    print_numbered(rt, class_number(rank, a))
+    mut call: Arguments<'_>,
+    ask: F,
+) -> io::Result<()>
+    requires { F.IsAlwaysCallable ask }
+{
+    let rank = call.number();
+    let word = call.bytes(FIRST)?;
+    print_answer(rt, ask(rank, &word))
 }
 
-// Questions about a tableau, 6 to 10, and about a pair, 11.
-pub(crate) fn ask_tableau(
+// How often a move on a word can be made.
+pub(crate) fn count_word<F: Fn(usize, usize, &[u8]) -> Result<usize, Refusal>>(
     rt: &impl Print,
-    operation: usize,
-    rank: usize,
-    index: usize,
-    a: &[u8],
-    b: &[u8],
-    entries: &[u16],
-    counts: &[u16; 64],
-) -> io::Result<()> {
-    if operation == 6 {
-        return print_numbered(rt, class_size(rank, a, b, counts));
-    }
-    if operation == 7 {
-        return print_repeat(rt, raise_count_tableau(rank, index, a, b, counts));
-    }
-    if operation == 8 {
-        return print_repeat(rt, lower_count_tableau(rank, index, a, b, counts));
-    }
-    if operation == 9 {
-        return print_cell(rt, look_once(rank, a, b, index));
-    }
-    if operation == 10 {
-        return print_verdict(rt, check_counted_tableau(&CountedTableau { rank, letters: a, marks: b, counts }));
-    }
-    print_verdict(rt, check_counted_pair(&CountedPair { rank, letters: a, marks: b, entries, counts }))
+    mut call: Arguments<'_>,
+    count: F,
+) -> io::Result<()>
+    requires { F.IsAlwaysCallable count }
+{
+    let rank = call.number();
+    let index = call.number();
+    let word = call.bytes(FIRST)?;
+    print_answer(rt, count(rank, index, &word))
 }
 
-// Class and weights of two tableaux, 36 and 37. Letters and marks of the second are c and d, its counts q.
-pub(crate) fn ask_two(
+// A question about two words.
+pub(crate) fn two_words<T: Values + Drop, F: Fn(usize, &[u8], usize, &[u8]) -> Result<T, Refusal>>(
     rt: &impl Print,
-    operation: usize,
-    rank: usize,
-    other: usize,
-    a: &[u8],
-    b: &[u8],
-    k: &[u16; 64],
-    c: &[u8],
-    d: &[u8],
-    q: &[u16; 64],
-) -> io::Result<()> {
-    if operation == 36 {
-        return print_class(rt, same_class_of_tableaux(rank, a, b, k, other, c, d, q));
-    }
-    print_weights(
+    mut call: Arguments<'_>,
+    ask: F,
+) -> io::Result<()>
+    requires { F.IsAlwaysCallable ask }
+{
+    let rank = call.number();
+    let other_rank = call.number();
+    let word = call.bytes(FIRST)?;
+    let other = call.bytes(SECOND)?;
+    print_answer(rt, ask(rank, &word, other_rank, &other))
+}
+
+// A question about a tableau.
+pub(crate) fn one_tableau<T: Values + Drop, F: Fn(&CountedTableau<'_>) -> Result<T, Refusal>>(
+    rt: &impl Print,
+    mut call: Arguments<'_>,
+    ask: F,
+) -> io::Result<()>
+    requires { F.IsAlwaysCallable ask }
+{
+    let rank = call.number();
+    let given = Given::first(&mut call)?;
+    print_answer(rt, ask(&given.at(rank)))
+}
+
+// How often a move on a tableau can be made.
+pub(crate) fn count_tableau<
+    F: Fn(usize, usize, &[u8], &[u8], &[u16; 64]) -> Result<usize, Refusal>,
+>(rt: &impl Print, mut call: Arguments<'_>, count: F) -> io::Result<()>
+    requires { F.IsAlwaysCallable count }
+{
+    let rank = call.number();
+    let index = call.number();
+    let given = Given::first(&mut call)?;
+    print_answer(
         rt,
-        compare_weights_of_tableaux(rank, a, b, k, other, c, d, q),
+        count(rank, index, &given.letters, &given.marks, &given.counts),
     )
+}
+
+// A look at a cell: the second number is its place.
+pub(crate) fn look(rt: &impl Print, mut call: Arguments<'_>) -> io::Result<()> {
+    let rank = call.number();
+    let place = call.number();
+    let letters = call.bytes(FIRST)?;
+    let marks = call.bytes(SECOND)?;
+    print_answer(rt, look_once(rank, &letters, &marks, place))
+}
+
+// A check of a pair.
+pub(crate) fn check_pair(rt: &impl Print, mut call: Arguments<'_>) -> io::Result<()> {
+    let rank = call.number();
+    let given = Given::first(&mut call)?;
+    let entries = call.entries(OTHER)?;
+    let pair = CountedPair {
+        rank,
+        letters: &given.letters,
+        marks: &given.marks,
+        entries: &entries,
+        counts: &given.counts,
+    };
+    print_answer(rt, check_counted_pair(&pair))
+}
+
+// A question about two tableaux.
+pub(crate) fn two_tableaux<
+    T: Values + Drop,
+    F: Fn(&CountedTableau<'_>, &CountedTableau<'_>) -> Result<T, Refusal>,
+>(rt: &impl Print, mut call: Arguments<'_>, ask: F) -> io::Result<()>
+    requires { F.IsAlwaysCallable ask }
+{
+    let rank = call.number();
+    let other_rank = call.number();
+    let one = Given::first(&mut call)?;
+    let other = Given::second(&mut call)?;
+    print_answer(rt, ask(&one.at(rank), &other.at(other_rank)))
 }

@@ -1,133 +1,65 @@
 // The calls that write into letters and counts of a tableau, or into its marks too. What is lent is printed after the call.
+use crate::calls::{FIRST, OTHER};
+use crate::given::Given;
 use multiplication::product::product;
-use notation::answers::{print_move, print_read, print_written};
-use notation::lists::{bytes_of, counts_of};
-use notation::printing::{print_bytes, print_counts};
-use readers::tableau::read_tableau_line;
-use run_readers::runs::read_run_line;
+use notation::answers::print_answer;
+use notation::arguments::Arguments;
+use notation::printing::{print_counts, print_list};
+use refusals::answers::Sizes;
+use refusals::refusal::Refusal;
 use std::io;
-use tableaux::moves::{lower_tableau, raise_tableau};
 
-// A tableau raised.
-pub(crate) fn raise(
-    rt: &impl Print,
-    kinds: &[u8],
-    line: &[u8],
-    rank: usize,
-    index: usize,
-    a: &[u8],
-) -> io::Result<()> {
-    let mut letters: [u8; 1100] = [0; 1100];
-    let mut counts = counts_of(kinds, line, b'K');
-    print_move(
-        rt,
-        raise_tableau(
-            rank,
-            index,
-            bytes_of(kinds, line, b'L', &mut letters),
-            a,
-            &mut counts,
-        ),
-    )?;
-    print_bytes(rt, kinds, line, b'L', letters)?;
-    print_counts(rt, counts)
+// A move on a tableau.
+pub(crate) fn move_tableau<
+    F: Fn(usize, usize, &mut [u8], &[u8], &mut [u16; 64]) -> Result<usize, Refusal>,
+>(rt: &impl Print, mut call: Arguments<'_>, change: F) -> io::Result<()>
+    requires { F.IsAlwaysCallable change }
+{
+    let rank = call.number();
+    let index = call.number();
+    let mut letters = call.bytes(OTHER)?;
+    let marks = call.bytes(FIRST)?;
+    let mut counts = call.counts()?;
+    print_answer(rt, change(rank, index, &mut letters, &marks, &mut counts))?;
+    print_list(rt, &letters)?;
+    print_counts(rt, &counts)
 }
 
-// A tableau lowered.
-pub(crate) fn lower(
-    rt: &impl Print,
-    kinds: &[u8],
-    line: &[u8],
-    rank: usize,
-    index: usize,
-    a: &[u8],
-) -> io::Result<()> {
-    let mut letters: [u8; 1100] = [0; 1100];
-    let mut counts = counts_of(kinds, line, b'K');
-    print_move(
-        rt,
-        lower_tableau(
-            rank,
-            index,
-            bytes_of(kinds, line, b'L', &mut letters),
-            a,
-            &mut counts,
-        ),
-    )?;
-    print_bytes(rt, kinds, line, b'L', letters)?;
-    print_counts(rt, counts)
-}
-
-// A T line read.
-pub(crate) fn read_tableau(rt: &impl Print, kinds: &[u8], line: &[u8], a: &[u8]) -> io::Result<()> {
-    let mut letters: [u8; 1100] = [0; 1100];
-    let mut marks: [u8; 1100] = [0; 1100];
-    let mut counts = counts_of(kinds, line, b'K');
-    print_read(
-        rt,
-        read_tableau_line(
-            a,
-            bytes_of(kinds, line, b'L', &mut letters),
-            bytes_of(kinds, line, b'M', &mut marks),
-            &mut counts,
-        ),
-    )?;
-    print_bytes(rt, kinds, line, b'L', letters)?;
-    print_bytes(rt, kinds, line, b'M', marks)?;
-    print_counts(rt, counts)
-}
-
-// A C line read.
-pub(crate) fn read_runs(rt: &impl Print, kinds: &[u8], line: &[u8], a: &[u8]) -> io::Result<()> {
-    let mut letters: [u8; 1100] = [0; 1100];
-    let mut marks: [u8; 1100] = [0; 1100];
-    let mut counts = counts_of(kinds, line, b'K');
-    print_read(
-        rt,
-        read_run_line(
-            a,
-            bytes_of(kinds, line, b'L', &mut letters),
-            bytes_of(kinds, line, b'M', &mut marks),
-            &mut counts,
-        ),
-    )?;
-    print_bytes(rt, kinds, line, b'L', letters)?;
-    print_bytes(rt, kinds, line, b'M', marks)?;
-    print_counts(rt, counts)
+// A line of a tableau read.
+pub(crate) fn read_tableau<
+    F: Fn(&[u8], &mut [u8], &mut [u8], &mut [u16; 64]) -> Result<Sizes, Refusal>,
+>(rt: &impl Print, mut call: Arguments<'_>, read: F) -> io::Result<()>
+    requires { F.IsAlwaysCallable read }
+{
+    let line = call.text(FIRST)?;
+    let mut letters = call.bytes(OTHER)?;
+    let mut marks = call.bytes(OTHER)?;
+    let mut counts = call.counts()?;
+    print_answer(rt, read(&line, &mut letters, &mut marks, &mut counts))?;
+    print_list(rt, &letters)?;
+    print_list(rt, &marks)?;
+    print_counts(rt, &counts)
 }
 
 // The product of two tableaux.
-pub(crate) fn multiply(
-    rt: &impl Print,
-    kinds: &[u8],
-    line: &[u8],
-    rank: usize,
-    a: &[u8],
-    b: &[u8],
-    k: &[u16; 64],
-    c: &[u8],
-    d: &[u8],
-    q: &[u16; 64],
-) -> io::Result<()> {
-    let mut letters: [u8; 1100] = [0; 1100];
-    let mut marks: [u8; 1100] = [0; 1100];
-    let mut counts = counts_of(kinds, line, b'K');
-    print_written(
+pub(crate) fn multiply(rt: &impl Print, mut call: Arguments<'_>) -> io::Result<()> {
+    let rank = call.number();
+    let one = Given::first(&mut call)?;
+    let other = Given::second(&mut call)?;
+    let mut letters = call.bytes(OTHER)?;
+    let mut marks = call.bytes(OTHER)?;
+    let mut counts = call.counts()?;
+    print_answer(
         rt,
         product(
-            rank,
-            a,
-            b,
-            k,
-            c,
-            d,
-            q,
-            bytes_of(kinds, line, b'L', &mut letters),
-            bytes_of(kinds, line, b'M', &mut marks),
+            &one.at(rank),
+            &other.at(rank),
+            &mut letters,
+            &mut marks,
             &mut counts,
         ),
     )?;
-    print_bytes(rt, kinds, line, b'L', letters)?;
-    print_bytes(rt, kinds, line, b'M', marks)?;
-    print_counts(rt, counts)
+    print_list(rt, &letters)?;
+    print_list(rt, &marks)?;
+    print_counts(rt, &counts)
 }

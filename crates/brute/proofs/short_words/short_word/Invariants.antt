@@ -1,9 +1,7 @@
--- `brute::short_words::short_word` is safe and ends. The invariant: at most 6 places are free. Assumes nothing.
+-- `brute::short_words::short_word` is safe. The invariant: no more digits than counted. Assumes nothing.
 use Rattle.std.proofs.Common.{◌≤◌}
+use Rattle.arrayvec.specs.ArrayVec.{array_vec_len}
 use Rattle.brute.proofs.short_words.short_word.Given as goal
 
-abbrev pub invariant-loop-free : goal.invariant-loop-free
-invariant-loop-free l = l.free ≤ 6
-
-abbrev pub decreases-loop-free : goal.decreases-loop-free
-decreases-loop-free l = l.free
+abbrev pub invariant-loop : goal.invariant-loop
+invariant-loop l = array_vec_len l.letters ≤ l.counter
