@@ -4,7 +4,7 @@ ghost use Rattle.arrayvec.specs.ArrayVec.{array_vec_len};
 
 use crate::comparing::{Comparison, Fault};
 use crate::junctions::junction_set;
-use crate::kernel::{pair_at_once, pair_by_letters, written};
+use crate::kernel::{lent, lent_pair, pair_at_once, pair_by_letters, written};
 use crate::picture::{read_columns, rows_of};
 use arrayvec::ArrayVec;
 use columns::reading::column_reading;
@@ -36,24 +36,10 @@ fn plain_led(word: &Word, pair: &Pair) -> Led {
 
 // What word and pair lead to in the kernel.
 fn kernel_led(word: &Word, pair: &Pair) -> Result<Led, Fault> {
-    let Pair { tableau, entries } = pair;
     let mut back = [0; 1024];
-    let letters = word_of_pair(
-        tableau.rank,
-        &tableau.letters,
-        &tableau.marks,
-        entries,
-        &tableau.counts,
-        &mut back,
-    )?;
+    let letters = word_of_pair(&lent_pair(pair), &mut back)?;
     let mut reading = [0; 1024];
-    let read = column_reading(
-        tableau.rank,
-        &tableau.letters,
-        &tableau.marks,
-        &tableau.counts,
-        &mut reading,
-    )?;
+    let read = column_reading(&lent(&pair.tableau), &mut reading)?;
     Ok(Led {
         junctions: junctions(word.rank, &word.letters)?,
         word: written(&back, letters)?,

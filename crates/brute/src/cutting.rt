@@ -65,9 +65,7 @@ pub(crate) fn spoil_products(products: &mut Comparison, word: &Word) {
     };
     let own = || plain_tableau(word);
     products.spoil(own(), &told, |tableau| {
-        if tableau.letters.len() < 1024 {
-            tableau.insert(1);
-        }
+        tableau.lengthen();
     });
     products.spoil(
         own(),

@@ -106,9 +106,7 @@ pub(crate) fn spoil_windows(windows: &mut Comparison, word: &Word) {
         return;
     };
     windows.spoil(own(), &pair, |pair| {
-        if pair.tableau.letters.len() < 1024 {
-            pair.insert(1);
-        }
+        pair.lengthen();
     });
     windows.spoil(
         own(),

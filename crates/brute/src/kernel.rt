@@ -5,7 +5,7 @@ ghost use Rattle.arrayvec.specs.ArrayVec.{array_vec_len};
 use crate::comparing::Fault;
 use arrayvec::ArrayVec;
 use departures::departure::remove_oldest;
-use lent::tableaux::CountedTableau;
+use lent::tableaux::{CountedPair, CountedTableau};
 use pairs::insertion::insert_letter;
 use plain_words::Word;
 use plain_words::insertion::{Pair, Tableau};
@@ -45,6 +45,17 @@ pub(crate) fn lent(tableau: &Tableau) -> CountedTableau<'_> {
         letters: &tableau.letters,
         marks: &tableau.marks,
         counts: &tableau.counts,
+    }
+}
+
+// A pair as it is lent.
+pub(crate) fn lent_pair(pair: &Pair) -> CountedPair<'_> {
+    CountedPair {
+        rank: pair.tableau.rank,
+        letters: &pair.tableau.letters,
+        marks: &pair.tableau.marks,
+        entries: &pair.entries,
+        counts: &pair.tableau.counts,
     }
 }
 

@@ -1,4 +1,5 @@
 // The kernel's moves and repeat counts on words and on tableaux.
+use crate::kernel::lent;
 use crate::scanning::Moved;
 use operators::changes::Side;
 use operators::moves::{move_word, repeat_word};
@@ -22,7 +23,7 @@ pub(crate) fn tableau_moved(side: Side, index: usize, tableau: &Tableau) -> Move
     let mut letters = tableau.letters.clone().unwrap();
     let marks = tableau.marks.clone().unwrap();
     let mut counts = tableau.counts;
-    let times = repeat_tableau(side, rank, index, &letters, &marks, &counts);
+    let times = repeat_tableau(side, index, &lent(tableau));
     let place = move_tableau(side, rank, index, &mut letters, &marks, &mut counts);
     Moved {
         place,

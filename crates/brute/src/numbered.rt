@@ -5,7 +5,7 @@ ghost use Rattle.std.specs.Prelude.{◌<◌};
 
 use crate::answers::spoil_first;
 use crate::comparing::{Comparison, Fault};
-use crate::kernel::written;
+use crate::kernel::{lent, written};
 use crate::short_words::{SHORT, short_word};
 use arrayvec::ArrayVec;
 use class_numbers::classes::{class_number, class_size, class_word};
@@ -53,18 +53,12 @@ fn plain_numbered(k: usize, tableaux: &[u64; SHORT]) -> Numbered
 fn kernel_numbered(number: u64, k: usize) -> Result<Numbered, Fault> {
     let word = short_word(k);
     let tableau = plain_tableau(&word);
+    let tableau = lent(&tableau);
     let mut letters = [0; 1024];
-    let count = class_word(
-        3,
-        &tableau.letters,
-        &tableau.marks,
-        &tableau.counts,
-        number,
-        &mut letters,
-    )?;
+    let count = class_word(&tableau, number, &mut letters)?;
     Ok(Numbered {
         number: class_number(3, &word.letters)?,
-        size: class_size(3, &tableau.letters, &tableau.marks, &tableau.counts)?,
+        size: class_size(&tableau)?,
         letters: written(&letters, count)?,
     })
 }

@@ -47,11 +47,7 @@ fn ask(rt: &impl Print, name: &[u8], call: Arguments<'_>) -> io::Result<()> {
         b"compare_weights" => two_words(rt, call, compare_weights),
         b"junctions" => one_word(rt, call, junctions),
         b"class_number" => one_word(rt, call, class_number),
-        b"class_size" => one_tableau(
-            rt,
-            call,
-            |t| class_size(t.rank, t.letters, t.marks, t.counts),
-        ),
+        b"class_size" => one_tableau(rt, call, class_size),
         b"raise_count_tableau" => count_tableau(rt, call, raise_count_tableau),
         b"lower_count_tableau" => count_tableau(rt, call, lower_count_tableau),
         b"look_once" => look(rt, call),

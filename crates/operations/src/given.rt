@@ -1,6 +1,6 @@
 // A tableau that a call is given: its letters, its marks and its counts stand one after the other in a line.
 use crate::calls::{FIRST, OTHER, SECOND};
-use lent::tableaux::CountedTableau;
+use lent::tableaux::{CountedPair, CountedTableau};
 use notation::arguments::Arguments;
 use std::alloc::AllocError;
 
@@ -36,6 +36,17 @@ impl Given {
             rank,
             letters: &self.letters,
             marks: &self.marks,
+            counts: &self.counts,
+        }
+    }
+
+    // The pair of the tableau and entries at a rank.
+    pub fn pair_at<'a>(&'a self, rank: usize, entries: &'a [u16]) -> CountedPair<'a> {
+        CountedPair {
+            rank,
+            letters: &self.letters,
+            marks: &self.marks,
+            entries,
             counts: &self.counts,
         }
     }

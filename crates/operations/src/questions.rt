@@ -1,7 +1,7 @@
 // The calls that change no memory: questions about words, about one tableau, and about two.
 use crate::calls::{FIRST, OTHER, SECOND};
 use crate::given::Given;
-use lent::tableaux::{CountedPair, CountedTableau};
+use lent::tableaux::{CountedTableau, Tableau};
 use notation::answers::{Values, print_answer};
 use notation::arguments::Arguments;
 use refusals::refusal::Refusal;
@@ -65,18 +65,17 @@ pub(crate) fn one_tableau<T: Values + Drop, F: Fn(&CountedTableau<'_>) -> Result
 }
 
 // How often a move on a tableau can be made.
-pub(crate) fn count_tableau<
-    F: Fn(usize, usize, &[u8], &[u8], &[u16; 64]) -> Result<usize, Refusal>,
->(rt: &impl Print, mut call: Arguments<'_>, count: F) -> io::Result<()>
+pub(crate) fn count_tableau<F: Fn(usize, &CountedTableau<'_>) -> Result<usize, Refusal>>(
+    rt: &impl Print,
+    mut call: Arguments<'_>,
+    count: F,
+) -> io::Result<()>
     requires { F.IsAlwaysCallable count }
 {
     let rank = call.number();
     let index = call.number();
     let given = Given::first(&mut call)?;
-    print_answer(
-        rt,
-        count(rank, index, &given.letters, &given.marks, &given.counts),
-    )
+    print_answer(rt, count(index, &given.at(rank)))
 }
 
 // A look at a cell: the second number is its place.
@@ -85,7 +84,12 @@ pub(crate) fn look(rt: &impl Print, mut call: Arguments<'_>) -> io::Result<()> {
     let place = call.number();
     let letters = call.bytes(FIRST)?;
     let marks = call.bytes(SECOND)?;
-    print_answer(rt, look_once(rank, &letters, &marks, place))
+    let tableau = Tableau {
+        rank,
+        letters: &letters,
+        marks: &marks,
+    };
+    print_answer(rt, look_once(&tableau, place))
 }
 
 // A check of a pair.
@@ -93,14 +97,7 @@ pub(crate) fn check_pair(rt: &impl Print, mut call: Arguments<'_>) -> io::Result
     let rank = call.number();
     let given = Given::first(&mut call)?;
     let entries = call.entries(OTHER)?;
-    let pair = CountedPair {
-        rank,
-        letters: &given.letters,
-        marks: &given.marks,
-        entries: &entries,
-        counts: &given.counts,
-    };
-    print_answer(rt, check_counted_pair(&pair))
+    print_answer(rt, check_counted_pair(&given.pair_at(rank, &entries)))
 }
 
 // A question about two tableaux.

@@ -6,7 +6,7 @@ use class_numbers::classes::class_word;
 use columns::reading::column_reading;
 use conversions::former::convert_lines;
 use inverses::way_back::word_of_pair;
-use lent::tableaux::{Pair, Tableau};
+use lent::tableaux::{CountedPair, Pair, Tableau};
 use notation::answers::print_answer;
 use notation::arguments::Arguments;
 use notation::printing::{print_list, print_text};
@@ -117,18 +117,13 @@ pub(crate) fn write_pair(rt: &impl Print, mut call: Arguments<'_>) -> io::Result
 // The column reading of a tableau.
 pub(crate) fn read_column(rt: &impl Print, mut call: Arguments<'_>) -> io::Result<()> {
     let rank = call.number();
-    let letters = call.bytes(FIRST)?;
-    let marks = call.bytes(SECOND)?;
-    let counts = call.counts()?;
+    let given = Given::first(&mut call)?;
     let mut word = call.bytes(OTHER)?;
-    print_answer(
-        rt,
-        column_reading(rank, &letters, &marks, &counts, &mut word),
-    )?;
+    print_answer(rt, column_reading(&given.at(rank), &mut word))?;
     print_list(rt, &word)
 }
 
-// The word of a pair.
+// The word of a pair, whose entries stand before the counts.
 pub(crate) fn word_back(rt: &impl Print, mut call: Arguments<'_>) -> io::Result<()> {
     let rank = call.number();
     let letters = call.bytes(FIRST)?;
@@ -136,10 +131,14 @@ pub(crate) fn word_back(rt: &impl Print, mut call: Arguments<'_>) -> io::Result<
     let entries = call.entries(OTHER)?;
     let counts = call.counts()?;
     let mut word = call.bytes(OTHER)?;
-    print_answer(
-        rt,
-        word_of_pair(rank, &letters, &marks, &entries, &counts, &mut word),
-    )?;
+    let pair = CountedPair {
+        rank,
+        letters: &letters,
+        marks: &marks,
+        entries: &entries,
+        counts: &counts,
+    };
+    print_answer(rt, word_of_pair(&pair, &mut word))?;
     print_list(rt, &word)
 }
 
@@ -149,16 +148,6 @@ pub(crate) fn word_by_number(rt: &impl Print, mut call: Arguments<'_>) -> io::Re
     let number = call.number() as u64;
     let given = Given::first(&mut call)?;
     let mut word = call.bytes(OTHER)?;
-    print_answer(
-        rt,
-        class_word(
-            rank,
-            &given.letters,
-            &given.marks,
-            &given.counts,
-            number,
-            &mut word,
-        ),
-    )?;
+    print_answer(rt, class_word(&given.at(rank), number, &mut word))?;
     print_list(rt, &word)
 }
