@@ -1,14 +1,13 @@
 -- Pair back to word: one pass over the cells stores each letter at the place that the entry of its cell tells.
 --     Writing xs rs old left_xs left_rs now  the loop's invariant, over the letters and entries left: start_writing, turn_writing, end_writing
---     entry_least, entry_under           an entry tells a place of the word
+--     entry_least, entry_under           an entry tells a place of the word; of cell k: least_at, under_at, turn_at
 --     way_back_refused, way_back_passed  the reply and the lent word from the verdict on
 --     way_back_recorded                  what holds once the checks have passed
 --     going_back                         the ruleset of the way back
 -- The word that is to be is in Recorded. Assumes nothing.
 use Rattle.std.specs.Prelude.{Result, Ok, Err}
-use Rattle.std.specs.Prelude.{ℕ, suc, ◌-◌, ◌≤◌, ◌<◌, ◌≡◌, refl, List, [], ◌∷◌, Bool, true, false, cond, eqb, length, get_or, set, ◌⊎◌}
-use Rattle.std.proofs.Common.{arith, sym, ◌∙◌, inl, inr, length-set, ext_get_or, get_or-set_other, get_or-set_same, rules, eqb-true, eq-eqb}
-use Rattle.std.proofs.lemmas.Slice.Zip.{either_empty_from_Zip}
+use Rattle.std.specs.Prelude.{ℕ, suc, ◌+◌, drop, ◌-◌, ◌≤◌, ◌<◌, ◌≡◌, refl, List, [], ◌∷◌, Bool, true, false, cond, eqb, length, get_or, set, ◌⊎◌}
+use Rattle.std.proofs.Common.{add-one, drop-cons, length-drop, arith, sym, ◌∙◌, inl, inr, length-set, ext_get_or, get_or-set_other, get_or-set_same, rules, eqb-true, eq-eqb}
 use Rattle.std.proofs.lemmas.Bool.{eqb-false}
 use Rattle.hypoplactic.specs.Words.{Within, count}
 use Rattle.hypoplactic.specs.Ribbons.{PairAt, Simple}
@@ -110,6 +109,20 @@ module _ {xs rs old now left_xs left_rs : List ℕ} (w : Writing xs rs old left_
           let none : count r more_rs ≡ 0 = omega (arith, simple r) in
           rw place at none
 
+-- The same of cell k, where those before it are stored.
+module _ {xs rs old now : List ℕ} {k : ℕ} (w : Writing xs rs old (drop k xs) (drop k rs) now) (l : k < length xs) where
+  there : k < length rs
+  there = omega (arith, w.alike, length-drop k xs, length-drop k rs)
+
+  pub least_at : 1 ≤ get_or rs k 0
+  least_at = entry_least w (drop-cons rs k 0 there)
+
+  pub under_at : get_or rs k 0 - 1 < length now
+  under_at = entry_under w (drop-cons rs k 0 there)
+
+  pub turn_at : {q : ℕ} → q ≡ get_or rs k 0 → Writing xs rs old (drop (k + 1) xs) (drop (k + 1) rs) (set now (q - 1) (get_or xs k 0))
+  turn_at t = rw (add-one k) (turn_writing w (drop-cons xs k 0 l) (drop-cons rs k 0 there) t)
+
 -- Past the last cell the word is written.
 pub end_writing : {xs rs old now left_xs left_rs : List ℕ} → Recorded xs rs (length old) → Writing xs rs old left_xs left_rs now
     → (left_xs ≡ []) ⊎ (left_rs ≡ []) → now ≡ written (word_of xs rs) old
@@ -148,11 +161,9 @@ module _ {v : Result (Unit {0}) Refusal} (n : ℕ) (xs ms rs cs out : List ℕ)
 
 pub ruleset going_back = (
   start_writing,
-  entry_least,
-  entry_under,
-  turn_writing,
-  end_writing,
-  either_empty_from_Zip,
+  least_at,
+  under_at,
+  turn_at,
   way_back_refused,
   way_back_passed,
   way_back_recorded,

@@ -32,8 +32,8 @@ fn write_word(letters: &[u8], entries: &[u16], word: &mut [u8])
     requires { Recorded letters.now entries.now (length word.old) }
     ensures { word.new ≡ written (word_of letters.now entries.now) word.old }
 {
-    for (letter, entry) in letters.iter().zip(entries) {
-        word[usize::from(*entry) - 1] = *letter;
+    for (cell, &letter) in letters.iter().enumerate() {
+        word[usize::from(entries[cell]) - 1] = letter;
     }
 }
 

@@ -1,12 +1,13 @@
 -- `inverses::way_back::write_word` meets its contract, by the laws of specs/WayBack. Assumes nothing.
-use Rattle.std.proofs.lemmas.Slice.Zip.{either_empty_from_Zip}
-use Rattle.inverses.specs.WayBack.{end_writing, going_back}
+use Rattle.std.specs.Prelude.{◌≡◌, [], drop}
+use Rattle.std.proofs.Common.{arith, drop_of_length-le, inl}
+use Rattle.inverses.specs.WayBack.{end_writing, turn_at}
 use Rattle.inverses.proofs.way_back.write_word.Goals as goal
 
-pub loop-letter-preserved : goal.loop-letter-preserved
-loop-letter-preserved c = search (c.in-Some.ensures.steps.0, c.in-Some.ensures.steps.1, going_back)
+pub loop-cell-preserved : goal.loop-cell-preserved
+loop-cell-preserved c = turn_at c.loop-cell.invariant (omega arith) c.from.ensures
 
--- The loop ends where letters or entries do.
 pub returns : goal.returns
 returns c =
-    end_writing c.requires c.loop-letter.invariant (either_empty_from_Zip c.loop-letter.letter-iterator c.next.new.self _ c.in-None.is c.next.ensures.steps)
+    let none : drop c.loop-cell.cell c.args.letters.now ≡ [] = drop_of_length-le c.args.letters.now {i = c.loop-cell.cell} (omega arith) in
+    end_writing c.requires c.loop-cell.invariant (inl none)
