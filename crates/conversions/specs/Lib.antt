@@ -1,4 +1,3 @@
-pub mod Breaks
 pub mod Values
 pub mod Conversions
 pub mod Program

@@ -10,8 +10,7 @@
 --     values_written               what is said of the letters as bytes is said of the values
 --     valuing                      the ruleset of such values
 -- That the converter then replies as the writer of P lines does is convert_as_written of former_lines. Assumes nothing.
-use Rattle.std.specs.Prelude.{Option, Some, None, Result, Ok, Err}
-use Rattle.std.specs.Prelude.{ℕ, ◌-◌, ◌≤◌, ◌≡◌}
+use Rattle.std.specs.Prelude.{ℕ, ◌≤◌, ◌≡◌, Ok}
 use Rattle.std.proofs.Math.Path.{refl, sym, ap}
 use Rattle.std.proofs.Common.{◌∙◌, rules}
 use mathlib.Core.List.{List, [], ◌∷◌, map}
@@ -27,7 +26,7 @@ use Rattle.outcomes.proofs.Theory.Passing.{Passing, first-append, first-passed}
 use Rattle.former_lines.specs.Conversion.{converted}
 use Rattle.former_lines.proofs.Theory.Conversions.{convert_as_written}
 use Rattle.refusals.specs.Running.{all_passing}
-use Rattle.refusals.specs.Said.{said_refusal, said_verdict}
+use Rattle.refusals.specs.Said.{said_refusal}
 use Rattle.refusals.specs.declared.refusal.Refusal.{Refusal}
 use Rattle.acceptance.specs.Bytes.{narrowed}
 use Rattle.scans.specs.Kept.{kept, kept-take}
@@ -72,17 +71,16 @@ pair_narrowed n xs ms rs out h =
     (λ ws. rising_judged ws ∷ marks_judged ws ms ∷ entries_judged (length ws) rs ∷ recording_judged rs ms ∷ room_judged (length (p_line n ws ms rs)) (length out) ∷ [])
     (λ ws. gives (length (p_line n ws ms rs) ∷ [])) (λ ws. written (p_line n ws ms rs) out) out h (rw (length-map xs narrowed))
 
--- The verdict of the numbers.
-module _ {v : Result (Unit {0}) Refusal} (n k l : ℕ) (ls ms es out : List ℕ) (e : said_verdict v ≡ first (count_judgements n k l) passed) where
-  -- It refuses,
-  pub values_stopped : {q : Refusal} → v ≡ Err q → (said_refusal q, out) ≡ values_run n k l ls ms es out
+module _ (n k l : ℕ) (ls ms es out : List ℕ) where
+  -- A number is refused,
+  pub values_stopped : (q : Refusal) → said_refusal q ≡ first (count_judgements n k l) passed → (said_refusal q, out) ≡ values_run n k l ls ms es out
   unfolding values_run
-  values_stopped f = rw (← e, f)
+  values_stopped q e = rw (← e)
 
-  -- or passes.
-  module _ (f : v ≡ Ok tt) where
+  -- or they pass.
+  module _ (e : gives [] ≡ first (count_judgements n k l) passed) where
     numbers : Passing (count_judgements n k l)
-    numbers = all_passing (count_judgements n k l) e f
+    numbers = all_passing {v = Ok tt} (count_judgements n k l) e refl
 
     cells_few : k ≤ 1024
     cells_few = (length-judged k).0 numbers.1.0
@@ -104,20 +102,17 @@ module _ {v : Result (Unit {0}) Refusal} (n k l : ℕ) (ls ms es out : List ℕ)
     values_entries h = omega (arith, entries_few, h.entries_room)
 
     -- What the writer of P lines says of the letters as bytes is said of the values.
-    pub values_written : (bytes : List ℕ) {said : Said × List ℕ} → Roomed ls ms es → bytes ≡ kept (map narrowed (take (k - 0) ls)) (blank 1024)
-        → said ≡ p_line_run n (take (k - 0) bytes) (take (k - 0) ms) (take (l - 0) es) out → said ≡ values_run n k l ls ms es out
+    pub values_written : (bytes : List ℕ) {said : Said × List ℕ} → Roomed ls ms es → bytes ≡ kept (map narrowed (take k ls)) (blank 1024)
+        → said ≡ p_line_run n (take k bytes) (take k ms) (take l es) out → said ≡ values_run n k l ls ms es out
     unfolding values_run
     values_written bytes {said} h a w =
-        let cells : k - 0 ≡ k = omega arith in
-        let entries : l - 0 ≡ l = omega arith in
         let here : length (map narrowed (take k ls)) ≡ k = length-map (take k ls) narrowed ∙ length-take-le k ls (values_letters h) in
-        let kept_are : bytes ≡ kept (map narrowed (take k ls)) (blank 1024) = rw cells at a in
+        let kept_are : bytes ≡ kept (map narrowed (take k ls)) (blank 1024) = a in
         let room : length (map narrowed (take k ls)) ≤ length (blank 1024) = omega (arith, cells_few, blank_long 1024 {xs = blank 1024} refl) in
         let all : take k bytes ≡ map narrowed (take k ls) = rw kept_are (rw here at (kept-take (map narrowed (take k ls)) (blank 1024) room)) in
-        let wrote : said ≡ p_line_run n (take k bytes) (take k ms) (take l es) out = rw (cells, entries) at w in
         let few : length (take l es) ≤ 1024 = rw (length-take-le l es (values_entries h)) entries_few in
         let through : first (count_judgements n k l) passed ≡ passed = (first-passed (count_judgements n k l)).1 numbers in
-        wrote ∙ ap (λ (xs : List ℕ). p_line_run n xs (take k ms) (take l es) out) all
+        w ∙ ap (λ (xs : List ℕ). p_line_run n xs (take k ms) (take l es) out) all
         ∙ pair_narrowed n (take k ls) (take k ms) (take l es) out ((rank_judged_lem n).0 numbers.0).1
         ∙ sym (convert_as_written n (take k ls) (take k ms) (take l es) out few)
         ∙ rw through refl

@@ -1,11 +1,10 @@
 // A T text and an N text, which were written of one pair by a version without P lines, as the pair's P line. Both texts are scanned into local memory, then
 // their values are judged as one pair and written.
-ghost use Rattle.std.specs.Prelude.{[], ◌∷◌, ◌≡◌, ◌+◌};
+ghost use Rattle.std.specs.Prelude.{[], ◌∷◌, ◌≡◌};
 ghost use Rattle.former_lines.specs.Conversion.{convert_run};
 ghost use Rattle.outcomes.specs.Judgements.{length_judged, rank_judged};
-ghost use Rattle.outcomes.specs.Replies.{first, passed, refused};
-ghost use Rattle.refusals.specs.Said.{said_refusal, said_verdict, said_value};
-ghost use Rattle.conversions.specs.Breaks.{BreakFits, broken_at};
+ghost use Rattle.outcomes.specs.Replies.{first, passed};
+ghost use Rattle.refusals.specs.Said.{said_verdict, said_value};
 ghost use Rattle.conversions.specs.Values.{Roomed, values_run};
 
 use lent::tableaux::Pair;
@@ -14,7 +13,7 @@ use line_items::room::{no_letters, no_marks};
 use refusals::chains::check_limits;
 use refusals::numbers::check_length;
 use refusals::refusal::Refusal;
-use scans::line::{Line, scan_line};
+use scans::line::scan_line;
 use writers::line::write_pair_line;
 
 // 1 and 2 of a tableau that was read, and 2 of the entries beside it.
@@ -25,18 +24,8 @@ fn check_counts(rank: usize, cells: usize, entries: usize) -> Result<(), Refusal
     check_length(entries)
 }
 
-// 14 where a line breaks the grammar, so many bytes further on as there are before its text.
-fn break_of(before: usize, line: Line) -> Refusal
-    requires { BreakFits before line }
-    ensures { said_refusal result ≡ refused 14 (before + broken_at line) }
-{
-    let Line::Broken(place) = line else {
-        return Refusal::Line(before);
-    };
-    Refusal::Line(before + place)
-}
-
 // The values of both lines, of which memory holds as many items as it has places: their P line, or the refusal of 1 to 8 or 13.
+#[tactic(auto, using(crate::specs::Values::valuing))]
 fn write_values(
     rank: usize,
     cells: usize,
@@ -51,13 +40,13 @@ fn write_values(
         ≡ values_run rank cells count letters.now marks.now entries.now out.old }
 {
     check_counts(rank, cells, count)?;
-    let bytes = narrow_letters(&letters[0..cells]);
+    let bytes = narrow_letters(&letters[..cells]);
     write_pair_line(
         &Pair {
             rank,
-            letters: &bytes[0..cells],
-            marks: &marks[0..cells],
-            entries: &entries[0..count],
+            letters: &bytes[..cells],
+            marks: &marks[..cells],
+            entries: &entries[..count],
         },
         out,
     )
@@ -65,6 +54,7 @@ fn write_values(
 
 // The P line of a T text and an N text, or the refusal of 14, 1 to 8 or 13, which leaves lent memory as it was. The places of 14 in the second text count on
 // from the first's bytes.
+#[tactic(auto, using(crate::specs::Conversions::converting))]
 pub fn convert_lines(tableau: &[u8], recording: &[u8], out: &mut [u8]) -> Result<usize, Refusal>
     ensures { (said_value result, out.new) ≡ convert_run tableau.now recording.now out.old }
 {
@@ -73,13 +63,19 @@ pub fn convert_lines(tableau: &[u8], recording: &[u8], out: &mut [u8]) -> Result
     let mut entries = no_letters();
     // An N line tells no marks, so none are lent.
     let mut none = [0u8; 0];
-    let first = scan_line(tableau, b'T', true, true, &mut letters, &mut marks);
-    let second = scan_line(recording, b'N', false, false, &mut entries, &mut none);
-    let Line::Read(rank, cells, _) = first else {
-        return Err(break_of(0, first));
-    };
-    let Line::Read(_, count, _) = second else {
-        return Err(break_of(tableau.len(), second));
-    };
-    write_values(rank, cells, count, &letters, &marks, &entries, out)
+    match scan_line(tableau, b'T', true, true, &mut letters, &mut marks) {
+        Err(broken) => Err(Refusal::Line(broken.place)),
+        Ok(head) => match scan_line(recording, b'N', false, false, &mut entries, &mut none) {
+            Err(broken) => Err(Refusal::Line(tableau.len() + broken.place)),
+            Ok(second) => write_values(
+                head.rank,
+                head.count,
+                second.count,
+                &letters,
+                &marks,
+                &entries,
+                out,
+            ),
+        },
+    }
 }
