@@ -36,6 +36,7 @@ pub(crate) fn elements(alloc: Global, list: &[u8], room: usize) -> Result<Vec<u1
 {
     let mut all = Vec::new(alloc);
     let mut rest = list;
+    // Kept: a turn cuts off an item, which is all that the loop goes by.
     while !rest.is_empty() {
         let (item, after) = cut(rest, b',');
         let Item {
@@ -61,6 +62,7 @@ pub(crate) fn text_bytes(alloc: Global, text: &[u8], room: usize) -> Result<Vec<
 {
     let mut all = Vec::new(alloc);
     let mut rest = text;
+    // Kept: a turn cuts off a part and the group after it.
     while !rest.is_empty() {
         let (plain, group) = cut(rest, b'(');
         let (part, after) = cut(group, b')');

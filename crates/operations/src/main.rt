@@ -26,6 +26,7 @@ fn answer_line(rt: &impl Print, alloc: Global, line: &[u8]) -> io::Result<()> {
 // All lines of a table, and what came of each.
 fn answer_table(rt: &impl Print, alloc: Global, table: &[u8]) -> io::Result<()> {
     let mut rest = table;
+    // Kept: a turn cuts off a line.
     while !rest.is_empty() {
         let (line, after) = cut(rest, b'\n');
         answer_line(rt, alloc, line)?;
