@@ -2,14 +2,12 @@
 --     pair_narrowed                              letters as bytes are replied to as the letters
 --     letters_room, marks_room, entries_room     memory for items is as long as it was
 --     pair_broken, pair_stopped, pair_stored     the line breaks the grammar; its limits are refused; what is said of its values is said of the line
---     reading_pairs                              the ruleset of the reader
 -- T lines are in Readers, W lines in word_readers. Assumes nothing.
-use Rattle.std.specs.Prelude.{Option, Some, None, Result, Ok, Err}
-use Rattle.std.specs.Prelude.{ℕ, ◌-◌, ◌≤◌, ◌≡◌, refl, false, true, List, [], ◌∷◌, map, length, drop, take}
-use Rattle.std.proofs.Common.{sym, ◌∙◌, rules}
+use Rattle.std.specs.Prelude.{Result, Ok, Err}
+use Rattle.std.specs.Prelude.{ℕ, ◌≤◌, ◌≡◌, refl, false, true, List, [], ◌∷◌, map, length, take}
+use Rattle.std.proofs.Common.{sym, ◌∙◌}
 use Rattle.std.proofs.lemmas.List.{length-map}
-use Rattle.grammar.specs.Reading.{broken, got, letters, marks}
-use Rattle.numerals.specs.Numbers.{Told}
+use Rattle.grammar.specs.Reading.{letters, marks}
 use Rattle.outcomes.specs.Counts.{counts_of}
 use Rattle.hypoplactic.specs.Insertion.{Pair, pair_with}
 use Rattle.outcomes.specs.Judgements.{alike_judged, entries_judged, length_judged, letters_judged, marks_judged, pair_rooms, rank_judged, recording_judged, rising_judged}
@@ -24,8 +22,8 @@ use Rattle.scans.specs.Kept.{kept}
 use Rattle.scans.specs.Kinds.{pair_whole}
 use Rattle.scans.specs.PairScans.{PairScanned, read_pair}
 use Rattle.scans.specs.Scans.{Scanned, said_cells}
-use Rattle.scans.specs.declared.line.Line.{Line}
-use Rattle.scans.specs.declared.line.Line.TheVariants as line
+use Rattle.scans.specs.declared.line.Head.{Head}
+use Rattle.numerals.specs.declared.numbers.Broken.{Broken}
 use Rattle.line_items.specs.Blank.{blank}
 use Rattle.line_items.specs.Items as items
 use Rattle.line_items.specs.Narrowed.{narrowed_run}
@@ -39,7 +37,7 @@ pair_narrowed out counts n xs ms rs l =
     ∷ pair_rooms (length ws) (length out.letters) (length out.marks) (length out.recording))
     (λ ws. gives (n ∷ length ws ∷ [])) (λ ws. (written_pair (pair_with ws ms rs) out, counts_of ws)) (out, counts) l (rw (length-map xs narrowed))
 
-module _ {text old_letters old_marks old_entries xs ms rs : List ℕ} {cells entries : List (ℕ × ℕ)} {r : Line}
+module _ {text old_letters old_marks old_entries xs ms rs : List ℕ} {cells entries : List (ℕ × ℕ)} {r : Result Head Broken}
     (s : PairScanned text (read_pair text) cells entries old_letters old_marks old_entries xs ms rs r) where
   -- The cells and the entries, each as the items of a line.
   cells_scanned : Scanned text true (said_cells text cells r) cells old_letters old_marks xs ms r
@@ -58,47 +56,43 @@ module _ {text old_letters old_marks old_entries xs ms rs : List ℕ} {cells ent
   pub entries_room : old_entries ≡ blank 1024 → length rs ≡ 1024
   entries_room = items.letters_room entries_scanned
 
-  module _ (out_letters out_marks out_entries out_counts : List ℕ) where
-    -- The three lent lists.
-    abbrev out : Pair
-    out = pair_with out_letters out_marks out_entries
+module _ (out_letters out_marks out_entries out_counts : List ℕ) where
+  -- The three lent lists.
+  abbrev out : Pair
+  out = pair_with out_letters out_marks out_entries
 
-    pub pair_broken : {p : ℕ} → r ≡ line.Broken p → (refused 14 p, (out, out_counts)) ≡ read_p_run text out out_counts
+  module _ {text old_letters old_marks old_entries xs ms rs : List ℕ} {cells entries : List (ℕ × ℕ)} where
+    pub pair_broken : {b : Broken} → PairScanned text (read_pair text) cells entries old_letters old_marks old_entries xs ms rs (Err b)
+        → (refused 14 b.place, (out, out_counts)) ≡ read_p_run text out out_counts
     unfolding read_p_run
-    pair_broken {p} e =
-        let f : Told text (read_pair text) (broken (drop p text)) p = rw e at s.told in
-        rw (pair_whole text, f.says, items.break_place_lem text p f.within)
+    pair_broken {b} s = rw (pair_whole text, s.told.says, items.break_place_lem text b.place s.told.within)
 
-    module _ {n k next : ℕ} (e : r ≡ line.Read n k next) where
-      pair_is : read_p_run text out out_counts ≡ pair_read out out_counts n (letters cells) (marks cells) (letters entries)
+    module _ {h : Head} (s : PairScanned text (read_pair text) cells entries old_letters old_marks old_entries xs ms rs (Ok h)) where
+      pair_is : read_p_run text out out_counts ≡ pair_read out out_counts h.rank (letters cells) (marks cells) (letters entries)
       unfolding read_p_run
-      pair_is =
-          let f : Told text (read_pair text) (got (n, cells, entries) (drop next text)) next = rw e at s.told in
-          rw (pair_whole text, f.says)
+      pair_is = rw (pair_whole text, s.told.says)
 
-      module _ {v : Result (Unit {0}) Refusal} (h : said_verdict v ≡ first (rank_judged n ∷ length_judged k ∷ []) passed) where
-        pub pair_stopped : {f : Refusal} → v ≡ Err f → (said_refusal f, (out, out_counts)) ≡ read_p_run text out out_counts
-        pair_stopped {f} q =
-            let ws = letters cells in
-            let us = marks cells in
-            let vs = letters entries in
-            run-stopped (rank_judged n ∷ length_judged (length ws) ∷ [])
-            (alike_judged (length ws) (length us ∷ length vs ∷ []) ∷ letters_judged n ws ∷ rising_judged ws ∷ marks_judged ws us ∷ entries_judged (length ws) vs
-            ∷ recording_judged vs us ∷ pair_rooms (length ws) (length out_letters) (length out_marks) (length out_entries))
-            (n ∷ length ws ∷ []) (written_pair (pair_with ws us vs) out, counts_of ws) (out, out_counts) f (rw (items.letters_long cells_scanned e) h) q
-            ∙ sym pair_is
+      pub pair_stopped : (f : Refusal) → said_verdict (Err f) ≡ first (rank_judged h.rank ∷ length_judged h.count ∷ []) passed
+          → (said_refusal f, (out, out_counts)) ≡ read_p_run text out out_counts
+      pair_stopped f e =
+          let ws = letters cells in
+          let us = marks cells in
+          let vs = letters entries in
+          run-stopped (rank_judged h.rank ∷ length_judged (length ws) ∷ [])
+          (alike_judged (length ws) (length us ∷ length vs ∷ []) ∷ letters_judged h.rank ws ∷ rising_judged ws ∷ marks_judged ws us ∷ entries_judged (length ws) vs
+          ∷ recording_judged vs us ∷ pair_rooms (length ws) (length out_letters) (length out_marks) (length out_entries))
+          (h.rank ∷ length ws ∷ []) (written_pair (pair_with ws us vs) out, counts_of ws) (out, out_counts) f (rw (items.letters_long (cells_scanned s)) e) refl
+          ∙ sym pair_is
 
-        pub pair_stored : (bytes : List ℕ) {said : Said × (Pair × List ℕ)} → v ≡ Ok tt → old_letters ≡ blank 1024 → old_marks ≡ blank 1024
-            → old_entries ≡ blank 1024 → bytes ≡ kept (map narrowed (take (k - 0) xs)) (blank 1024)
-            → said ≡ pair_read out out_counts n (take (k - 0) bytes) (take (k - 0) ms) (take (k - 0) rs) → said ≡ read_p_run text out out_counts
-        pair_stored bytes {said} q l o p a w =
-            let is : take (k - 0) bytes ≡ map narrowed (letters cells) =
-            items.bytes_all cells_scanned e a (limit_part n k h q xs (letters_room l)) (limit_length n k h q) in
-            let steps : take (k - 0) ms ≡ marks cells =
-            items.kept_all cells_scanned e (λ c. c.1) old_marks s.marks_are (limit_part n k h q ms (marks_room o)) in
-            let places : take (k - 0) rs ≡ letters entries =
-            items.kept_all entries_scanned e (λ c. c.0) old_entries s.entries_are (limit_part n k h q rs (entries_room p)) in
-            let named : said ≡ pair_read out out_counts n (map narrowed (letters cells)) (marks cells) (letters entries) = rw (is, steps, places) at w in
-            named ∙ pair_narrowed out out_counts n (letters cells) (marks cells) (letters entries) (limit_rank n k h q) ∙ sym pair_is
-
-pub ruleset reading_pairs = (limit_part, letters_room, marks_room, entries_room, pair_broken, pair_stopped, pair_stored, rules)
+      pub pair_stored : (bytes : List ℕ) {said : Said × (Pair × List ℕ)} → said_verdict (Ok tt) ≡ first (rank_judged h.rank ∷ length_judged h.count ∷ []) passed
+          → old_letters ≡ blank 1024 → old_marks ≡ blank 1024 → old_entries ≡ blank 1024 → bytes ≡ kept (map narrowed (take h.count xs)) (blank 1024)
+          → said ≡ pair_read out out_counts h.rank (take h.count bytes) (take h.count ms) (take h.count rs) → said ≡ read_p_run text out out_counts
+      pair_stored bytes {said} e l o p a w =
+          let is : take h.count bytes ≡ map narrowed (letters cells) =
+          items.bytes_all (cells_scanned s) a (limit_part h.rank h.count e xs (letters_room s l)) (limit_length h.rank h.count e) in
+          let steps : take h.count ms ≡ marks cells =
+          items.kept_all (cells_scanned s) (λ c. c.1) old_marks s.marks_are (limit_part h.rank h.count e ms (marks_room s o)) in
+          let places : take h.count rs ≡ letters entries =
+          items.kept_all (entries_scanned s) (λ c. c.0) old_entries s.entries_are (limit_part h.rank h.count e rs (entries_room s p)) in
+          let named : said ≡ pair_read out out_counts h.rank (map narrowed (letters cells)) (marks cells) (letters entries) = rw (is, steps, places) at w in
+          named ∙ pair_narrowed out out_counts h.rank (letters cells) (marks cells) (letters entries) (limit_rank h.rank h.count e) ∙ sym pair_is

@@ -3,7 +3,7 @@
 --     pair_refused, pair_passed      a pair, and its letter counts
 --     storing_pairs                  their ruleset
 -- Words and tableaux are in Stores. Assumes nothing.
-use Rattle.std.specs.Prelude.{Option, Some, None, Result, Ok, Err}
+use Rattle.std.specs.Prelude.{Result, Ok, Err}
 use Rattle.std.specs.Prelude.{ℕ, ◌≡◌, List, [], ◌∷◌, length}
 use Rattle.std.proofs.Common.{arith, rules}
 use Rattle.hypoplactic.specs.Insertion.{pair_with}

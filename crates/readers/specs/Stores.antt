@@ -3,7 +3,7 @@
 --     tableau_refused, tableau_passed      a tableau, and its letter counts
 --     storing_tableaux                     the ruleset
 -- Pairs are in PairStores, words in word_readers. Assumes nothing.
-use Rattle.std.specs.Prelude.{Option, Some, None, Result, Ok, Err}
+use Rattle.std.specs.Prelude.{Result, Ok, Err}
 use Rattle.std.specs.Prelude.{ℕ, ◌≡◌, List, [], ◌∷◌, length}
 use Rattle.std.proofs.Common.{arith, rules}
 use Rattle.hypoplactic.specs.Words.{Accepted}

@@ -5,7 +5,6 @@ ghost use Rattle.outcomes.specs.Judgements.{pair_judgements, pair_rooms};
 ghost use Rattle.outcomes.specs.LineReadings.{pair_read, read_p_run};
 ghost use Rattle.refusals.specs.Running.{checks_then};
 ghost use Rattle.refusals.specs.Said.{said_sizes, said_verdict};
-ghost use Rattle.readers.specs.PairStores.{PairCopied};
 
 use buffers::copies::copy;
 use lent::tableaux::Pair;
@@ -14,57 +13,24 @@ use line_items::room::{no_letters, no_marks};
 use refusals::answers::Sizes;
 use refusals::chains::{check_limits, check_pair_rooms};
 use refusals::refusal::Refusal;
-use scans::line::Line;
+use scans::line::Head;
 use scans::pair::scan_pair;
 use validity::tableau::check_pair;
 use words::tables::letter_counts;
 
 // 1 to 8 of a pair that was read, and 13 of lent letters, marks and entries.
-fn check_pair_read(
-    rank: usize,
-    cells: &[u8],
-    steps: &[u8],
-    places: &[u16],
-    letters: usize,
-    marks: usize,
-    entries: usize,
-) -> Result<(), Refusal>
+fn check_pair_read(pair: &Pair, letters: usize, marks: usize, entries: usize) -> Result<(), Refusal>
     ensures { said_verdict result
-        ≡ checks_then (pair_judgements rank cells.now steps.now places.now)
-        (pair_rooms (length cells.now) letters marks entries) }
+        ≡ checks_then (pair_judgements pair.now.rank pair.now.letters.now pair.now.marks.now pair.now.entries.now)
+        (pair_rooms (length pair.now.letters.now) letters marks entries) }
 {
-    check_pair(&Pair {
-        rank,
-        letters: cells,
-        marks: steps,
-        entries: places,
-    })?;
-    check_pair_rooms(cells.len(), letters, marks, entries)
-}
-
-// Letters, marks and entries, into the beginning of lent memory.
-fn copy_pair(
-    cells: &[u8],
-    steps: &[u8],
-    places: &[u16],
-    letters: &mut [u8],
-    marks: &mut [u8],
-    entries: &mut [u16],
-)
-    ensures { PairCopied cells.now steps.now places.now
-        letters.old marks.old entries.old letters.new marks.new entries.new }
-{
-    copy(cells, letters);
-    copy(steps, marks);
-    copy(places, entries);
+    check_pair(pair)?;
+    check_pair_rooms(pair.letters.len(), letters, marks, entries)
 }
 
 // A pair that was read, into lent letters, marks, entries and letter counts.
 fn store_pair(
-    rank: usize,
-    cells: &[u8],
-    steps: &[u8],
-    places: &[u16],
+    pair: &Pair,
     letters: &mut [u8],
     marks: &mut [u8],
     entries: &mut [u16],
@@ -72,22 +38,16 @@ fn store_pair(
 ) -> Result<Sizes, Refusal>
     ensures { (said_sizes result, (pair_with letters.new marks.new entries.new, counts.new))
         ≡ pair_read (pair_with letters.old marks.old entries.old) counts.old
-        rank cells.now steps.now places.now }
+        pair.now.rank pair.now.letters.now pair.now.marks.now pair.now.entries.now }
 {
-    check_pair_read(
-        rank,
-        cells,
-        steps,
-        places,
-        letters.len(),
-        marks.len(),
-        entries.len(),
-    )?;
-    copy_pair(cells, steps, places, letters, marks, entries);
-    *counts = letter_counts(rank, cells);
+    check_pair_read(pair, letters.len(), marks.len(), entries.len())?;
+    copy(pair.letters, letters);
+    copy(pair.marks, marks);
+    copy(pair.entries, entries);
+    *counts = letter_counts(pair.rank, pair.letters);
     Ok(Sizes {
-        rank: rank,
-        count: cells.len(),
+        rank: pair.rank,
+        count: pair.letters.len(),
     })
 }
 
@@ -106,22 +66,18 @@ pub fn read_pair_line(
     let mut values = no_letters();
     let mut steps = no_marks();
     let mut places = no_letters();
-    let line = scan_pair(text, &mut values, &mut steps, &mut places);
-    match line {
-        Line::Broken(place) => Err(Refusal::Line(place)),
-        Line::Read(rank, count, _) => {
+    match scan_pair(text, &mut values, &mut steps, &mut places) {
+        Err(broken) => Err(Refusal::Line(broken.place)),
+        Ok(Head { rank, count, .. }) => {
             check_limits(rank, count)?;
-            let bytes = narrow_letters(&values[0..count]);
-            store_pair(
+            let bytes = narrow_letters(&values[..count]);
+            let pair = Pair {
                 rank,
-                &bytes[0..count],
-                &steps[0..count],
-                &places[0..count],
-                letters,
-                marks,
-                entries,
-                counts,
-            )
+                letters: &bytes[..count],
+                marks: &steps[..count],
+                entries: &places[..count],
+            };
+            store_pair(&pair, letters, marks, entries, counts)
         }
     }
 }

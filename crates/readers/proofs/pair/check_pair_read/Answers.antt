@@ -1,15 +1,15 @@
--- `readers::pair::check_pair_read` meets its contract, by the laws of refusals' specs/Running. Assumes nothing.
-use Rattle.refusals.specs.Running.{following}
+-- The checks of the pair refuse, or those of the rooms decide.
+use Rattle.std.proofs.Common.{[], length, refl}
+use Rattle.numerals.specs.Numbers.{passed}
+use Rattle.outcomes.specs.Judgements.{pair_judgements, pair_rooms}
+use Rattle.refusals.specs.Running.{checks_then, goes_further, stops_there}
 use Rattle.readers.proofs.pair.check_pair_read.Goals as goal
 
-pub check_pair_rooms-rooms-requires : goal.check_pair_rooms-rooms-requires
-check_pair_rooms-rooms-requires c = search following
-
-pub check_pair-requires : goal.check_pair-requires
-check_pair-requires c = search following
-
-pub or_else-requires : goal.or_else-requires
-or_else-requires c = search following
+pub returns-in_err-check_pair : goal.returns-in_err-check_pair
+returns-in_err-check_pair c = rw (passed c.from_residual.result c.from_residual.ensures.1) (stops_there _ c.in_err-check_pair.ensures _ _ refl)
 
 pub returns : goal.returns
-returns c = search following
+unfolding checks_then
+returns c =
+    goes_further (pair_judgements c.args.pair.now.rank c.args.pair.now.letters.now c.args.pair.now.marks.now c.args.pair.now.entries.now) c.in_ok-check_pair.ensures []
+    (pair_rooms (length c.args.pair.now.letters.now) c.args.letters c.args.marks c.args.entries) refl c.check_pair_rooms.ensures
