@@ -10,7 +10,6 @@ use taken_cells::first::{cell_of_letter, cell_of_number};
 use taken_cells::removal::{pulled, pulled_free};
 
 // Bytes at the beginning of 20.
-#[tactic(auto, using(crate::specs::Held::holding))]
 pub(crate) fn held(bytes: &[u8]) -> [u8; 20]
     ensures { Holds bytes.now result }
 {
