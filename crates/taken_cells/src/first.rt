@@ -8,20 +8,16 @@ use crate::removal::pulled_free;
 use ribbon_orders::orders::orders_of;
 
 // Whether the cell at a place may go first: no right step leads into it, and no down step out of it.
+#[tactic(auto, using(crate::specs::Choices::choosing))]
 fn may_go(marks: [u8; 20], cells: usize, place: usize) -> bool
     requires { (place < cells) × (cells ≤ 20) }
     ensures { result ≡ may_go (take cells marks) place }
 {
-    if marks[place] == 0 {
-        return false;
-    }
-    if cells <= place + 1 {
-        return true;
-    }
-    marks[place + 1] != 1
+    marks[place] != 0 && (cells <= place + 1 || marks[place + 1] != 1)
 }
 
 // How many orders are left once the cell at a place has gone first, 0 where it may not.
+#[tactic(auto, using(crate::specs::Choices::choosing))]
 fn orders_left(marks: [u8; 20], cells: usize, place: usize) -> u64
     requires { (place < cells) × (cells ≤ 20) }
     ensures { result ≡ orders_left (take cells marks) place }
@@ -29,9 +25,10 @@ fn orders_left(marks: [u8; 20], cells: usize, place: usize) -> u64
     if may_go(marks, cells, place) {
         let last = cells - 1;
         let fewer = pulled_free(marks, place, last);
-        return orders_of(&fewer[0..last]);
+        orders_of(&fewer[..last])
+    } else {
+        0
     }
-    0
 }
 
 // The place of a cell that goes first, and a number beside it: what is left of a number, or how many words come before.
@@ -42,6 +39,7 @@ pub struct First {
 }
 
 // The cell that goes first in the word with this number, and that word's number among those that begin so. Past the last cell where no word has the number.
+#[tactic(auto, using(crate::specs::Numbered::seeking))]
 pub fn cell_of_number(marks: [u8; 20], cells: usize, number: u64) -> First
     ensures { (result.cell, result.number) ≡ cell_of_number cells marks number }
 {
@@ -52,36 +50,30 @@ pub fn cell_of_number(marks: [u8; 20], cells: usize, number: u64) -> First
         };
     }
     let mut left = number;
-    let mut i = 0;
-    while i < cells {
-        let count = orders_left(marks, cells, i);
+    for cell in 0..cells {
+        let count = orders_left(marks, cells, cell);
         if left < count {
-            return First {
-                cell: i,
-                number: left,
-            };
+            return First { cell, number: left };
         }
         left -= count;
-        i += 1;
     }
     First {
-        cell: i,
+        cell: cells,
         number: left,
     }
 }
 
 // Whether the cell at a place has this letter and may go first.
+#[tactic(auto, using(crate::specs::Lettered::meeting))]
 fn starts_at(letters: [u8; 20], marks: [u8; 20], cells: usize, letter: u8, place: usize) -> bool
     requires { (place < cells) × (cells ≤ 20) }
     ensures { result ≡ starts_at letters (take cells marks) letter place }
 {
-    if letters[place] != letter {
-        return false;
-    }
-    may_go(marks, cells, place)
+    letters[place] == letter && may_go(marks, cells, place)
 }
 
 // The cell that goes first in the words that begin with this letter, and how many words come before them. Past the last cell where there are none.
+#[tactic(auto, using(crate::specs::Lettered::meeting))]
 pub fn cell_of_letter(letters: [u8; 20], marks: [u8; 20], cells: usize, letter: u8) -> First
     ensures { (result.cell, result.number) ≡ cell_of_letter cells letters marks letter }
 {
@@ -92,19 +84,17 @@ pub fn cell_of_letter(letters: [u8; 20], marks: [u8; 20], cells: usize, letter: 
         };
     }
     let mut before: u64 = 0;
-    let mut i = 0;
-    while i < cells {
-        if starts_at(letters, marks, cells, letter, i) {
+    for cell in 0..cells {
+        if starts_at(letters, marks, cells, letter, cell) {
             return First {
-                cell: i,
+                cell,
                 number: before,
             };
         }
-        before += orders_left(marks, cells, i);
-        i += 1;
+        before += orders_left(marks, cells, cell);
     }
     First {
-        cell: i,
+        cell: cells,
         number: before,
     }
 }

@@ -3,6 +3,7 @@ ghost use Rattle.std.specs.Prelude.{◌≡◌};
 ghost use Rattle.taken_cells.specs.Removal.{pulled_free, taken_out};
 
 // The bytes up to a last place without the one at a place: those after it move one back. Bytes past the last place do not count, so none is moved.
+#[tactic(auto, using(crate::specs::Removal::pulling))]
 pub fn pulled(bytes: [u8; 20], place: usize, last: usize) -> [u8; 20]
     ensures { result ≡ taken_out place last bytes }
 {
@@ -10,15 +11,14 @@ pub fn pulled(bytes: [u8; 20], place: usize, last: usize) -> [u8; 20]
     if 19 < last {
         return out;
     }
-    let mut i = place;
-    while i < last {
+    for i in place..last {
         out[i] = out[i + 1];
-        i += 1;
     }
     out
 }
 
 // The marks without the one at a place. What stood before and after that cell is joined freely.
+#[tactic(auto, using(crate::specs::Removal::pulling))]
 pub fn pulled_free(marks: [u8; 20], place: usize, last: usize) -> [u8; 20]
     ensures { result ≡ pulled_free place last marks }
 {
