@@ -1,21 +1,20 @@
 -- The tableau of a C line into lent memory: the reply, and memory, from the tally and the tables of the line's items on.
 --     RunsChecked                  a verdict is that of 1, 2, 4, 19, 20 and 13, of all items with a tally
 --     Stored                       what is replied and what memory holds is as readers promise it, of all items with a tally and tables
---     rooms_checked                the verdict of both groups of checks
+--     runs_stop, runs_go           the verdict of both groups of checks
 --     runs_refused, runs_passed    a refusal, and memory is as it was; or the tableau, and its letter counts
---     checking_runs, storing_runs  the rulesets of the checks and of what is stored
 -- That the tables tell the items is in Tables. Assumes nothing.
-use Rattle.std.specs.Prelude.{Option, Some, None, Result, Ok, Err}
+use Rattle.std.specs.Prelude.{Result, Ok, Err}
 use Rattle.refusals.specs.declared.answers.Sizes.{Sizes}
-use Rattle.std.specs.Prelude.{ℕ, ◌≤◌, ◌≡◌, List, length}
-use Rattle.std.proofs.Common.{ap₂, ◌∙◌, arith, rules}
+use Rattle.std.specs.Prelude.{ℕ, ◌≤◌, ◌≡◌, refl, List, [], length}
+use Rattle.std.proofs.Common.{ap₂, ◌∙◌, arith}
 use Rattle.grammar.specs.Lines.{Run}
 use Rattle.grammar.specs.Values.{MarkedRuns}
 use Rattle.outcomes.specs.Judgements.{tableau_rooms}
-use Rattle.outcomes.specs.Replies.{first, or_else, passed}
+use Rattle.outcomes.specs.Replies.{first, passed}
 use Rattle.hypoplactic.specs.Words.{Within}
 use Rattle.outcomes.proofs.Theory.Judgements.{letters-judged, rank_judged_lem, room_judged_lem}
-use Rattle.refusals.specs.Running.{checked_then, checks_then, following, run_passed, run_refused, then_passing}
+use Rattle.refusals.specs.Running.{checks_then, goes_further, run_passed, run_refused, stops_there, then_passing}
 use Rattle.refusals.specs.Said.{said_sizes, said_verdict}
 use Rattle.refusals.specs.declared.refusal.Refusal.{Refusal}
 use Rattle.run_lines.specs.Judgements.{item_letters, run_judgements}
@@ -35,13 +34,15 @@ use Rattle.run_readers.specs.Tables.{tables_counts, tables_filled, zeros}
 pub record RunsChecked (n L : ℕ) (y : Tally) (letters marks : ℕ) (v : Result (Unit {0}) Refusal) : Type 0 where
   pub says : (rs : List Run) → Tallied n rs y → said_verdict v ≡ checks_then (run_judgements n L rs) (tableau_rooms L letters marks)
 
--- The verdict t is that of u or else that of v.
-pub rooms_checked : {t : Result (Unit {0}) Refusal} (u v : Result (Unit {0}) Refusal) (n L : ℕ) (y : Tally) (letters marks : ℕ) → said_verdict t ≡ or_else (said_verdict u) (said_verdict v)
-    → said_verdict u ≡ tally_says n L y → said_verdict v ≡ first (tableau_rooms L letters marks) passed → RunsChecked n L y letters marks t
-rooms_checked {t} u v n L y letters marks e f g =
-    record { says = λ rs h. checked_then t u v (run_judgements n L rs) e (f ∙ tally-judges n L y rs h) (tableau_rooms L letters marks) g }
+-- The verdict of the first checks refuses, or the verdict of the rooms decides.
+pub runs_stop : (n L : ℕ) (y : Tally) (letters marks : ℕ) (f : Refusal) → said_verdict (Err f) ≡ tally_says n L y → RunsChecked n L y letters marks (Err f)
+runs_stop n L y letters marks f e = record { says = λ rs h. stops_there (run_judgements n L rs) (e ∙ tally-judges n L y rs h) (tableau_rooms L letters marks) f refl }
 
-pub ruleset checking_runs = (rooms_checked, following)
+pub runs_go : {v : Result (Unit {0}) Refusal} (n L : ℕ) (y : Tally) (letters marks : ℕ) → said_verdict (Ok tt) ≡ tally_says n L y → said_verdict v ≡ first (tableau_rooms L letters marks) passed
+    → RunsChecked n L y letters marks v
+unfolding checks_then
+runs_go n L y letters marks e g =
+    record { says = λ rs h. goes_further (run_judgements n L rs) (e ∙ tally-judges n L y rs h) [] (tableau_rooms L letters marks) refl g }
 
 -- ---- what is stored
 
@@ -60,7 +61,7 @@ module _ {v : Result (Unit {0}) Refusal} (n L : ℕ) (y : Tally) (ts ms letters 
   runs_refused f q = record { says = λ rs m h. run_refused _ _ (e.says rs h.tallied) _ _ (letters, (marks, counts)) f q }
 
   pub runs_passed : (letters' marks' : List ℕ) → v ≡ Ok tt → (letters', marks') ≡ filled_runs n ts ms letters marks
-      → Stored n L y ts ms letters marks counts letters' marks' ts (line.Values n L)
+      → Stored n L y ts ms letters marks counts letters' marks' ts (Ok (record { rank = n; count = L }))
   runs_passed letters' marks' q d = record {
     says = λ rs m h.
         let told = e.says rs h.tallied in
@@ -76,5 +77,3 @@ module _ {v : Result (Unit {0}) Refusal} (n L : ℕ) (y : Tally) (ts ms letters 
         (omega (arith, (room_judged_lem _ _).0 first)) (omega (arith, (room_judged_lem _ _).0 second)))
         (tables_counts rs limit above within h.times_are h.marks_are));
   }
-
-pub ruleset storing_runs = (runs_refused, runs_passed, rules)

@@ -11,35 +11,35 @@ use refusals::numbers::check_room;
 use refusals::refusal::Refusal;
 use run_scans::line::{RunLine, scan_runs};
 use run_tallies::checks::check_tally;
-use run_tallies::tally::Tally;
 
 // 1, 2, 4, 19 and 20 of a line that was read, and 13 of lent letters and marks.
-fn check_runs(rank: usize, size: usize, tally: Tally, letters: usize, marks: usize) -> Result<(), Refusal>
-    ensures { RunsChecked rank size tally letters marks result }
+fn check_runs(line: &RunLine, letters: usize, marks: usize) -> Result<(), Refusal>
+    ensures { RunsChecked line.now.rank line.now.size line.now.tally letters marks result }
 {
-    check_tally(rank, size, tally)?;
-    check_room(size, letters)?;
-    check_room(size, marks)
+    check_tally(line.rank, line.size, line.tally)?;
+    check_room(line.size, letters)?;
+    check_room(line.size, marks)
 }
 
 // The tableau that the items of a line tell, into lent letters, marks and letter counts.
 fn store_runs(
-    rank: usize,
-    size: usize,
-    tally: Tally,
+    line: &RunLine,
     times: &[u16; 64],
     steps: &[u8; 64],
     letters: &mut [u8],
     marks: &mut [u8],
     counts: &mut [u16; 64],
 ) -> Result<Sizes, Refusal>
-    ensures { Stored rank size tally times.now steps.now letters.old marks.old counts.old
+    ensures { Stored line.now.rank line.now.size line.now.tally times.now steps.now letters.old marks.old counts.old
         letters.new marks.new counts.new result }
 {
-    check_runs(rank, size, tally, letters.len(), marks.len())?;
-    fill_runs(rank, times, steps, letters, marks);
+    check_runs(line, letters.len(), marks.len())?;
+    fill_runs(line.rank, times, steps, letters, marks);
     *counts = *times;
-    Ok(Sizes { rank: rank, count: size })
+    Ok(Sizes {
+        rank: line.rank,
+        count: line.size,
+    })
 }
 
 // The tableau of a C line into lent letters, marks and letter counts, or the refusal of 14, 1, 2, 4, 19, 20 or 13, which leaves them as they were.
@@ -54,11 +54,8 @@ pub fn read_run_line(
 {
     let mut times = [0u16; 64];
     let mut steps = [0u8; 64];
-    let line = scan_runs(text, &mut times, &mut steps);
-    match line {
-        RunLine::Broken(place) => Err(Refusal::Line(place)),
-        RunLine::Read(rank, size, tally) => store_runs(
-            rank, size, tally, &times, &steps, letters, marks, counts,
-        ),
+    match scan_runs(text, &mut times, &mut steps) {
+        Err(broken) => Err(Refusal::Line(broken.place)),
+        Ok(line) => store_runs(&line, &times, &steps, letters, marks, counts),
     }
 }
