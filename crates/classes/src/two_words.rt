@@ -1,9 +1,8 @@
 // The same-class test: equal count of each letter, equal junction set. The ranks bound the letters and decide nothing else.
-ghost use Rattle.std.specs.Prelude.{[], ◌∷◌, ◌≡◌};
+ghost use Rattle.std.specs.Prelude.{◌≡◌};
 ghost use Rattle.hypoplactic.specs.Junctions.{same_class};
-ghost use Rattle.outcomes.specs.Replies.{gives};
 ghost use Rattle.outcomes.specs.WordOperations.{same_class_says};
-ghost use Rattle.hypoplactic.specs.Words.{Accepted, tick};
+ghost use Rattle.hypoplactic.specs.Words.{Accepted};
 ghost use Rattle.refusals.specs.Said.{said_class};
 
 use crate::tables::same_counts;
