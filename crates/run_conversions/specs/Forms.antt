@@ -7,11 +7,8 @@
 --     line_kept                    they are where the reader tells rank and cells
 --     kept_cells                   what is made of the first cells is made of the values
 --     line_refused                  where it refuses, so does a writer that judges the same values
---     as_written                    the reader's answer as a writer's; written_cells, written_refused: of cells, of a refusal
 -- Assumes nothing.
-use Rattle.std.specs.Prelude.{Option, Some, None, Result, Ok, Err}
-use Rattle.refusals.specs.declared.answers.Sizes.{Sizes}
-use Rattle.std.specs.Prelude.{ℕ, ◌-◌, ◌≤◌, ◌≡◌, refl, List, [], ◌∷◌, ◌++◌, length, get_or, take}
+use Rattle.std.specs.Prelude.{ℕ, ◌≤◌, ◌≡◌, refl, List, [], ◌∷◌, ◌++◌, length, get_or, take}
 use Rattle.std.proofs.Common.{sym, ap, subst, ◌∙◌, arith}
 use Rattle.grammar.specs.Reading.{Read, broken, got}
 use Rattle.outcomes.specs.Counts.{counts_of}
@@ -23,7 +20,7 @@ use Rattle.outcomes.proofs.Theory.Judgements.{room_judged_lem}
 use Rattle.outcomes.proofs.Theory.Memory.{written-length, written_needed}
 use Rattle.outcomes.proofs.Theory.Passing.{Passing, first_answer, passing_before, ran_answer}
 use Rattle.refusals.specs.Outcomes.{not_both, same_values}
-use Rattle.refusals.specs.Said.{said_refusal, said_sizes}
+use Rattle.refusals.specs.Said.{said_refusal}
 use Rattle.refusals.specs.declared.refusal.Refusal.{Refusal}
 
 -- So many letters and marks, within the limit.
@@ -40,19 +37,6 @@ pub record Form (A : Type 0) : Type 0 where
   pub letters : A → List ℕ
   pub marks : A → List ℕ
   pub sized : (a : A) → Passing (judged a) → Sized (size a) (letters a) (marks a)
-
--- ---- answers
-
--- What a writer answers where a reader has: how many cells, or the refusal.
-abbrev pub as_written : Result Sizes Refusal → Said
-as_written (Values n m) = gives (m ∷ [])
-as_written (Err q) = said_refusal q
-
-pub written_cells : (line : Result Sizes Refusal) (n m : ℕ) → line ≡ Values n m → gives (m ∷ []) ≡ as_written line
-written_cells line n m h = sym (ap as_written h)
-
-pub written_refused : (line : Result Sizes Refusal) (q : Refusal) → line ≡ Err q → said_refusal q ≡ as_written line
-written_refused line q h = sym (ap as_written h)
 
 -- What a reader replies, and memory: letters, marks and letter counts.
 abbrev pub Reply : Type 0
@@ -82,14 +66,9 @@ module _ {A : Type 0} (f : Form A) where
 -- ---- what is kept
 
 -- What is made of the first cells is made of the values.
-cells_same : {B : Type 0} (run : ℕ → List ℕ → List ℕ → B) (n k m : ℕ) (xs ms us vs : List ℕ) → n ≡ k → take m xs ≡ us → take m ms ≡ vs
-    → run n (take (m - 0) xs) (take (m - 0) ms) ≡ run k us vs
-cells_same run n k m xs ms us vs e f g = let whole : m - 0 ≡ m = omega arith in rw (whole, e, f, g)
-
 pub kept_cells : {A B : Type 0} (f : Form A) {reading : Read A} {n m : ℕ} {xs ms : List ℕ} (h : Kept f reading n m xs ms) (run : ℕ → List ℕ → List ℕ → B)
-    → run n (take (m - 0) xs) (take (m - 0) ms) ≡ run (f.rank h.value) (f.letters h.value) (f.marks h.value)
-kept_cells f {reading} {n} {m} {xs} {ms} h run =
-    cells_same run n _ m xs ms _ _ h.rank h.letters h.marks
+    → run n (take m xs) (take m ms) ≡ run (f.rank h.value) (f.letters h.value) (f.marks h.value)
+kept_cells f h run = rw (h.rank, h.letters, h.marks)
 
 -- ---- from the reader's reply
 
@@ -106,35 +85,29 @@ module _ {A : Type 0} (f : Form A) (ls ks cs : List ℕ) (long : 1024 ≤ length
   enough : (a : A) → Passing (f.judged a) → Passing (tableau_rooms (f.size a) (length ls) (length ks))
   enough a h = let short : f.size a ≤ 1024 = (f.sized a h).short in ((room_judged_lem _ _).1 (omega arith), ((room_judged_lem _ _).1 (omega arith), tt))
 
-  -- The reader's answer, and memory after it.
-  module _ (text : List ℕ) (made : Result Sizes Refusal) (xs ms ds : List ℕ) where
-    abbrev Replied : Read A → Type 0
-    Replied reading = (said_sizes made, (xs, (ms, ds))) ≡ read_run text (stored f ls ks cs) (ls, (ks, cs)) reading
+  -- What the reader says, and memory after it.
+  module _ (text : List ℕ) (xs ms ds : List ℕ) where
+    abbrev Replied : Said → Read A → Type 0
+    Replied said reading = (said, (xs, (ms, ds))) ≡ read_run text (stored f ls ks cs) (ls, (ks, cs)) reading
 
     -- A refusal.
-    pub line_refused : (reading : Read A) → Replied reading → (q : Refusal) → made ≡ Err q → (bytes : A → List ℕ) (out : List ℕ)
-        → (as_written made, out) ≡ read_run text (λ a. line_run (f.judged a) (bytes a) out) out reading
-    line_refused (broken rest) e q h bytes out =
-        ap (λ (s : Said). (s, out)) (rw h (sym (ap said_sizes h) ∙ ap (λ (o : Reply). o.0) e))
-    line_refused (got a rest) e q h bytes out =
-        let says = sym (ap (λ (o : Reply). o.0) e) ∙ ap said_sizes h in
-        rw (
-          h,
-          first_stays (f.judged a) (tableau_rooms (f.size a) (length ls) (length ks)) (room_judged (length (bytes a)) (length out) ∷ []) _
-              (length (bytes a) ∷ []) _ _ (enough a) says,
-        )
+    pub line_refused : (reading : Read A) (q : Refusal) → Replied (said_refusal q) reading → (bytes : A → List ℕ) (out : List ℕ)
+        → (said_refusal q, out) ≡ read_run text (λ a. line_run (f.judged a) (bytes a) out) out reading
+    line_refused (broken rest) q e bytes out = ap (λ (o : Reply). (o.0, out)) e
+    line_refused (got a rest) q e bytes out =
+        rw (first_stays (f.judged a) (tableau_rooms (f.size a) (length ls) (length ks)) (room_judged (length (bytes a)) (length out) ∷ []) _
+        (length (bytes a) ∷ []) _ _ (enough a) (sym (ap (λ (o : Reply). o.0) e)))
 
     -- Rank and cells.
-    pub line_kept : (reading : Read A) → Replied reading → (n m : ℕ) → made ≡ Values n m → Kept f reading n m xs ms
-    line_kept (broken rest) e n m h =
-        absurd (not_both (sym (ap said_sizes h) ∙ ap (λ (o : Reply). o.0) e))
-    line_kept (got a rest) e n m h =
+    pub line_kept : (reading : Read A) (n m : ℕ) → Replied (gives (n ∷ m ∷ [])) reading → Kept f reading n m xs ms
+    line_kept (broken rest) n m e = absurd (not_both (ap (λ (o : Reply). o.0) e))
+    line_kept (got a rest) n m e =
         let given : gives (n ∷ m ∷ []) ≡ first (f.judged a ++ tableau_rooms (f.size a) (length ls) (length ks)) (gives (f.rank a ∷ f.size a ∷ [])) =
-        sym (ap said_sizes h) ∙ ap (λ (o : Reply). o.0) e in
+        ap (λ (o : Reply). o.0) e in
         let passes : Passing (f.judged a) = passing_before (f.judged a) _ _ (subst Passes given tt) in
         let sized : Sized (f.size a) (f.letters a) (f.marks a) = f.sized a passes in
         let all = e ∙ ran_answer (f.judged a) (tableau_rooms (f.size a) (length ls) (length ks)) _ _ _ passes (enough a passes) in
-        let values : n ∷ m ∷ [] ≡ f.rank a ∷ f.size a ∷ [] = same_values (sym (ap said_sizes h) ∙ ap (λ (o : Reply). o.0) all) in
+        let values : n ∷ m ∷ [] ≡ f.rank a ∷ f.size a ∷ [] = same_values (ap (λ (o : Reply). o.0) all) in
         let size : m ≡ f.size a = ap (λ (vs : List ℕ). get_or vs 1 0) values in
         let is_letters : xs ≡ written (f.letters a) ls = ap (λ (o : Reply). o.1.0) all in
         let is_marks : ms ≡ written (f.marks a) ks = ap (λ (o : Reply). o.1.1.0) all in

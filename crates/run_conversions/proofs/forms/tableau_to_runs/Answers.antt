@@ -1,51 +1,29 @@
 -- `run_conversions::forms::tableau_to_runs` meets its contract, by the laws of specs/Turned. Assumes nothing.
+use Rattle.std.proofs.Common.{◌≤◌, length, sym, length-take-le}
+use Rattle.std.proofs.lemmas.Result.{err_from_is_err_and}
 use Rattle.run_conversions.specs.Turned.{turning}
 use Rattle.run_conversions.proofs.forms.tableau_to_runs.Goals as goal
 
-pub slice_bounds-read_tableau_line-end : goal.slice_bounds-read_tableau_line-end
-slice_bounds-read_tableau_line-end c = search turning
+pub returns-in_err-rank : goal.returns-in_err-rank
+returns-in_err-rank c =
+    let p = err_from_is_err_and c.from_residual.result c.from_residual.ensures.1 in
+    rw (p.1, p.2) (search (c.in_err-rank.ensures, turning))
 
-pub slice_bounds-read_tableau_line-end-2 : goal.slice_bounds-read_tableau_line-end-2
-slice_bounds-read_tableau_line-end-2 c = search turning
-
-pub read_tableau_line-read-requires : goal.read_tableau_line-read-requires
-read_tableau_line-read-requires c = search turning
-
-pub enum_known-read : goal.enum_known-read
-enum_known-read c = search turning
-
-pub enum_told-1 : goal.enum_told-1
-enum_told-1 c = search turning
-
-pub as_written-requires : goal.as_written-requires
-as_written-requires c = search turning
-
-pub returns-in_default : goal.returns-in_default
-returns-in_default c = search turning
-
-pub slice_bounds-write_run_line-count : goal.slice_bounds-write_run_line-count
-slice_bounds-write_run_line-count c = search turning
-
-pub slice_bounds-write_run_line-start : goal.slice_bounds-write_run_line-start
-slice_bounds-write_run_line-start c = search turning
+pub slice_bounds-letters-end : goal.slice_bounds-letters-end
+slice_bounds-letters-end c = search (c.in_ok-rank.ensures, turning)
 
 pub slice_bounds-write_run_line-end : goal.slice_bounds-write_run_line-end
-slice_bounds-write_run_line-end c = search turning
+slice_bounds-write_run_line-end c =
+    let reach : c.in_ok-rank.field-0.count ≤ length c.read_tableau_line.new.letters = search (c.in_ok-rank.ensures, turning) in
+    sym (length-take-le _ _ reach)
 
-pub slice_bounds-write_run_line-count-2 : goal.slice_bounds-write_run_line-count-2
-slice_bounds-write_run_line-count-2 c = search turning
-
-pub slice_bounds-write_run_line-start-2 : goal.slice_bounds-write_run_line-start-2
-slice_bounds-write_run_line-start-2 c = search turning
+pub slice_bounds-marks-end : goal.slice_bounds-marks-end
+slice_bounds-marks-end c = search (c.in_ok-rank.ensures, turning)
 
 pub slice_bounds-write_run_line-end-2 : goal.slice_bounds-write_run_line-end-2
-slice_bounds-write_run_line-end-2 c = search turning
-
-pub write_run_line-requires : goal.write_run_line-requires
-write_run_line-requires c = search turning
-
-pub shape_of-out : goal.shape_of-out
-shape_of-out c = search turning
+slice_bounds-write_run_line-end-2 c =
+    let reach : c.in_ok-rank.field-0.count ≤ length c.read_tableau_line.new.marks = search (c.in_ok-rank.ensures, turning) in
+    sym (length-take-le _ _ reach)
 
 pub returns : goal.returns
-returns c = search turning
+returns c = search (c.in_ok-rank.ensures, turning)
