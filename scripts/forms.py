@@ -195,7 +195,7 @@ class Function:
         begin = text.index("(", found.end()) + 1
         end = end_of(text, begin)
         self.parameters = [re.sub(r"^mut ", "", part.split(":")[0].strip()) for part in parts_of(text[begin:end - 1], ",")]
-        self.required = []
+        self.answer, self.required = re.match(r"[^{]*?(?=\b(?:requires|ensures)\b|\{|$)", text[end:]).group(), []
         clause = re.compile(r"[^{]*?\b(requires|ensures)\b[^{]*\{")
         while told := clause.match(text, end):
             end = end_of(text, told.end())
@@ -238,9 +238,11 @@ def by_pattern(tree, pattern):
             yield f"{path}:{line}: {' '.join(found.group().split())}"
 
 
-def by_name(tree, file, names):
+def by_name(tree, kind, file, names):
+    """Functions by name; where a number stands for none or a refusal, those that answer no Option and no Result."""
     path = "crates/" + file.replace("/", "/src/") + ".rt"
-    return [function.place() for function in functions(tree) if function.path == path and function.name in names.split()]
+    found = [function for function in functions(tree) if function.path == path and function.name in names.split()]
+    return [function.place() for function in found if not (kind.endswith("_as_number") and re.search(r"\b(?:Option|Result)<", function.answer))]
 
 
 def loops(tree, begin, step, leaving=r""):
@@ -336,7 +338,7 @@ def kinds(tree):
     for point, kind, pattern in PATTERNS:
         yield point, kind, lambda pattern=pattern: by_pattern(tree, pattern)
     for point, kind in dict.fromkeys(row[:2] for row in NAMES):
-        yield point, kind, lambda kind=kind: [place for _, own, file, names in NAMES if own == kind for place in by_name(tree, file, names)]
+        yield point, kind, lambda kind=kind: [place for _, own, file, names in NAMES if own == kind for place in by_name(tree, kind, file, names)]
     yield 2, "same_form", lambda: same_form(tree, False)
     yield 2, "same_form_in_c", lambda: same_form(tree, True)
     yield 2, "near_form", lambda: near_form(tree)
