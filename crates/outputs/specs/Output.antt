@@ -4,7 +4,7 @@
 --     Taken               a word: the letters that stand in the buffer are an accepted word, and the output is its three lines
 --     word_taken
 -- Assumes nothing.
-use Rattle.std.specs.Prelude.{Option, Some, None, Result, Ok, Err}
+use Rattle.std.specs.Prelude.{Result, Ok, Err}
 use Rattle.refusals.specs.declared.answers.Sizes.{Sizes}
 use Rattle.std.specs.Prelude.{ℕ, ◌≤◌, ◌<◌, ◌≡◌, take, get_or}
 use Rattle.std.proofs.Math.Path.{refl, ap₂}
@@ -97,6 +97,6 @@ module _ (text buffer now : List ℕ) (short : length text ≤ 4096) (long : 102
     unfolding read_w_run
     refused_output q h = short-output text short ∙ refused_for (number q) (place q) (read_w text) (sym (ap (λ (x : Result Sizes Refusal). (said_sizes x, now)) h) ∙ e)
 
-    pub word_taken : (n l : ℕ) → line ≡ Values n l → Taken text now n l
+    pub word_taken : (v : Sizes) → line ≡ Ok v → Taken text now v.rank v.count
     unfolding read_w_run
-    word_taken n l h = taken_for n l (read_w text) (sym (ap (λ (x : Result Sizes Refusal). (said_sizes x, now)) h) ∙ e) (short-output text short)
+    word_taken v h = taken_for v.rank v.count (read_w text) (sym (ap (λ (x : Result Sizes Refusal). (said_sizes x, now)) h) ∙ e) (short-output text short)

@@ -1,11 +1,11 @@
 -- Lines printed one after another from the front of a buffer, for an accepted word.
 --     Ready n w line have        the word is accepted, and a buffer of so many bytes has room for the line
 --     Printed line old now k     the line stands at the front of a buffer that held old, and has k bytes
---     printed_by, printed_never  it does where a writer's run gives it, and nothing is refused then
+--     wrote_ok, wrote_line       nothing is refused where a writer's run gives the line, and it stands there
 --     kept_length                a buffer that holds a line is as long as it was
 --     then_room, then_printed    a line in the part straight after another
 -- The lines of a word are in ThreeLines. Assumes nothing.
-use Rattle.std.specs.Prelude.{Option, Some, None, Result, Ok, Err}
+use Rattle.std.specs.Prelude.{Result, Ok, Err, IsOk}
 use Rattle.std.specs.Prelude.{ℕ, ◌+◌, ◌-◌, ◌≤◌, ◌≡◌, refl, List, [], ◌∷◌, ◌++◌, length, drop}
 use Rattle.std.proofs.Common.{sym, ap, ◌∙◌, append_assoc, append-nil, arith, length-append, length-drop, drop-drop}
 use Rattle.std.proofs.Math.Seq.{drop-append_seam, drop-length, take-length}
@@ -31,14 +31,17 @@ pub record Printed (line old now : List ℕ) (bytes : ℕ) : Type 0 where
 
 -- ---- one line
 
--- A writer's answer a, where its run gives the line.
-module _ (line old now : List ℕ) (a : Result ℕ Refusal) (fits : length line ≤ length old)
-    (e : ◌≡◌ {A = Said × List ℕ} (said_value a, now) (gives (length line ∷ []), written line old)) where
-  pub printed_by : (k : ℕ) → a ≡ Ok k → Printed line old now k
-  printed_by k q = record { held = wrote_memory a e; size = wrote_elements a e k q; fits = fits }
+-- A writer's answer a, where its run gives the line: it is no refusal, and the line is printed.
+module _ (line old now : List ℕ) (a : Result ℕ Refusal) (e : ◌≡◌ {A = Said × List ℕ} (said_value a, now) (gives (length line ∷ []), written line old)) where
+  pub wrote_ok : IsOk a
+  wrote_ok = go a refl
+    where
+      go : (r : Result ℕ Refusal) → a ≡ r → IsOk r
+      go (Ok k) q = refl
+      go (Err q) h = absurd (wrote_refused a e q h)
 
-  pub printed_never : (q : Refusal) (k : ℕ) → a ≡ Err q → Printed line old now k
-  printed_never q k h = absurd (wrote_refused a e q h)
+  pub wrote_line : (k : ℕ) → a ≡ Ok k → length line ≤ length old → Printed line old now k
+  wrote_line k q fits = record { held = wrote_memory a e; size = wrote_elements a e k q; fits = fits }
 
 -- ---- one line after another
 

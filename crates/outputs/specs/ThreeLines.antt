@@ -5,7 +5,7 @@
 --     three_printed              all lines, each in the part straight after the one before it
 --     printing                   the ruleset of the functions that print
 -- Assumes nothing.
-use Rattle.std.specs.Prelude.{Option, Some, None, Result, Ok, Err}
+use Rattle.std.specs.Prelude.{Result, Ok, Err, IsOk}
 use Rattle.std.specs.Prelude.{ℕ, ◌+◌, ◌-◌, ◌≤◌, ◌≡◌, List, [], ◌∷◌, ◌++◌, length, take}
 use Rattle.std.proofs.Math.Path.{refl}
 use Rattle.std.proofs.Common.{sym, ap, ◌∙◌, append_assoc, arith, length-append, rules}
@@ -30,35 +30,40 @@ use Rattle.outcomes.proofs.Theory.Results.{pair_result, reading_result}
 use Rattle.refusals.specs.Outcomes.{wrote_elements, wrote_memory, wrote_refused}
 use Rattle.refusals.specs.Said.{said_value}
 use Rattle.refusals.specs.declared.refusal.Refusal.{Refusal}
-use Rattle.outputs.specs.Printing.{Printed, Ready, kept_length, printed_by, printed_never, then_printed, then_room}
+use Rattle.outputs.specs.Printing.{Printed, Ready, wrote_ok, wrote_line, then_printed, then_room}
 
 -- ---- one line
 
 -- The P line of a pair,
-module _ (n : ℕ) (xs ms rs old now : List ℕ) (a : Result ℕ Refusal) (h : PairAt n xs ms rs) (r : length (p_line n xs ms rs) ≤ length old)
-    (e : (said_value a, now) ≡ p_line_run n xs ms rs old) where
-  pub pair_printed : (k : ℕ) → a ≡ Ok k → Printed (p_line n xs ms rs) old now k
-  pair_printed = printed_by (p_line n xs ms rs) old now a r (e ∙ p_line_result n xs ms rs old h r)
+module _ (n : ℕ) (xs ms rs old now : List ℕ) (a : Result ℕ Refusal) (e : (said_value a, now) ≡ p_line_run n xs ms rs old) (h : PairAt n xs ms rs)
+    (r : length (p_line n xs ms rs) ≤ length old) where
+  pub pair_ok : IsOk a
+  pair_ok = wrote_ok _ _ _ _ (e ∙ p_line_result n xs ms rs old h r)
 
-  pub pair_never : (q : Refusal) (k : ℕ) → a ≡ Err q → Printed (p_line n xs ms rs) old now k
-  pair_never = printed_never (p_line n xs ms rs) old now a r (e ∙ p_line_result n xs ms rs old h r)
+  pub pair_printed : (k : ℕ) → a ≡ Ok k → Printed (p_line n xs ms rs) old now k
+  pair_printed k q = wrote_line _ _ _ _ (e ∙ p_line_result n xs ms rs old h r) k q r
 
 -- the J line of a word,
-module _ (n : ℕ) (w old now : List ℕ) (a : Result ℕ Refusal) (r : Ready n w (j_line (junction_set w) (rows_of w)) (length old)) (e : (said_value a, now) ≡ j_line_run n w old) where
-  pub junctions_printed : (k : ℕ) → a ≡ Ok k → Printed (j_line (junction_set w) (rows_of w)) old now k
-  junctions_printed = printed_by (j_line (junction_set w) (rows_of w)) old now a r.room (e ∙ j_line_result n w r.accepted old r.room)
+module _ (n : ℕ) (w old now : List ℕ) (a : Result ℕ Refusal) (e : (said_value a, now) ≡ j_line_run n w old)
+    (r : Ready n w (j_line (junction_set w) (rows_of w)) (length old)) where
+  pub junctions_ok : IsOk a
+  junctions_ok = wrote_ok _ _ _ _ (e ∙ j_line_result n w r.accepted old r.room)
 
-  pub junctions_never : (q : Refusal) (k : ℕ) → a ≡ Err q → Printed (j_line (junction_set w) (rows_of w)) old now k
-  junctions_never = printed_never (j_line (junction_set w) (rows_of w)) old now a r.room (e ∙ j_line_result n w r.accepted old r.room)
+  pub junctions_printed : (k : ℕ) → a ≡ Ok k → Printed (j_line (junction_set w) (rows_of w)) old now k
+  junctions_printed k q = wrote_line _ _ _ _ (e ∙ j_line_result n w r.accepted old r.room) k q r.room
 
 -- and the W line of a column reading, which has as many letters as the tableau has cells. It is read into a list with room for every tableau.
-module _ (n : ℕ) (xs ms cs zeros reading : List ℕ) (b : Result ℕ Refusal) (h : TableauAt n xs ms) (c : TrueCounts xs cs) (long : 1024 ≤ length zeros)
-    (f : (said_value b, reading) ≡ reading_run n xs ms cs zeros) where
+module _ (n : ℕ) (xs ms cs zeros reading : List ℕ) (b : Result ℕ Refusal) (f : (said_value b, reading) ≡ reading_run n xs ms cs zeros)
+    (h : TableauAt n xs ms) (c : TrueCounts xs cs) (long : 1024 ≤ length zeros) where
   all_read : ◌≡◌ {A = Said × List ℕ} (said_value b, reading) (gives (length xs ∷ []), written (column_reading xs ms) zeros)
   all_read = let short : length xs ≤ 1024 = h.word.short in f ∙ reading_result n xs ms cs h c zeros (omega arith)
 
-  pub reading_refused : (line old : List ℕ) (q : Refusal) (k : ℕ) → b ≡ Err q → Printed line old old k
-  reading_refused line old q k g = absurd (wrote_refused b all_read q g)
+  pub reading_ok : IsOk b
+  reading_ok = go b refl
+    where
+      go : (a : Result ℕ Refusal) → b ≡ a → IsOk a
+      go (Ok k) g = refl
+      go (Err q) g = absurd (wrote_refused b all_read q g)
 
   module _ (m : ℕ) (g : b ≡ Ok m) where
     pub reading_reach : m ≤ length reading
@@ -68,20 +73,20 @@ module _ (n : ℕ) (xs ms cs zeros reading : List ℕ) (b : Result ℕ Refusal) 
         let fits : length (column_reading xs ms) ≤ length zeros = omega (arith, reading_length xs ms h.tableau) in
         rw (wrote_memory b all_read, written-length (column_reading xs ms) zeros fits) (omega arith)
 
-    module _ (old now : List ℕ) (a : Result ℕ Refusal) (r : length (w_line n (column_reading xs ms)) ≤ length old)
-        (e : (said_value a, now) ≡ w_line_run n (take (m - 0) reading) old) where
+    module _ (old now : List ℕ) (a : Result ℕ Refusal) (e : (said_value a, now) ≡ w_line_run n (take m reading) old)
+        (r : length (w_line n (column_reading xs ms)) ≤ length old) where
       reading_line : ◌≡◌ {A = Said × List ℕ} (said_value a, now)
           (gives (length (w_line n (column_reading xs ms)) ∷ []), written (w_line n (column_reading xs ms)) old)
       reading_line =
-          let size : m - 0 ≡ length (column_reading xs ms) = omega (arith, wrote_elements b all_read m g, reading_length xs ms h.tableau) in
+          let size : m ≡ length (column_reading xs ms) = omega (arith, wrote_elements b all_read m g, reading_length xs ms h.tableau) in
           e ∙ rw (wrote_memory b all_read, size, written_needed (column_reading xs ms) zeros)
           (w_line_result n (column_reading xs ms) (reading_accepted h) old r)
 
-      pub reading_printed : (k : ℕ) → a ≡ Ok k → Printed (w_line n (column_reading xs ms)) old now k
-      reading_printed = printed_by (w_line n (column_reading xs ms)) old now a r reading_line
+      pub reading_line_ok : IsOk a
+      reading_line_ok = wrote_ok _ _ _ _ reading_line
 
-      pub reading_never : (q : Refusal) (k : ℕ) → a ≡ Err q → Printed (w_line n (column_reading xs ms)) old now k
-      reading_never = printed_never (w_line n (column_reading xs ms)) old now a r reading_line
+      pub reading_printed : (k : ℕ) → a ≡ Ok k → Printed (w_line n (column_reading xs ms)) old now k
+      reading_printed k q = wrote_line _ _ _ _ reading_line k q r
 
 -- ---- the pair of a word
 
@@ -105,8 +110,8 @@ module _ {n : ℕ} {w xs ms rs cs : List ℕ} (h : Held n w xs ms rs cs) where
   held_counts = rw (h.letters, h.counts) (letters-true w)
 
 -- What the pair's operation leaves in lists with room for every accepted word.
-module _ (n : ℕ) (w line ls ks js ds xs ms rs cs : List ℕ) (have : ℕ) (made : Result ℕ Refusal) (r : Ready n w line have)
-    (e : (said_value made, (pair_with xs ms rs, cs)) ≡ pair_run n w (pair_with ls ks js) ds)
+module _ (n : ℕ) (w line ls ks js ds xs ms rs cs : List ℕ) (have : ℕ) (made : Result ℕ Refusal)
+    (e : (said_value made, (pair_with xs ms rs, cs)) ≡ pair_run n w (pair_with ls ks js) ds) (r : Ready n w line have)
     (long : 1024 ≤ length ls) (long' : 1024 ≤ length ks) (long'' : 1024 ≤ length js) where
   all_made : ◌≡◌ {A = Said × (Pair × List ℕ)} (said_value made, (pair_with xs ms rs, cs))
       (gives (length w ∷ []), (written_pair (pair_of w) (pair_with ls ks js), counts_of w))
@@ -121,8 +126,12 @@ module _ (n : ℕ) (w line ls ks js ds xs ms rs cs : List ℕ) (have : ℕ) (mad
   is_entries : rs ≡ written (recording_of w) js
   is_entries = ap (λ (o : Pair × List ℕ). o.0.recording) (wrote_memory made all_made)
 
-  pub made_never : (old : List ℕ) (q : Refusal) (k : ℕ) → made ≡ Err q → Printed line old old k
-  made_never old q k g = absurd (wrote_refused made all_made q g)
+  pub made_ok : IsOk made
+  made_ok = go made refl
+    where
+      go : (a : Result ℕ Refusal) → made ≡ a → IsOk a
+      go (Ok k) g = refl
+      go (Err q) g = absurd (wrote_refused made all_made q g)
 
   module _ (m : ℕ) (g : made ≡ Ok m) where
     size : m ≡ length w
@@ -145,11 +154,11 @@ module _ (n : ℕ) (w line ls ks js ds xs ms rs cs : List ℕ) (have : ℕ) (mad
         rw (is_entries, written-length (recording_of w) js (omega (arith, length_recording w))) (omega (arith, size))
 
     -- and are the pair.
-    pub pair_held : Held n w (take (m - 0) xs) (take (m - 0) ms) (take (m - 0) rs) cs
+    pub pair_held : Held n w (take m xs) (take m ms) (take m rs) cs
     pair_held =
-        let cells : m - 0 ≡ length (letters_of w) = omega (arith, size, length-letters w) in
-        let steps : m - 0 ≡ length (marks_of w) = omega (arith, size, length-marks w) in
-        let places : m - 0 ≡ length (recording_of w) = omega (arith, size, length_recording w) in
+        let cells : m ≡ length (letters_of w) = omega (arith, size, length-letters w) in
+        let steps : m ≡ length (marks_of w) = omega (arith, size, length-marks w) in
+        let places : m ≡ length (recording_of w) = omega (arith, size, length_recording w) in
         record {
           word = r.accepted;
           letters = rw (is_letters, cells) (written_needed (letters_of w) ls);
@@ -183,37 +192,34 @@ module _ {n : ℕ} {w xs ms rs cs : List ℕ} (old : List ℕ) (h : Held n w xs 
     second_room =
         omega (arith, then_room first (second ++ third) old now at end f whole (rw lines ready.room), length-append second third)
 
-    module _ {ys : List ℕ} {k : ℕ} (g : Printed second (mid_of at (end - at) now) ys k) where
+    module _ {ys : List ℕ} {k more : ℕ} (g : Printed second (mid_of at (end - at) now) ys k) (all : more ≡ length (put_mid at (end - at) now ys)) where
       two : Printed (first ++ second) old (put_mid at (end - at) now ys) (at + k)
       two = then_printed first second old now at end f whole ys k g
 
-      still : end ≡ length (put_mid at (end - at) now ys)
-      still = whole ∙ kept_length first [] old now at end f whole ∙ sym (kept_length (first ++ second) [] old _ (at + k) _ two refl)
-
-      pub third_ready : Ready n w third (length (mid_of (at + k) (end - (at + k)) (put_mid at (end - at) now ys)))
+      pub third_ready : Ready n w third (length (mid_of (at + k) (more - (at + k)) (put_mid at (end - at) now ys)))
       third_ready = record {
         accepted = h.word;
-        room = then_room (first ++ second) third old _ (at + k) end two still (rw (append_assoc first second third, lines) ready.room);
+        room = then_room (first ++ second) third old _ (at + k) more two all (rw (append_assoc first second third, lines) ready.room);
       }
 
-      pub three_printed : {zs : List ℕ} {j : ℕ} → Printed third (mid_of (at + k) (end - (at + k)) (put_mid at (end - at) now ys)) zs j
-          → Printed (three_lines n w) old (put_mid (at + k) (end - (at + k)) (put_mid at (end - at) now ys) zs) (at + k + j)
+      pub three_printed : {zs : List ℕ} {j : ℕ} → Printed third (mid_of (at + k) (more - (at + k)) (put_mid at (end - at) now ys)) zs j
+          → Printed (three_lines n w) old (put_mid (at + k) (more - (at + k)) (put_mid at (end - at) now ys) zs) (at + k + j)
       three_printed {zs} {j} p =
-          rw (← lines, ← (append_assoc first second third)) (then_printed (first ++ second) third old _ (at + k) end two still zs j p)
+          rw (← lines, ← (append_assoc first second third)) (then_printed (first ++ second) third old _ (at + k) more two all zs j p)
 
 pub ruleset printing = (
+  pair_ok,
   pair_printed,
-  pair_never,
+  junctions_ok,
   junctions_printed,
-  junctions_never,
-  reading_refused,
+  reading_ok,
   reading_reach,
+  reading_line_ok,
   reading_printed,
-  reading_never,
   held_pair,
   held_tableau,
   held_counts,
-  made_never,
+  made_ok,
   letters_reach,
   marks_reach,
   entries_reach,

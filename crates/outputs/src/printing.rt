@@ -10,18 +10,57 @@ ghost use Rattle.outputs.specs.Printing.{Printed, Ready};
 ghost use Rattle.outputs.specs.ThreeLines.{Held};
 
 use columns::reading::column_reading;
-use lent::tableaux::Pair;
-use refusals::answers::Junctions;
+use lent::tableaux::{CountedPair, CountedTableau, Pair};
 use ribbons::pair::pair_of_word;
 use writers::line::{write_junction_line, write_pair_line, write_word_line};
 
 // The P line of a pair; how many bytes it has.
-fn print_pair(rank: usize, letters: &[u8], marks: &[u8], entries: &[u16], out: &mut [u8]) -> usize
-    requires pair_at { PairAt rank letters.now marks.now entries.now }
-    requires entries_in_bounds { length (p_line rank letters.now marks.now entries.now) ≤ length out.old }
-    ensures { Printed (p_line rank letters.now marks.now entries.now) out.old out.new result }
+#[tactic(auto, using(crate::specs::ThreeLines::printing))]
+fn print_pair(pair: &Pair, out: &mut [u8]) -> usize
+    requires pair_at { PairAt pair.now.rank pair.now.letters.now pair.now.marks.now pair.now.entries.now }
+    requires entries_in_bounds { length (p_line pair.now.rank pair.now.letters.now pair.now.marks.now pair.now.entries.now) ≤ length out.old }
+    ensures { Printed (p_line pair.now.rank pair.now.letters.now pair.now.marks.now pair.now.entries.now) out.old out.new result }
 {
-    let Ok(bytes) = write_pair_line(
+    write_pair_line(pair, out).unwrap()
+}
+
+// The W line of the column reading of a tableau, which brings its letter counts.
+#[tactic(auto, using(crate::specs::ThreeLines::printing))]
+fn print_reading(tableau: &CountedTableau, out: &mut [u8]) -> usize
+    requires tableau_at { TableauAt tableau.now.rank tableau.now.letters.now tableau.now.marks.now }
+    requires true_counts { TrueCounts tableau.now.letters.now tableau.now.counts.now }
+    requires marks_in_bounds { length (w_line tableau.now.rank (column_reading tableau.now.letters.now tableau.now.marks.now)) ≤ length out.old }
+    ensures { Printed (w_line tableau.now.rank (column_reading tableau.now.letters.now tableau.now.marks.now)) out.old out.new result }
+{
+    let mut reading = [0u8; 1024];
+    let end = column_reading(tableau, &mut reading).unwrap();
+    write_word_line(tableau.rank, &reading[..end], out).unwrap()
+}
+
+// The J line of a word.
+#[tactic(auto, using(crate::specs::ThreeLines::printing))]
+fn print_junctions(rank: usize, word: &[u8], out: &mut [u8]) -> usize
+    requires { Ready rank word.now (j_line (junction_set word.now) (rows_of word.now)) (length out.old) }
+    ensures { Printed (j_line (junction_set word.now) (rows_of word.now)) out.old out.new result }
+{
+    write_junction_line(rank, word, out).unwrap()
+}
+
+// The three lines of a word and of its pair and letter counts.
+#[tactic(auto, using(crate::specs::ThreeLines::printing))]
+fn print_lines(word: &[u8], pair: &CountedPair, out: &mut [u8]) -> usize
+    requires held { Held pair.now.rank word.now pair.now.letters.now pair.now.marks.now pair.now.entries.now pair.now.counts.now }
+    requires ready { Ready pair.now.rank word.now (three_lines pair.now.rank word.now) (length out.old) }
+    ensures { Printed (three_lines pair.now.rank word.now) out.old out.new result }
+{
+    let CountedPair {
+        rank,
+        letters,
+        marks,
+        entries,
+        counts,
+    } = *pair;
+    let first = print_pair(
         &Pair {
             rank,
             letters,
@@ -29,67 +68,22 @@ fn print_pair(rank: usize, letters: &[u8], marks: &[u8], entries: &[u16], out: &
             entries,
         },
         out,
-    ) else {
-        return 0;
-    };
-    bytes
-}
-
-// The W line of the column reading of a tableau, which brings its letter counts.
-fn print_reading(
-    rank: usize,
-    letters: &[u8],
-    marks: &[u8],
-    counts: &[u16; 64],
-    out: &mut [u8],
-) -> usize
-    requires tableau_at { TableauAt rank letters.now marks.now }
-    requires true_counts { TrueCounts letters.now counts.now }
-    requires marks_in_bounds { length (w_line rank (column_reading letters.now marks.now)) ≤ length out.old }
-    ensures { Printed (w_line rank (column_reading letters.now marks.now)) out.old out.new result }
-{
-    let mut reading = [0u8; 1024];
-    let Ok(end) = column_reading(rank, letters, marks, counts, &mut reading) else {
-        return 0;
-    };
-    let Ok(bytes) = write_word_line(rank, &reading[0..end], out) else {
-        return 0;
-    };
-    bytes
-}
-
-// The J line of a word.
-fn print_junctions(rank: usize, word: &[u8], out: &mut [u8]) -> usize
-    requires { Ready rank word.now (j_line (junction_set word.now) (rows_of word.now)) (length out.old) }
-    ensures { Printed (j_line (junction_set word.now) (rows_of word.now)) out.old out.new result }
-{
-    let Ok(bytes) = write_junction_line(rank, word, out) else {
-        return 0;
-    };
-    bytes
-}
-
-// The three lines of a word and of its pair and letter counts.
-fn print_lines(
-    rank: usize,
-    word: &[u8],
-    letters: &[u8],
-    marks: &[u8],
-    entries: &[u16],
-    counts: &[u16; 64],
-    out: &mut [u8],
-) -> usize
-    requires held { Held rank word.now letters.now marks.now entries.now counts.now }
-    requires ready { Ready rank word.now (three_lines rank word.now) (length out.old) }
-    ensures { Printed (three_lines rank word.now) out.old out.new result }
-{
-    let first = print_pair(rank, letters, marks, entries, out);
-    let end = out.len();
-    let second = first + print_reading(rank, letters, marks, counts, &mut out[first..end]);
-    second + print_junctions(rank, word, &mut out[second..end])
+    );
+    let second = first
+        + print_reading(
+            &CountedTableau {
+                rank,
+                letters,
+                marks,
+                counts,
+            },
+            &mut out[first..],
+        );
+    second + print_junctions(rank, word, &mut out[second..])
 }
 
 // The three lines of a word; how many bytes they have.
+#[tactic(auto, using(crate::specs::ThreeLines::printing))]
 pub(crate) fn print_word(rank: usize, word: &[u8], out: &mut [u8]) -> usize
     requires { Ready rank word.now (three_lines rank word.now) (length out.old) }
     ensures { Printed (three_lines rank word.now) out.old out.new result }
@@ -106,16 +100,13 @@ pub(crate) fn print_word(rank: usize, word: &[u8], out: &mut [u8]) -> usize
         &mut entries,
         &mut counts,
     );
-    let Ok(cells) = made else {
-        return 0;
-    };
-    print_lines(
+    let cells = made.unwrap();
+    let pair = CountedPair {
         rank,
-        word,
-        &letters[0..cells],
-        &marks[0..cells],
-        &entries[0..cells],
-        &counts,
-        out,
-    )
+        letters: &letters[..cells],
+        marks: &marks[..cells],
+        entries: &entries[..cells],
+        counts: &counts,
+    };
+    print_lines(word, &pair, out)
 }

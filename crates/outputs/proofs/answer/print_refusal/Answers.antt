@@ -1,0 +1,9 @@
+-- `outputs::answer::print_refusal` meets its contract, by the laws of specs. Assumes nothing.
+use Rattle.outputs.specs.Answer.{answering}
+use Rattle.outputs.proofs.answer.print_refusal.Goals as goal
+
+pub unwrap-requires : goal.unwrap-requires
+unwrap-requires c = search answering
+
+pub returns : goal.returns
+returns c = search answering

@@ -1,0 +1,9 @@
+-- `outputs::printing::print_pair` meets its contract, by the laws of specs. Assumes nothing.
+use Rattle.outputs.specs.ThreeLines.{printing}
+use Rattle.outputs.proofs.printing.print_pair.Goals as goal
+
+pub unwrap-requires : goal.unwrap-requires
+unwrap-requires c = search printing
+
+pub returns : goal.returns
+returns c = search printing
