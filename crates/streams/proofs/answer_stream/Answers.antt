@@ -12,8 +12,8 @@ returns-in_default g c = absurd (never c.read_full-got.new.out _ c.answer.new.ou
 
 pub returns-clause-written : goal.returns-clause-written
 returns-clause-written g c =
-    streamed c.read_full-got.new.out _ c.answer.new.out c.read_full-got.result.0 c.answer.result c.answer.ensures (search rules) _ _ _ _ c.in-Elements.bytes
-    c.read_full-got.result.1 (search rules) c.read_full-got.ensures.within c.read_full-got.ensures.bytes c.read_full-got.ensures.end c.in-Elements.is
+    streamed c.read_full-got.new.out _ c.answer.new.out c.read_full-got.result.0 c.answer.result c.answer.ensures (search rules) _ _ _ _ c.in-Ok.bytes
+    c.read_full-got.result.1 (search rules) c.read_full-got.ensures.within c.read_full-got.ensures.bytes c.read_full-got.ensures.end c.in-Ok.is
     (c.in_ok-write_all.ensures.bytes)
 
 pub returns-clause-taken : goal.returns-clause-taken
