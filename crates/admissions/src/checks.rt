@@ -1,6 +1,6 @@
 // The checks of insertion in rising number, each over the whole input. The used cells can be looked at once 1, 2 and 3 have passed; every later check is
 // total and linear, and the first refusal counts.
-ghost use Rattle.std.specs.Prelude.{◌+◌, ◌≤◌, ◌≡◌, [], ◌∷◌, ◌++◌, length, take};
+ghost use Rattle.std.specs.Prelude.{◌+◌, ◌≤◌, ◌≡◌, [], ◌∷◌, ◌++◌, take};
 ghost use Rattle.outcomes.specs.Replies.{first, passed};
 ghost use Rattle.outcomes.specs.Judgements.{letters_judged};
 ghost use Rattle.refusals.specs.Said.{said_verdict};

@@ -1,6 +1,6 @@
 // The first pass of the check 17, 64 steps for a tableau with true counts: letters that rise are cut into blocks as long as the counts say, of which only
 // the first and the last letter are looked at.
-ghost use Rattle.std.specs.Prelude.{◌<◌, ◌≡◌};
+ghost use Rattle.std.specs.Prelude.{◌≡◌};
 ghost use Rattle.outcomes.specs.Judgements.{rising_judged};
 ghost use Rattle.outcomes.specs.Replies.{passed};
 ghost use Rattle.counts.specs.Blocks.{Block, Confirmed};

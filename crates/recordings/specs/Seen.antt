@@ -129,9 +129,6 @@ seen_more table met r t s = record {
 pub record Reaches (size limit : ℕ) : Type 0 where
   pub covers : (e : ℕ) → 1 ≤ e → e ≤ limit → Fits w16 e → InTable size e
 
-pub reaches_all : {limit : ℕ} → Reaches 1024 limit
-reaches_all = record { covers = λ e l f s. record { low = l; high = omega arith } }
-
 -- An entry is wrong that is 0, above the limit or met before. One that is not has a bit in the table.
 pub record Judged (limit : ℕ) (table : List ℕ) (entry : ℕ) (wrong : Bool) : Type 0 where
   pub told : (met : List ℕ) → Seen table met → wrong ≡ (outside limit entry || occurs entry met)

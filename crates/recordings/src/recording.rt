@@ -110,8 +110,5 @@ fn step_fault(entries: &[u16], marks: &[u8]) -> Option<usize>
 pub fn check_recording(entries: &[u16], marks: &[u8]) -> Result<(), Refusal>
     ensures { said_verdict result ≡ recording_judged entries.now marks.now }
 {
-    match step_fault(entries, marks) {
-        Some(place) => Err(Refusal::Step(place)),
-        None => Ok(()),
-    }
+    step_fault(entries, marks).map_or(Ok(()), |place| Err(Refusal::Step(place)))
 }

@@ -9,7 +9,7 @@
 use Rattle.std.specs.Prelude.{Option, Some, None, Result}
 use Rattle.refusals.specs.declared.refusal.Refusal.{Refusal}
 use Rattle.std.specs.Prelude.{ℕ, ◌+◌, ◌*◌, ◌^◌, ◌<◌, ◌≤◌, ◌≡◌, refl, Bool, false, List, [], ◌∷◌, length}
-use Rattle.std.proofs.Common.{sym, ap, ◌∙◌, arith, Fits, rules}
+use Rattle.std.proofs.Common.{sym, ap, ◌∙◌, arith, rules}
 use Rattle.outcomes.specs.Counts.{count_fault, counts_judged}
 use Rattle.outcomes.specs.Replies.{Said, count_on}
 use Rattle.outcomes.specs.Judgements.{letters_judged, marks_judged, rising_judged}

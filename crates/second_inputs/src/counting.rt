@@ -7,11 +7,11 @@ ghost use Rattle.outcomes.specs.Judgements.{letters_judged, marks_judged, rising
 ghost use Rattle.refusals.specs.Said.{said_verdict};
 ghost use Rattle.second_inputs.specs.Counting.{FurtherFits, further};
 
-use acceptance::letters::{letter_fault, letters_verdict};
-use counts::check::{count_fault, counts_verdict};
+use acceptance::letters::letter_fault;
+use counts::check::count_fault;
 use refusals::refusal::Refusal;
-use shapes::marks::{mark_fault, marks_verdict};
-use shapes::rising::{rising_fault, rising_verdict};
+use shapes::marks::mark_fault;
+use shapes::rising::rising_fault;
 
 // The same fault, so many places further on.
 fn counted_on(before: usize, fault: Option<usize>) -> Option<usize>
@@ -26,8 +26,10 @@ fn counted_on(before: usize, fault: Option<usize>) -> Option<usize>
 pub fn check_second_letters(first: &[u8], rank: usize, second: &[u8]) -> Result<(), Refusal>
     ensures { said_verdict result ≡ count_on (length first.now) (letters_judged rank second.now) }
 {
-    let fault = letter_fault(rank, second);
-    letters_verdict(counted_on(first.len(), fault))
+    counted_on(first.len(), letter_fault(rank, second)).map_or(
+        Ok(()),
+        |place| Err(Refusal::Letter(place)),
+    )
 }
 
 // 5 of a second tableau.
@@ -35,8 +37,10 @@ pub fn check_second_letters(first: &[u8], rank: usize, second: &[u8]) -> Result<
 pub fn check_second_rising(first: &[u8], second: &[u8]) -> Result<(), Refusal>
     ensures { said_verdict result ≡ count_on (length first.now) (rising_judged second.now) }
 {
-    let fault = rising_fault(second);
-    rising_verdict(counted_on(first.len(), fault))
+    counted_on(first.len(), rising_fault(second)).map_or(
+        Ok(()),
+        |place| Err(Refusal::Falling(place)),
+    )
 }
 
 // 6 of a second tableau.
@@ -44,8 +48,10 @@ pub fn check_second_rising(first: &[u8], second: &[u8]) -> Result<(), Refusal>
 pub fn check_second_marks(first: &[u8], second: &[u8], marks: &[u8]) -> Result<(), Refusal>
     ensures { said_verdict result ≡ count_on (length first.now) (marks_judged second.now marks.now) }
 {
-    let fault = mark_fault(second, marks);
-    marks_verdict(counted_on(first.len(), fault))
+    counted_on(first.len(), mark_fault(second, marks)).map_or(
+        Ok(()),
+        |place| Err(Refusal::Mark(place)),
+    )
 }
 
 // 17 of a second tableau.
@@ -53,6 +59,5 @@ pub fn check_second_marks(first: &[u8], second: &[u8], marks: &[u8]) -> Result<(
 pub fn check_second_counts(second: &[u8], counts: &[u16; 64]) -> Result<(), Refusal>
     ensures { said_verdict result ≡ count_on 64 (counts_judged counts.now second.now) }
 {
-    let fault = count_fault(second, counts);
-    counts_verdict(counted_on(64, fault))
+    counted_on(64, count_fault(second, counts)).map_or(Ok(()), |place| Err(Refusal::Count(place)))
 }

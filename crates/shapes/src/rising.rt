@@ -17,19 +17,9 @@ pub fn rising_fault(letters: &[u8]) -> Option<usize>
     )
 }
 
-// The verdict of 5 from that place.
-pub fn rising_verdict(fault: Option<usize>) -> Result<(), Refusal>
-    ensures { said_verdict result ≡ said_fault 5 fault }
-{
-    match fault {
-        Some(place) => Err(Refusal::Falling(place)),
-        None => Ok(()),
-    }
-}
-
 // 5: the letters never fall along the ribbon.
 pub fn check_rising(letters: &[u8]) -> Result<(), Refusal>
     ensures { said_verdict result ≡ rising_judged letters.now }
 {
-    rising_verdict(rising_fault(letters))
+    rising_fault(letters).map_or(Ok(()), |place| Err(Refusal::Falling(place)))
 }
