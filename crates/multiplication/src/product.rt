@@ -15,6 +15,7 @@ use second_tableaux::factors::check_factors;
 
 // The product of two tableaux, both at the rank of the first, into lent letters, marks and letter counts, or the refusal of 1 to 6, 17 or 13, which leaves all
 // as they were. The cells are added only where 2 has passed.
+// Kept: lent outputs are parameters, for what a caller lends in a struct of `&mut` has no value for it after the call.
 #[tactic(auto, using(crate::specs::Product::replying))]
 pub fn product(
     one: &CountedTableau,

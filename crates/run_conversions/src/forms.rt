@@ -1,4 +1,5 @@
 // T lines and C lines turned into each other. A text is read into local memory that has room for every tableau, and then the other form is written.
+// Kept: both ways are two calls, and differ in both; one function over a reader and a writer would have to say what closures leave in four lent arrays.
 ghost use Rattle.std.specs.Prelude.{◌≡◌};
 ghost use Rattle.refusals.specs.Said.{said_value};
 ghost use Rattle.run_lines.specs.Operations.{runs_to_tableau_run, tableau_to_runs_run};
