@@ -33,15 +33,16 @@ pub(crate) fn write_word(
     let mut ys = letters;
     let mut ms = marks;
     let mut left = number;
+    let mut n = cells;
     for i in 0..cells {
-        let n = cells - i;
         let next = cell_of_number(ms, n, left);
         if n <= next.cell {
             return;
         }
         word[i] = ys[next.cell];
-        let letters_left = pulled(ys, next.cell, n - 1);
-        let marks_left = pulled_free(ms, next.cell, n - 1);
+        n -= 1;
+        let letters_left = pulled(ys, next.cell, n);
+        let marks_left = pulled_free(ms, next.cell, n);
         ys = letters_left;
         ms = marks_left;
         left = next.number;

@@ -1,5 +1,4 @@
 -- What was found of the next cell is passed to the laws of the loop.
-use Rattle.std.specs.Prelude.{◌≡◌, ◌+◌, ◌-◌}
 use Rattle.std.proofs.Common.{arith}
 use Rattle.class_numbers.specs.WordWritten.{writing_none, writing_turn}
 use Rattle.class_numbers.proofs.ribbon.write_word.Goals as goal
@@ -9,6 +8,4 @@ returns-then-n-next c = writing_none c.loop-i.invariant (omega arith) c.cell_of_
 
 pub loop-i-preserved : goal.loop-i-preserved
 loop-i-preserved c =
-    let one_less : c.args.cells - (c.loop-i.i + 1) ≡ c.args.cells - c.loop-i.i - 1 = omega arith in
-    rw one_less
-    (writing_turn c.loop-i.invariant (omega arith) c.cell_of_number-next.ensures c.if-n-next.false c.pulled-letters_left.ensures c.pulled_free-marks_left.ensures)
+    writing_turn c.loop-i.invariant (omega arith) c.cell_of_number-next.ensures c.if-n-next.false c.pulled-letters_left.ensures c.pulled_free-marks_left.ensures
