@@ -1,7 +1,6 @@
 -- Letters and marks of at most 20 cells at the beginning of 20 bytes.
 --     Holds xs ys         ys begins with xs
 --     take_freed          a beginning with its first step made free
---     holding             the ruleset of the copy
 -- Assumes nothing.
 use Rattle.std.specs.Prelude.{ℕ, zero, suc, ◌≤◌, ◌≡◌, refl, List, [], ◌∷◌, length, set, take}
 use Rattle.std.proofs.Common.{ap, ◌∙◌, arith, rules}
@@ -25,5 +24,3 @@ take_freed k ys ms e = go k ys ∙ ap freed e
     go zero ys = refl
     go (suc k) [] = refl
     go (suc k) (y ∷ ys) = refl
-
-pub ruleset holding = (held_copy, rules)

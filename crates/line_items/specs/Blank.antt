@@ -1,7 +1,6 @@
 -- Local memory for the items of a line, before any is kept there.
 --     blank n                  so many zeros
 --     blank_is, blank_long     an array of zeros is blank; how long blank memory is
---     blanking                 the ruleset of the functions that make it
 -- Assumes nothing.
 use Rattle.std.specs.Prelude.{ℕ, ◌≡◌, refl, List, length, replicate}
 use Rattle.std.proofs.Common.{ap, ◌∙◌, rules}
@@ -18,5 +17,3 @@ blank_is n = refl
 pub blank_long : (n : ℕ) {xs : List ℕ} → xs ≡ blank n → length xs ≡ n
 unfolding blank
 blank_long n e = ap length e ∙ length-replicate n 0
-
-pub ruleset blanking = (blank_is, rules)

@@ -23,11 +23,6 @@ module _ {n c : ℕ} {xs bytes : List ℕ} {i : ℕ} (h : Narrowing n c xs bytes
   pub narrow_letter : i < c → i < length xs
   narrow_letter l = omega (arith, h.count)
 
-  pub narrow_place : i < c → i < length bytes
-  narrow_place l =
-      let size : length bytes ≡ n = ap length h.bytes_are ∙ length-kept (map narrowed (take i xs)) (blank n) ∙ blank_long n refl in
-      omega (arith, h.count)
-
   -- one letter more,
   pub narrow_turn : {v : ℕ} → i < c → v ≡ narrowed (get_or xs i 0) → Narrowing n c xs (set bytes i v) (i + 1)
   narrow_turn {v} l e =

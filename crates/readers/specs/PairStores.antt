@@ -1,7 +1,6 @@
 -- A pair of a line into lent memory: the reply, and memory, from the verdict of the checks on.
 --     PairCopied                     letters, marks and entries are copied
 --     pair_refused, pair_passed      a pair, and its letter counts
---     storing_pairs                  their ruleset
 -- Words and tableaux are in Stores. Assumes nothing.
 use Rattle.std.specs.Prelude.{Result, Ok, Err}
 use Rattle.std.specs.Prelude.{ℕ, ◌≡◌, List, [], ◌∷◌, length}
@@ -42,5 +41,3 @@ module _ {v : Result (Unit {0}) Refusal} (n : ℕ) (xs ms rs letters marks entri
       let word : Accepted n xs = ((pair_passing n xs ms rs).0 checks).word in
       run_passed _ _ e _ _ (pair_with letters marks entries, counts) (pair_with xs' ms' rs', cs) q
       (rw (copied_all xs letters xs' h.letters_are ((room_judged_lem _ _).0 first), copied_all ms marks ms' h.marks_are (omega (arith, as_marks, (room_judged_lem _ _).0 second)), copied_all rs entries rs' h.entries_are (omega (arith, as_entries, (room_judged_lem _ _).0 third)), counts-given word t))
-
-pub ruleset storing_pairs = (pair_refused, pair_passed, rules)

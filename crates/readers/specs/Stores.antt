@@ -1,7 +1,6 @@
 -- A tableau of a line into lent memory: the reply, and memory, from the verdict of the checks on.
 --     Copied                               letters and marks are copied
 --     tableau_refused, tableau_passed      a tableau, and its letter counts
---     storing_tableaux                     the ruleset
 -- Pairs are in PairStores, words in word_readers. Assumes nothing.
 use Rattle.std.specs.Prelude.{Result, Ok, Err}
 use Rattle.std.specs.Prelude.{ℕ, ◌≡◌, List, [], ◌∷◌, length}
@@ -40,5 +39,3 @@ module _ {v : Result (Unit {0}) Refusal} (n : ℕ) (xs ms letters marks counts :
       let word : Accepted n xs = ((tableau_passing n xs ms).0 checks).word in
       run_passed _ _ e _ _ (letters, (marks, counts)) (xs', (ms', cs)) q
       (rw (copied_all xs letters xs' h.letters_are ((room_judged_lem _ _).0 first), copied_all ms marks ms' h.marks_are (omega (arith, (room_judged_lem _ _).0 second)), counts-given word t))
-
-pub ruleset storing_tableaux = (tableau_refused, tableau_passed, rules)

@@ -1,11 +1,9 @@
 -- Chains of checks: what a chain says from the verdicts of its checks.
 --     stops, goes_on      an operation whose checks refuse says so; one whose checks pass says what follows
---     stops_two, goes_on_two, and so for three and four: the same where those checks are a group at the front of its chain
 --     refuses, passes     what one verdict or else another says
---     chained             a check and then a chain; chained_two, chained_three, chained_four: a group of checks and then a chain
+--     chained             a check and then a chain; chained_two, chained_three: a group of checks and then a chain
 --     ends                the last check
 --     chaining            the ruleset of chains
---     stopping            the ruleset of chains that stop where a group at their front refuses
 -- Assumes nothing.
 use Rattle.std.specs.Prelude.{◌≡◌, refl, [], Result, Ok, Err}
 use Rattle.std.proofs.Common.{ap, ◌∙◌, rules}
@@ -51,11 +49,6 @@ joins_three : (i j k s : Said) → or_else (or_else i (or_else j (or_else k pass
 joins_three (gives vs) j k s = joins_two j k s
 joins_three (refused n p) j k s = refl
 
-joins_four : (h i j k s : Said)
-    → or_else (or_else h (or_else i (or_else j (or_else k passed)))) s ≡ or_else h (or_else i (or_else j (or_else k s)))
-joins_four (gives vs) i j k s = joins_three i j k s
-joins_four (refused n p) i j k s = refl
-
 -- The verdict t is that of u or else that of v.
 module _ (t u v : Result (Unit {0}) Refusal) (e : said_verdict t ≡ or_else (said_verdict u) (said_verdict v)) where
   pub chained : (j s : Said) → said_verdict u ≡ j → said_verdict v ≡ s → said_verdict t ≡ or_else j s
@@ -68,33 +61,4 @@ module _ (t u v : Result (Unit {0}) Refusal) (e : said_verdict t ≡ or_else (sa
       → said_verdict t ≡ or_else i (or_else j (or_else k s))
   chained_three i j k s f g = chained (or_else i (or_else j (or_else k passed))) s f g ∙ joins_three i j k s
 
-  pub chained_four : (h i j k s : Said) → said_verdict u ≡ or_else h (or_else i (or_else j (or_else k passed))) → said_verdict v ≡ s
-      → said_verdict t ≡ or_else h (or_else i (or_else j (or_else k s)))
-  chained_four h i j k s f g = chained (or_else h (or_else i (or_else j (or_else k passed)))) s f g ∙ joins_four h i j k s
-
 pub ruleset chaining = (halts, proceeds, refuses, passes, ends, chained, chained_two, chained_three, rules)
-
--- ---- chains that stop where a group of checks at their front refuses: the verdict of the group is v
-
-module _ {v : Result (Unit {0}) Refusal} (j k : Said) (e : said_verdict v ≡ or_else j (or_else k passed)) where
-  pub stops_two : (r : Refusal) (s : Said) → v ≡ Err r → said_refusal r ≡ or_else j (or_else k s)
-  stops_two r s q = stops r (or_else j (or_else k passed)) s e q ∙ joins_two j k s
-
-  pub goes_on_two : {t : Said} (s : Said) → v ≡ Ok tt → t ≡ s → t ≡ or_else j (or_else k s)
-  goes_on_two s q h = goes_on (or_else j (or_else k passed)) s e q h ∙ joins_two j k s
-
-module _ {v : Result (Unit {0}) Refusal} (i j k : Said) (e : said_verdict v ≡ or_else i (or_else j (or_else k passed))) where
-  pub stops_three : (r : Refusal) (s : Said) → v ≡ Err r → said_refusal r ≡ or_else i (or_else j (or_else k s))
-  stops_three r s q = stops r (or_else i (or_else j (or_else k passed))) s e q ∙ joins_three i j k s
-
-  pub goes_on_three : {t : Said} (s : Said) → v ≡ Ok tt → t ≡ s → t ≡ or_else i (or_else j (or_else k s))
-  goes_on_three s q h = goes_on (or_else i (or_else j (or_else k passed))) s e q h ∙ joins_three i j k s
-
-module _ {v : Result (Unit {0}) Refusal} (h i j k : Said) (e : said_verdict v ≡ or_else h (or_else i (or_else j (or_else k passed)))) where
-  pub stops_four : (r : Refusal) (s : Said) → v ≡ Err r → said_refusal r ≡ or_else h (or_else i (or_else j (or_else k s)))
-  stops_four r s q = stops r (or_else h (or_else i (or_else j (or_else k passed)))) s e q ∙ joins_four h i j k s
-
-  pub goes_on_four : {t : Said} (s : Said) → v ≡ Ok tt → t ≡ s → t ≡ or_else h (or_else i (or_else j (or_else k s)))
-  goes_on_four s q g = goes_on (or_else h (or_else i (or_else j (or_else k passed)))) s e q g ∙ joins_four h i j k s
-
-pub ruleset stopping = (stops, goes_on, stops_two, goes_on_two, stops_three, goes_on_three, stops_four, goes_on_four, ends, chained, chained_three, rules)

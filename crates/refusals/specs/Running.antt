@@ -1,7 +1,5 @@
 -- Operations that write into lent memory: what they reply, and what memory then holds, from the verdict of their checks on.
 --     checks_then js ks             what the checks of an input say, and then those of the room that its outputs have
---     checked_then, checked_last   the verdict of both; with one check after the input's
---     following                    the ruleset of such checks
 --     stops_there, goes_further    what they say from the verdict of the first alone
 --     all_passing, then_passing    where the verdict of checks passes, all of them do
 --     run-stopped                  where it refuses, memory is as it was, whatever checks follow
@@ -23,17 +21,6 @@ use Rattle.refusals.specs.declared.refusal.Refusal.{Refusal}
 -- What the checks js of an input say, and then the checks ks of what it is for.
 unfoldable pub checks_then : List Said → List Said → Said
 checks_then js ks = first (js ++ ks) passed
-
--- The verdict t is that of u or else that of v.
-module _ (t u v : Result (Unit {0}) Refusal) (js : List Said) (e : said_verdict t ≡ or_else (said_verdict u) (said_verdict v)) (f : said_verdict u ≡ first js passed) where
-  pub checked_then : (ks : List Said) → said_verdict v ≡ first ks passed → said_verdict t ≡ checks_then js ks
-  unfolding checks_then
-  checked_then ks g = chained t u v e (first js passed) (first ks passed) f g ∙ sym (first-append js ks passed)
-
-  pub checked_last : (k : Said) → said_verdict v ≡ k → said_verdict t ≡ checks_then js (k ∷ [])
-  checked_last k g = checked_then (k ∷ []) (ends v k g)
-
-pub ruleset following = (checked_then, checked_last, chaining)
 
 -- By the verdict of the first checks alone: it refuses, or the others decide.
 module _ {v : Result (Unit {0}) Refusal} (js : List Said) (e : said_verdict v ≡ first js passed) where

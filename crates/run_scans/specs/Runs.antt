@@ -2,7 +2,7 @@
 --     read_run_item stepped                an item, with or without a step before its letter
 --     read_marked_run m                a letter and its count, with the mark m
 --     said_item, item_place, ItemTold  what an item that was read, or a break, says in the grammar's terms, and its place
---     run_none, run_takes            an item takes a byte
+--     run_takes                      an item takes a byte
 -- Assumes nothing.
 use Rattle.std.specs.Prelude.{ℕ, ◌≡◌, refl, Bool, true, false, List, [], Result, Ok, Err, drop}
 use Rattle.grammar.specs.Lines.{Run}
@@ -72,13 +72,7 @@ run-first t h = rw (first-marked t) h
 
 -- ---- an item takes a byte
 
--- It breaks where no byte is left,
-pub run_none : (stepped : Bool) → read_run_item stepped [] ≡ broken []
-unfolding read_run_item
-run_none true = refl
-run_none false = refl
-
--- and is read out of some.
+-- It is read out of some byte.
 pub run_takes : (stepped : Bool) → Eats (read_run_item stepped)
 unfolding read_run_item
 run_takes true = eats later_run_exact (λ r t. refl)

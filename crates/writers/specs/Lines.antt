@@ -4,7 +4,6 @@
 --     length-line                            how many bytes a line has
 --     line_refused, line_laid                reply and memory from what is judged of the room on
 --     head_room, rest_room, feed_room        where it passes there is room for each part
---     fewer                                  fewer values are no more than so many
 --     line_kept                              no store changes how many elements there are
 --     heading, lining                        the rulesets of the functions on parts of lines and on whole lines
 -- Assumes nothing.
@@ -107,9 +106,5 @@ module _ {need : ℕ} (kind n rest : ℕ) (y old : List ℕ) (s : need ≡ line_
 -- No store changes how many elements there are.
 pub line_kept : {us vs mid now : List ℕ} {at end : ℕ} (old : List ℕ) (i j b : ℕ) → Laid us old i mid at → Laid vs mid at now end → length (set now j b) ≡ length old
 line_kept {us} {vs} {mid} {now} old i j b h l = length-set now j b ∙ l.long ∙ h.long
-
--- Fewer values are no more than so many.
-pub fewer : {most more r : ℕ} {vs : List ℕ} → Counted most vs r → most ≤ more → Counted more vs r
-fewer k h = record { is = k.is; few = omega (arith, k.few) }
 
 pub ruleset lining = (line_refused, head_room, rest_room, feed_room, line_laid, line_kept, rules)

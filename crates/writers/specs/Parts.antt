@@ -4,8 +4,7 @@
 --     Placed xs ms rs have start             as many marks as letters, and room for all parts from a place on
 --     parts_start, parts_end                 the loop that counts the bytes of the entries after those of the cells
 --     cells_room, entries_begun, parts_written     the loop that writes them
---     parts_placed                           where there is room for the parts of a pair
---     parting, pairing                       the rulesets of the functions on parts, and of that on the whole line
+--     parting                                the ruleset of the functions on parts
 -- Assumes nothing.
 use Rattle.std.specs.Prelude.{ℕ, ◌+◌, ◌≤◌, ◌≡◌, List, ◌++◌, length}
 use Rattle.std.proofs.Common.{append_assoc, arith, length-append, rules}
@@ -82,10 +81,6 @@ pub parts_written : {mid now : List ℕ} {first i at : ℕ} (xs ms rs old : List
     → Laid (parts xs ms rs) old start now at
 parts_written xs ms rs old start k h l = rw (← (parts_are xs ms rs)) (laid_then k (fields_end rs h l))
 
--- Where there is room for the parts of a pair.
-pub parts_placed : (xs ms rs : List ℕ) (have start : ℕ) → Alike xs ms rs → start + length (parts xs ms rs) ≤ have → Placed xs ms rs have start
-parts_placed xs ms rs have start h r = record { marks = h.marks; room = r }
-
 pub ruleset parting = (
   alike_short,
   alike_marks,
@@ -102,5 +97,3 @@ pub ruleset parting = (
   list_kept,
   rules,
 )
-
-pub ruleset pairing = (parts_placed, lining)
