@@ -62,10 +62,13 @@ tally n rs = tallies.inside_lead n rs ∷ tallies.rising_lead 0 rs ∷ tallies.l
 abbrev pub compared : List ℕ → List ℕ → List ℕ
 compared cs ds = told (same_tables cs ds) ∷ comparison_number (compare_tables cs ds) ∷ []
 
--- A place, where there is one.
-abbrev pub placed : Option ℕ → List ℕ
-placed (Some p) = p ∷ []
-placed None = []
+-- The first entry 1, or how many entries there are where there is none.
+abbrev pub place_or : ℕ → Option ℕ → ℕ
+place_or n (Some p) = p
+place_or n None = n
+
+abbrev pub oldest_or_all : List ℕ → ℕ
+oldest_or_all rs = place_or (length rs) (oldest_place rs)
 
 -- A cell that goes first, and the number beside it.
 abbrev pub going : ℕ × ℕ → List ℕ
@@ -102,9 +105,8 @@ shared_cases =
     (0 ∷ 1 ∷ 1 ∷ 9 ∷ 0 ∷ 1 ∷ 0 ∷ 9 ∷ [])
     -- an entry, the others one less, of which 0 stays; past the used ones all of these are one less
     ∷ case (closed_entries 1 3 (2 ∷ 1 ∷ 3 ∷ 9 ∷ []) ++ closed_entries 3 3 (2 ∷ 0 ∷ 3 ∷ 9 ∷ [])) (1 ∷ 2 ∷ 3 ∷ 9 ∷ 1 ∷ 0 ∷ 2 ∷ 9 ∷ [])
-    -- the first entry 1, where there is one
-    ∷ case (placed (oldest_place (2 ∷ 1 ∷ 1 ∷ [])) ++ placed (oldest_place (1 ∷ [])) ++ placed (oldest_place (2 ∷ 3 ∷ [])) ++ placed (oldest_place []))
-    (1 ∷ 0 ∷ [])
+    -- the first entry 1; where there is none, how many entries there are
+    ∷ case (oldest_or_all (2 ∷ 1 ∷ 1 ∷ []) ∷ oldest_or_all (1 ∷ []) ∷ oldest_or_all (2 ∷ 3 ∷ []) ∷ oldest_or_all [] ∷ []) (1 ∷ 0 ∷ 2 ∷ 0 ∷ [])
     -- a line by the grammar alone: the cells read before it breaks, of which as many are kept as have room, and marks only where the line tells steps
     ∷ case (kept (1 ∷ 2 ∷ 3 ∷ []) (9 ∷ 9 ∷ []) ++ kept (1 ∷ []) (9 ∷ 9 ∷ [])) (1 ∷ 2 ∷ 1 ∷ 9 ∷ [])
     ∷ case (letters (whole_cells 87 true false (text "W,4,3,3,1x"))) (3 ∷ 1 ∷ [])

@@ -23,24 +23,22 @@ pub enum Side {
 
 impl Side {
     // The letter that a move changes.
-    pub fn taken(self, index: u8) -> u8
-        requires { index < 64 }
+    pub fn taken(self, index: u8) -> usize
         ensures { result ≡ taken (side_of self) index }
     {
         match self {
-            Side::Raising => index + 1,
-            Side::Lowering => index,
+            Side::Raising => usize::from(index) + 1,
+            Side::Lowering => usize::from(index),
         }
     }
 
     // The letter that it becomes.
-    pub fn given(self, index: u8) -> u8
-        requires { index < 64 }
+    pub fn given(self, index: u8) -> usize
         ensures { result ≡ given (side_of self) index }
     {
         match self {
-            Side::Raising => index,
-            Side::Lowering => index + 1,
+            Side::Raising => usize::from(index),
+            Side::Lowering => usize::from(index) + 1,
         }
     }
 }
@@ -50,7 +48,7 @@ fn place_of(side: Side, index: u8, letters: &[u8]) -> Option<usize>
     requires { index < 64 }
     ensures { found_place result ≡ target (side_of side) index letters.now }
 {
-    let letter = side.taken(index);
+    let letter = side.taken(index) as u8;
     match side {
         Side::Raising => leftmost(letter, letters),
         Side::Lowering => rightmost(letter, letters),
@@ -91,7 +89,7 @@ pub fn move_letters(
     check_change(rank, index)?;
     let index = index as u8;
     let place = target_of(side, index, inversion, letters)?;
-    letters[place] = side.given(index);
+    letters[place] = side.given(index) as u8;
     Ok(place)
 }
 
@@ -112,5 +110,5 @@ pub(crate) fn repeat_letters(
     if inversion {
         return Ok(0);
     }
-    Ok(count_letters(side.taken(index as u8), letters))
+    Ok(count_letters(side.taken(index as u8) as u8, letters))
 }

@@ -13,8 +13,7 @@ pub(crate) fn count_taken(side: Side, index: u8, counts: &[u16; 64]) -> usize
     requires { (0 < index) × (index < 64) }
     ensures { result ≡ get_or counts.now (taken (side_of side) index - 1) 0 }
 {
-    let from = side.taken(index) - 1;
-    usize::from(counts[usize::from(from)])
+    usize::from(counts[side.taken(index) - 1])
 }
 
 // The counts after a move: one less of the letter taken, one more of the letter given.
@@ -25,6 +24,6 @@ pub(crate) fn change_counts(side: Side, index: u8, counts: &mut [u16; 64])
 {
     let from = side.taken(index) - 1;
     let to = side.given(index) - 1;
-    counts[usize::from(from)] -= 1;
-    counts[usize::from(to)] += 1;
+    counts[from] -= 1;
+    counts[to] += 1;
 }
