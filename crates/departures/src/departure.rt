@@ -23,6 +23,7 @@ fn drop_count(letter: u8, counts: &mut [u16; 64])
 
 // The oldest letter leaves the window in the first cells of three lent lists, of which so many are used. The last used element of each list keeps its value,
 // as those beyond do. The counts of an accepted call are those of the used letters, before and after. The marks are closed while the entries are as they were.
+// Kept: lists that are written stay parameters: a struct of `&mut` gives a caller's reference no value after the call that got it inside the struct.
 #[tactic(auto, using(crate::specs::Departure::replying))]
 pub fn remove_oldest(
     rank: usize,
