@@ -129,7 +129,7 @@ def check_edits():
 def functions():
     """The public functions of the kernel, each with the names of its arguments."""
     texts = [file.read_text() for file in CRATES.glob("*/src/*.rt") if file.parts[-3] not in PROGRAMS]
-    found = [call for text in texts for call in re.findall(r'^ *pub (?:extern "C" )?fn (\w+)(?:<[^>]*>)?\(([^)]*)\)', text, re.M)]
+    found = [call for text in texts for call in re.findall(r'^ *pub (?:extern "C" )?fn (\w+)(?:<(?:[^<>]|->)*>)?\(([^)]*)\)', text, re.M)]
     return {name: ", ".join(re.findall(r"(\w+):", taken)) for name, taken in found}
 
 
