@@ -3,7 +3,7 @@
 --     blank_is, blank_long     an array of zeros is blank; how long blank memory is
 -- Assumes nothing.
 use Rattle.std.specs.Prelude.{ℕ, ◌≡◌, refl, List, length, replicate}
-use Rattle.std.proofs.Common.{ap, ◌∙◌, rules}
+use Rattle.std.proofs.Common.{ap, ◌∙◌}
 use Rattle.std.proofs.lemmas.List.{length-replicate}
 
 -- So many zeros. Kept folded, so that no goal unrolls them.

@@ -2,10 +2,10 @@
 --     Narrowing n c xs bytes i the loop over letters: the first i, of c in all, are in the bytes, of which there are n
 -- Assumes nothing.
 use Rattle.std.specs.Prelude.{ℕ, min, ◌+◌, ◌≤◌, ◌<◌, ◌≡◌, refl, List, [], ◌∷◌, ◌++◌, map, length, get_or, set, take, replicate}
-use Rattle.std.proofs.Common.{ap, ◌∙◌, add-one, arith, length-take-le, take-suc}
+use Rattle.std.proofs.Common.{◌∙◌, add-one, arith, length-take-le, take-suc}
 use Rattle.std.proofs.lemmas.List.{map-append, length-map}
 use Rattle.acceptance.specs.Bytes.{narrowed}
-use Rattle.scans.specs.Kept.{kept, kept_enough, kept_next, length-kept}
+use Rattle.scans.specs.Kept.{kept, kept_enough, kept_next}
 use Rattle.line_items.specs.Blank.{blank, blank_is, blank_long}
 
 -- The first i letters are narrowed, of as many as there are, or as there is room for: c.

@@ -4,7 +4,7 @@
 -- Words and tableaux are in Stores. Assumes nothing.
 use Rattle.std.specs.Prelude.{Result, Ok, Err}
 use Rattle.std.specs.Prelude.{ℕ, ◌≡◌, List, [], ◌∷◌, length}
-use Rattle.std.proofs.Common.{arith, rules}
+use Rattle.std.proofs.Common.{arith}
 use Rattle.hypoplactic.specs.Insertion.{pair_with}
 use Rattle.outcomes.specs.Judgements.{pair_judgements, pair_rooms}
 use Rattle.outcomes.specs.LineReadings.{pair_read}

@@ -4,7 +4,7 @@
 -- Pairs are in PairStores, words in word_readers. Assumes nothing.
 use Rattle.std.specs.Prelude.{Result, Ok, Err}
 use Rattle.std.specs.Prelude.{ℕ, ◌≡◌, List, [], ◌∷◌, length}
-use Rattle.std.proofs.Common.{arith, rules}
+use Rattle.std.proofs.Common.{arith}
 use Rattle.hypoplactic.specs.Words.{Accepted}
 use Rattle.outcomes.specs.Judgements.{room_judged, tableau_judgements}
 use Rattle.outcomes.specs.LineReadings.{tableau_read}
