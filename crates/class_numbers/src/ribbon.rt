@@ -41,6 +41,7 @@ pub(crate) fn write_word(
         }
         word[i] = ys[next.cell];
         n -= 1;
+        // Kept: two steps, for a call's result laid into the array that the call reads gets no proof.
         let letters_left = pulled(ys, next.cell, n);
         let marks_left = pulled_free(ms, next.cell, n);
         ys = letters_left;

@@ -2,27 +2,25 @@
 --     closed_elements at used xs       letters or entries: the used ones without that at the place
 --     closed_marks at used rs ms       the marks ms beside the entries rs: the same, and the step that joins the neighbours
 --     closed_entries at used rs        the entries: the same, each one less
---     used_there                       of a used count beyond the list only the list is used
 --     joint-first, joint_told          the mark that joins the neighbours, from the tests made for it
 --     none_closed, tail_closed         a list where nothing is out, and one whose tail from the place on came back pulled
 --     marks_kept, marks-joined, marks-closed     the marks so: where nothing is out, where a cell follows and where none does
 --     entries_closed                   the entries so, of which those that are left then came back one less
---     reading, joining, closing        the rulesets of the functions
+--     joining, closing                 the rulesets of the functions
 -- Assumes nothing.
 use Prim.Native.Nat.{ℕ, zero, suc, ◌+◌, ◌-◌, ◌≤◌, ◌<◌, min}
 use native.Mathlib.Omega.{arith}
 use Rattle.std.proofs.Math.Numerals.{add-one}
-use Rattle.std.specs.Prelude.{◌≡◌, refl, ◌⊎◌, Bool, true, false, ltb, get_or, set, drop}
+use Rattle.std.specs.Prelude.{◌≡◌, refl, Bool, true, false, ltb, get_or, set, drop}
 use Rattle.std.proofs.Math.Path.{sym, ap}
 use Rattle.std.proofs.Common.{◌∙◌, inl, inr, length-append, length-set, drop_of_length-le, take-append-drop, drop_at, get_or-take, length-take-le, take-add, take_all, take_at, take-take, rules, le-ltb, lt-ltb}
 use mathlib.Core.List.{List, ◌++◌, append_assoc, append-nil}
 use Rattle.std.proofs.Math.ListN.{length, take, length-drop, length-take}
-use Rattle.std.proofs.lemmas.List.{drop-append-le}
+use Rattle.std.proofs.lemmas.List.{drop-append-le, take_min}
 use Rattle.std.proofs.Math.Seq.{drop-drop, set-append_left, set_out}
 use mir.Val.{bool_byte}
 use borrow.Rule.Slice.PartMut.{mid_of, put_mid, Post-is}
 use Rattle.outcomes.specs.Replies.{written}
-use Rattle.hypoplactic.proofs.Theory.Pairs.{le-or-lt}
 use Rattle.hypoplactic.specs.Words.{tick}
 use Rattle.windows.specs.Gaps.{joint, lowered, without}
 use Rattle.buffers.specs.Pulls.{pulled}
@@ -48,16 +46,6 @@ unfoldable pub closed_entries : ℕ → ℕ → List ℕ → List ℕ
 closed_entries at used rs = written (lowered (without at (take used rs))) rs
 
 -- ---- the mark that joins the neighbours
-
--- Of a used count beyond the list only the list is used.
-pub used_there : {X : Type 0} (used : ℕ) (xs : List X) → take (min used (length xs)) xs ≡ take used xs
-used_there used xs = go (le-or-lt used (length xs))
-  where
-    go : (used ≤ length xs) ⊎ (length xs < used) → take (min used (length xs)) xs ≡ take used xs
-    go (inl l) = let all : min used (length xs) ≡ used = omega arith in rw all
-    go (inr l) = take_all (min used (length xs)) xs (omega arith) ∙ sym (take_all used xs (omega arith))
-
-pub ruleset reading = (used_there, rules)
 
 -- No cell before,
 pub joint-first : (rs : List ℕ) → 0 ≡ joint 0 rs
@@ -135,13 +123,13 @@ module _ {X : Type 0} {end : ℕ} (at used : ℕ) (xs : List X) (b : end ≡ min
       let all : left_out at (take used xs) ≡ take used xs
       = ap (λ (ys : List X). ys ++ drop (suc at) (take used xs)) (take_all at (take used xs) (omega (arith, size)))
       ∙ ap (λ (ys : List X). take used xs ++ ys) (drop_of_length-le (take used xs) {i = suc at} (omega (arith, size))) ∙ append-nil (take used xs) in
-      sym (rw (all, size) (ap (λ (ys : List X). ys ++ drop (min used (length xs)) xs) (sym (used_there used xs)) ∙ take-append-drop (min used (length xs)) xs))
+      sym (rw (all, size) (ap (λ (ys : List X). ys ++ drop (min used (length xs)) xs) (sym (take_min used xs)) ∙ take-append-drop (min used (length xs)) xs))
 
   -- Else the tail from the place on, as far as elements are used, came back pulled.
   pub tail_closed : {ys : List X} → at < end → ys ≡ pulled (mid_of at (end - at) xs) → put_mid at (end - at) xs ys ≡ closed_elements at used xs
   unfolding closed_elements
   tail_closed l e =
-      let used_all : take end xs ≡ take used xs = ap (λ (k : ℕ). take k xs) b ∙ used_there used xs in
+      let used_all : take end xs ≡ take used xs = ap (λ (k : ℕ). take k xs) b ∙ take_min used xs in
       pulled_back at end xs l (omega arith) e ∙ ap (λ (zs : List X). laid (left_out at zs) xs) used_all
 
 -- ---- the marks

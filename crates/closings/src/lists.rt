@@ -7,7 +7,7 @@ ghost use Rattle.closings.specs.Closings.{closed_elements, closed_entries, close
 use buffers::pulls::pull;
 
 // The used entries.
-#[tactic(auto, using(crate::specs::Closings::reading))]
+#[tactic(auto, using(std::proofs::lemmas::List::take_min))]
 pub(crate) fn used_entries(used: usize, entries: &[u16]) -> &[u16]
     ensures { result.now ≡ take used entries.now }
 {

