@@ -32,7 +32,8 @@ fn orders_left(marks: [u8; 20], cells: usize, place: usize) -> u64
 }
 
 // The place of a cell that goes first, and a number beside it: what is left of a number, or how many words come before.
-// Kept: past the last cell for none, as `cell_of_number` and `cell_of_letter` of specs/ have it, since the number beside it counts there too (`number_in` adds it).
+// Kept: past the last cell for none, as `cell_of_number` and `cell_of_letter` of specs/ have it, for the number beside it counts there too: `number_in` of
+// class_numbers adds it.
 #[derive(Clone, Copy)]
 pub struct First {
     pub cell: usize,
