@@ -1,14 +1,15 @@
-// A tableau that a call is given: its letters, its marks and its counts stand one after the other in a line.
+// Tableaux and pairs that a call is given: their lists stand one after the other in a line.
 use crate::calls::{FIRST, OTHER, SECOND};
 use lent::tableaux::{CountedPair, CountedTableau};
 use notation::arguments::Arguments;
 use std::alloc::AllocError;
 
+// A tableau: letters, marks and counts.
 #[derive(Drop)]
 pub(crate) struct Given {
-    pub letters: Vec<u8>,
-    pub marks: Vec<u8>,
-    pub counts: [u16; 64],
+    letters: Vec<u8>,
+    marks: Vec<u8>,
+    counts: [u16; 64],
 }
 
 impl Given {
@@ -39,14 +40,35 @@ impl Given {
             counts: &self.counts,
         }
     }
+}
 
-    // The pair of the tableau and entries at a rank.
-    pub fn pair_at<'a>(&'a self, rank: usize, entries: &'a [u16]) -> CountedPair<'a> {
+// A pair that a call is given: letters, marks, entries and counts.
+#[derive(Drop)]
+pub(crate) struct GivenPair {
+    letters: Vec<u8>,
+    marks: Vec<u8>,
+    entries: Vec<u16>,
+    counts: [u16; 64],
+}
+
+impl GivenPair {
+    // The pair of a call.
+    pub fn first(call: &mut Arguments<'_>) -> Result<GivenPair, AllocError> {
+        Ok(GivenPair {
+            letters: call.bytes(FIRST)?,
+            marks: call.bytes(SECOND)?,
+            entries: call.entries(OTHER)?,
+            counts: call.counts()?,
+        })
+    }
+
+    // The pair at a rank.
+    pub fn at(&self, rank: usize) -> CountedPair<'_> {
         CountedPair {
             rank,
             letters: &self.letters,
             marks: &self.marks,
-            entries,
+            entries: &self.entries,
             counts: &self.counts,
         }
     }

@@ -1,6 +1,6 @@
 // The calls that change no memory: questions about words, about one tableau, and about two.
-use crate::calls::{FIRST, OTHER, SECOND};
-use crate::given::Given;
+use crate::calls::{FIRST, SECOND};
+use crate::given::{Given, GivenPair};
 use lent::tableaux::{CountedTableau, Tableau};
 use notation::answers::{Values, print_answer};
 use notation::arguments::Arguments;
@@ -95,9 +95,8 @@ pub(crate) fn look(rt: &impl Print, mut call: Arguments<'_>) -> io::Result<()> {
 // A check of a pair.
 pub(crate) fn check_pair(rt: &impl Print, mut call: Arguments<'_>) -> io::Result<()> {
     let rank = call.number();
-    let given = Given::first(&mut call)?;
-    let entries = call.entries(OTHER)?;
-    print_answer(rt, check_counted_pair(&given.pair_at(rank, &entries)))
+    let given = GivenPair::first(&mut call)?;
+    print_answer(rt, check_counted_pair(&given.at(rank)))
 }
 
 // A question about two tableaux.

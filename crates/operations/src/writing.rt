@@ -1,12 +1,12 @@
 // The calls that write into one list of bytes: moves of a word, a W line read, and those that write a line or a word. What is lent is printed after the call, as
 // a text where a line is written.
 use crate::calls::{FIRST, OTHER, SECOND};
-use crate::given::Given;
+use crate::given::{Given, GivenPair};
 use class_numbers::classes::class_word;
 use columns::reading::column_reading;
 use conversions::former::convert_lines;
 use inverses::way_back::word_of_pair;
-use lent::tableaux::{CountedPair, Pair, Tableau};
+use lent::tableaux::{Pair, Tableau};
 use notation::answers::print_answer;
 use notation::arguments::Arguments;
 use notation::printing::{print_list, print_text};
@@ -123,22 +123,12 @@ pub(crate) fn read_column(rt: &impl Print, mut call: Arguments<'_>) -> io::Resul
     print_list(rt, &word)
 }
 
-// The word of a pair, whose entries stand before the counts.
+// The word of a pair.
 pub(crate) fn word_back(rt: &impl Print, mut call: Arguments<'_>) -> io::Result<()> {
     let rank = call.number();
-    let letters = call.bytes(FIRST)?;
-    let marks = call.bytes(SECOND)?;
-    let entries = call.entries(OTHER)?;
-    let counts = call.counts()?;
+    let given = GivenPair::first(&mut call)?;
     let mut word = call.bytes(OTHER)?;
-    let pair = CountedPair {
-        rank,
-        letters: &letters,
-        marks: &marks,
-        entries: &entries,
-        counts: &counts,
-    };
-    print_answer(rt, word_of_pair(&pair, &mut word))?;
+    print_answer(rt, word_of_pair(&given.at(rank), &mut word))?;
     print_list(rt, &word)
 }
 
