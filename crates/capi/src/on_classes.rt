@@ -5,8 +5,7 @@ ghost use Rattle.numbering.specs.Operations.{class_number_says, class_size_says,
 ghost use Rattle.structs.specs.Replies.{count_of, replied, value_of};
 
 use class_numbers::classes::{class_number, class_size, class_word};
-use structs::converters::value_reply;
-use structs::counts::count_written;
+use lent::tableaux::CountedTableau;
 use structs::replies::{CountReply, ValueReply};
 
 // How many words have a tableau.
@@ -19,7 +18,13 @@ pub extern "C" fn luchtrav_class_size(
 ) -> ValueReply
     ensures { result ≡ value_of (class_size_says rank letters.now marks.now counts.now) }
 {
-    value_reply(class_size(rank, letters, marks, counts))
+    let tableau = CountedTableau {
+        rank,
+        letters,
+        marks,
+        counts,
+    };
+    ValueReply::from(class_size(&tableau))
 }
 
 // The word with a number, of those that have a tableau, into a lent word.
@@ -35,7 +40,13 @@ pub extern "C" fn luchtrav_class_word(
     ensures { (result, word.new)
         ≡ replied count_of (class_word_run rank letters.now marks.now counts.now number word.old) }
 {
-    count_written(class_word(rank, letters, marks, counts, number, word))
+    let tableau = CountedTableau {
+        rank,
+        letters,
+        marks,
+        counts,
+    };
+    CountReply::from(class_word(&tableau, number, word))
 }
 
 // The number of a word, of those that have its tableau.
@@ -43,5 +54,5 @@ pub extern "C" fn luchtrav_class_word(
 pub extern "C" fn luchtrav_class_number(rank: usize, word: &[u8]) -> ValueReply
     ensures { result ≡ value_of (class_number_says rank word.now) }
 {
-    value_reply(class_number(rank, word))
+    ValueReply::from(class_number(rank, word))
 }

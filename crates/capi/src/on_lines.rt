@@ -7,15 +7,13 @@ ghost use Rattle.outcomes.specs.LineReadings.{answer_run, read_p_run, read_t_run
 ghost use Rattle.structs.specs.Replies.{count_of, line_of, replied};
 
 use conversions::former::convert_lines;
+use lent::tableaux::{Pair, Tableau};
 use lines::tableau::tableau_line_of_word;
 use outputs::answer::answer;
 use readers::pair::read_pair_line;
 use readers::tableau::read_tableau_line;
-use structs::counts::count_written;
-use structs::readings::line_reply;
 use structs::replies::{CountReply, LineReply};
 use word_readers::word::read_word_line;
-use lent::tableaux::{Pair, Tableau};
 use writers::line::{
     write_junction_line, write_pair_line, write_returned_line, write_tableau_line, write_word_line,
 };
@@ -29,7 +27,7 @@ pub extern "C" fn luchtrav_tableau_line_of_word(
 ) -> CountReply
     ensures { (result, out.new) ≡ replied count_of (tableau_line_run rank word.now out.old) }
 {
-    count_written(tableau_line_of_word(rank, word, out))
+    CountReply::from(tableau_line_of_word(rank, word, out))
 }
 
 // The W line of a word.
@@ -37,7 +35,7 @@ pub extern "C" fn luchtrav_tableau_line_of_word(
 pub extern "C" fn luchtrav_write_word_line(rank: usize, word: &[u8], out: &mut [u8]) -> CountReply
     ensures { (result, out.new) ≡ replied count_of (w_line_run rank word.now out.old) }
 {
-    count_written(write_word_line(rank, word, out))
+    CountReply::from(write_word_line(rank, word, out))
 }
 
 // The T line of a tableau.
@@ -50,7 +48,12 @@ pub extern "C" fn luchtrav_write_tableau_line(
 ) -> CountReply
     ensures { (result, out.new) ≡ replied count_of (t_line_run rank letters.now marks.now out.old) }
 {
-    count_written(write_tableau_line(&Tableau { rank, letters, marks }, out))
+    let tableau = Tableau {
+        rank,
+        letters,
+        marks,
+    };
+    CountReply::from(write_tableau_line(&tableau, out))
 }
 
 // The P line of a pair.
@@ -65,7 +68,13 @@ pub extern "C" fn luchtrav_write_pair_line(
     ensures { (result, out.new)
         ≡ replied count_of (p_line_run rank letters.now marks.now entries.now out.old) }
 {
-    count_written(write_pair_line(&Pair { rank, letters, marks, entries }, out))
+    let pair = Pair {
+        rank,
+        letters,
+        marks,
+        entries,
+    };
+    CountReply::from(write_pair_line(&pair, out))
 }
 
 // The J line of a word.
@@ -77,7 +86,7 @@ pub extern "C" fn luchtrav_write_junction_line(
 ) -> CountReply
     ensures { (result, out.new) ≡ replied count_of (j_line_run rank word.now out.old) }
 {
-    count_written(write_junction_line(rank, word, out))
+    CountReply::from(write_junction_line(rank, word, out))
 }
 
 // The E line of any number and place.
@@ -89,7 +98,7 @@ pub extern "C" fn luchtrav_write_refusal_line(
 ) -> CountReply
     ensures { (result, out.new) ≡ replied count_of (e_line_run number place out.old) }
 {
-    count_written(write_returned_line(number, place, out))
+    CountReply::from(write_returned_line(number, place, out))
 }
 
 // A W line, into lent letters.
@@ -97,7 +106,7 @@ pub extern "C" fn luchtrav_write_refusal_line(
 pub extern "C" fn luchtrav_read_word_line(text: &[u8], letters: &mut [u8]) -> LineReply
     ensures { (result, letters.new) ≡ replied line_of (read_w_run text.now letters.old) }
 {
-    line_reply(read_word_line(text, letters))
+    LineReply::from(read_word_line(text, letters))
 }
 
 // A T line, into lent letters, marks and counts.
@@ -111,7 +120,7 @@ pub extern "C" fn luchtrav_read_tableau_line(
     ensures { (result, (letters.new, (marks.new, counts.new)))
         ≡ replied line_of (read_t_run text.now letters.old marks.old counts.old) }
 {
-    line_reply(read_tableau_line(text, letters, marks, counts))
+    LineReply::from(read_tableau_line(text, letters, marks, counts))
 }
 
 // A P line, into lent letters, marks, entries and counts.
@@ -130,7 +139,7 @@ pub extern "C" fn luchtrav_read_pair_line(
         (pair_with letters.old marks.old entries.old)
         counts.old) }
 {
-    line_reply(read_pair_line(text, letters, marks, entries, counts))
+    LineReply::from(read_pair_line(text, letters, marks, entries, counts))
 }
 
 // The P line of a former T line and N line.
@@ -142,7 +151,7 @@ pub extern "C" fn luchtrav_convert_lines(
 ) -> CountReply
     ensures { (result, out.new) ≡ replied count_of (convert_run tableau_text.now recording_text.now out.old) }
 {
-    count_written(convert_lines(tableau_text, recording_text, out))
+    CountReply::from(convert_lines(tableau_text, recording_text, out))
 }
 
 // What the program prints for a text.
@@ -150,5 +159,5 @@ pub extern "C" fn luchtrav_convert_lines(
 pub extern "C" fn luchtrav_answer(text: &[u8], out: &mut [u8]) -> CountReply
     ensures { (result, out.new) ≡ replied count_of (answer_run text.now out.old) }
 {
-    count_written(answer(text, out))
+    CountReply::from(answer(text, out))
 }

@@ -10,12 +10,11 @@ ghost use Rattle.windows.specs.Departures.{depart_run};
 
 use departures::departure::remove_oldest;
 use inverses::way_back::word_of_pair;
+use lent::tableaux::{CountedPair, Pair};
 use pairs::insertion::insert_letter;
-use structs::counts::{count_used, count_written, done_verdict};
 use structs::replies::{CountReply, DoneReply};
 use validity::counted::check_counted_pair;
 use validity::tableau::check_pair;
-use lent::tableaux::{CountedPair, Pair};
 
 // 1 to 8 of a pair.
 #[unsafe(no_mangle)]
@@ -27,7 +26,13 @@ pub extern "C" fn luchtrav_check_pair(
 ) -> DoneReply
     ensures { result ≡ done_of (first (pair_judgements rank letters.now marks.now entries.now) passed) }
 {
-    done_verdict(check_pair(&Pair { rank, letters, marks, entries }))
+    let pair = Pair {
+        rank,
+        letters,
+        marks,
+        entries,
+    };
+    DoneReply::from(check_pair(&pair))
 }
 
 // 1 to 6 of a pair, 17 of its letter counts, 7 and 8.
@@ -43,7 +48,14 @@ pub extern "C" fn luchtrav_check_counted_pair(
         ≡ done_of
         (first (counted_pair_judgements rank letters.now marks.now entries.now counts.now) passed) }
 {
-    done_verdict(check_counted_pair(&CountedPair { rank, letters, marks, entries, counts }))
+    let pair = CountedPair {
+        rank,
+        letters,
+        marks,
+        entries,
+        counts,
+    };
+    DoneReply::from(check_counted_pair(&pair))
 }
 
 // One letter into the pair in the first cells of three lent lists, and its count into the lent counts.
@@ -66,7 +78,7 @@ pub extern "C" fn luchtrav_insert_letter(
         (pair_with letters.old marks.old entries.old)
         counts.old) }
 {
-    count_used(insert_letter(rank, used, letter, letters, marks, entries, counts))
+    CountReply::from(insert_letter(rank, used, letter, letters, marks, entries, counts))
 }
 
 // The oldest letter leaves the window in the first cells of three lent lists, and the lent counts.
@@ -83,7 +95,7 @@ pub extern "C" fn luchtrav_remove_oldest(
         ≡ replied count_of
         (depart_run rank used (pair_with letters.old marks.old entries.old) counts.old) }
 {
-    count_used(remove_oldest(rank, used, letters, marks, entries, counts))
+    CountReply::from(remove_oldest(rank, used, letters, marks, entries, counts))
 }
 
 // The word of a pair, into a lent word.
@@ -99,5 +111,12 @@ pub extern "C" fn luchtrav_word_of_pair(
     ensures { (result, word.new)
         ≡ replied count_of (word_run rank letters.now marks.now entries.now counts.now word.old) }
 {
-    count_written(word_of_pair(rank, letters, marks, entries, counts, word))
+    let pair = CountedPair {
+        rank,
+        letters,
+        marks,
+        entries,
+        counts,
+    };
+    CountReply::from(word_of_pair(&pair, word))
 }

@@ -9,21 +9,24 @@ ghost use Rattle.structs.specs.Replies.{cell_of, count_of, done_of, move_of, rep
 
 use columns::reading::column_reading;
 use coordinates::cells::cell_at;
-use structs::converters::{cell_reply, move_reply};
-use structs::counts::{count_repeat, count_written, done_verdict};
+use lent::tableaux::{CountedTableau, Tableau};
 use structs::replies::{CellReply, CountReply, DoneReply, MoveReply};
 use tableaux::moves::{lower_count_tableau, lower_tableau, raise_count_tableau, raise_tableau};
 use validity::counted::check_counted_tableau;
 use validity::tableau::check_tableau;
 use viewer::viewers::look_once;
-use lent::tableaux::{CountedTableau, Tableau};
 
 // 1 to 6 of a tableau: the making of a ribbon viewer.
 #[unsafe(no_mangle)]
 pub extern "C" fn luchtrav_check_tableau(rank: usize, letters: &[u8], marks: &[u8]) -> DoneReply
     ensures { result ≡ done_of (first (tableau_judgements rank letters.now marks.now) passed) }
 {
-    done_verdict(check_tableau(&Tableau { rank, letters, marks }))
+    let tableau = Tableau {
+        rank,
+        letters,
+        marks,
+    };
+    DoneReply::from(check_tableau(&tableau))
 }
 
 // 1 to 6 of a tableau, and 17 of its letter counts.
@@ -36,7 +39,13 @@ pub extern "C" fn luchtrav_check_counted_tableau(
 ) -> DoneReply
     ensures { result ≡ done_of (first (counted_judgements rank letters.now marks.now counts.now) passed) }
 {
-    done_verdict(check_counted_tableau(&CountedTableau { rank, letters, marks, counts }))
+    let tableau = CountedTableau {
+        rank,
+        letters,
+        marks,
+        counts,
+    };
+    DoneReply::from(check_counted_tableau(&tableau))
 }
 
 // The column reading of a tableau, into a lent word.
@@ -50,7 +59,13 @@ pub extern "C" fn luchtrav_column_reading(
 ) -> CountReply
     ensures { (result, word.new) ≡ replied count_of (reading_run rank letters.now marks.now counts.now word.old) }
 {
-    count_written(column_reading(rank, letters, marks, counts, word))
+    let tableau = CountedTableau {
+        rank,
+        letters,
+        marks,
+        counts,
+    };
+    CountReply::from(column_reading(&tableau, word))
 }
 
 // Raising, in the lent letters and counts.
@@ -66,7 +81,7 @@ pub extern "C" fn luchtrav_raise_tableau(
         ≡ replied move_of
         (move_tableau_run rank (record { side = raising; index = index }) letters.old marks.now counts.old) }
 {
-    move_reply(raise_tableau(rank, index, letters, marks, counts))
+    MoveReply::from(raise_tableau(rank, index, letters, marks, counts))
 }
 
 // Lowering, in the lent letters and counts.
@@ -82,7 +97,7 @@ pub extern "C" fn luchtrav_lower_tableau(
         ≡ replied move_of
         (move_tableau_run rank (record { side = lowering; index = index }) letters.old marks.now counts.old) }
 {
-    move_reply(lower_tableau(rank, index, letters, marks, counts))
+    MoveReply::from(lower_tableau(rank, index, letters, marks, counts))
 }
 
 // How often raising can be repeated.
@@ -96,7 +111,13 @@ pub extern "C" fn luchtrav_raise_count_tableau(
 ) -> CountReply
     ensures { result ≡ count_of (repeat_tableau_says rank (record { side = raising; index = index }) letters.now marks.now counts.now) }
 {
-    count_repeat(raise_count_tableau(rank, index, letters, marks, counts))
+    let tableau = CountedTableau {
+        rank,
+        letters,
+        marks,
+        counts,
+    };
+    CountReply::from(raise_count_tableau(index, &tableau))
 }
 
 // How often lowering can be repeated.
@@ -110,7 +131,13 @@ pub extern "C" fn luchtrav_lower_count_tableau(
 ) -> CountReply
     ensures { result ≡ count_of (repeat_tableau_says rank (record { side = lowering; index = index }) letters.now marks.now counts.now) }
 {
-    count_repeat(lower_count_tableau(rank, index, letters, marks, counts))
+    let tableau = CountedTableau {
+        rank,
+        letters,
+        marks,
+        counts,
+    };
+    CountReply::from(lower_count_tableau(index, &tableau))
 }
 
 // One look through a ribbon viewer that is made for it.
@@ -123,7 +150,12 @@ pub extern "C" fn luchtrav_look(
 ) -> CellReply
     ensures { result ≡ cell_of (look_says rank letters.now marks.now place) }
 {
-    cell_reply(look_once(rank, letters, marks, place))
+    let tableau = Tableau {
+        rank,
+        letters,
+        marks,
+    };
+    CellReply::from(look_once(&tableau, place))
 }
 
 // A look at any two slices, of a tableau that was checked before.
@@ -131,5 +163,5 @@ pub extern "C" fn luchtrav_look(
 pub extern "C" fn luchtrav_cell_at(letters: &[u8], marks: &[u8], place: usize) -> CellReply
     ensures { result ≡ cell_of (gives (cell_at letters.now marks.now place)) }
 {
-    cell_reply(cell_at(letters, marks, place))
+    CellReply::from(Ok(cell_at(letters, marks, place)))
 }

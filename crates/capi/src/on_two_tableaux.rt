@@ -5,10 +5,9 @@ ghost use Rattle.letter_counts.specs.TwoTableaux.{same_class_tableaux_says, weig
 ghost use Rattle.products.specs.Products.{product_run};
 ghost use Rattle.structs.specs.Replies.{class_of, count_of, order_of, replied};
 
+use lent::tableaux::CountedTableau;
 use multiplication::product::product;
 use stored_tableaux::two_tableaux::{compare_weights_of_tableaux, same_class_of_tableaux};
-use structs::comparisons::{class_reply, order_reply};
-use structs::counts::count_written;
 use structs::replies::{ClassReply, CountReply, OrderReply};
 
 // The product of two tableaux of one rank, into lent letters, marks and counts.
@@ -39,18 +38,19 @@ pub extern "C" fn luchtrav_product(
         marks.old
         counts.old) }
 {
-    count_written(product(
+    let one = CountedTableau {
         rank,
-        first_letters,
-        first_marks,
-        first_counts,
-        second_letters,
-        second_marks,
-        second_counts,
-        letters,
-        marks,
-        counts,
-    ))
+        letters: first_letters,
+        marks: first_marks,
+        counts: first_counts,
+    };
+    let other = CountedTableau {
+        rank,
+        letters: second_letters,
+        marks: second_marks,
+        counts: second_counts,
+    };
+    CountReply::from(product(&one, &other, letters, marks, counts))
 }
 
 // Whether two tableaux are of one class.
@@ -77,16 +77,19 @@ pub extern "C" fn luchtrav_same_class_of_tableaux(
         second_marks.now
         second_counts.now) }
 {
-    class_reply(same_class_of_tableaux(
-        first_rank,
-        first_letters,
-        first_marks,
-        first_counts,
-        second_rank,
-        second_letters,
-        second_marks,
-        second_counts,
-    ))
+    let one = CountedTableau {
+        rank: first_rank,
+        letters: first_letters,
+        marks: first_marks,
+        counts: first_counts,
+    };
+    let other = CountedTableau {
+        rank: second_rank,
+        letters: second_letters,
+        marks: second_marks,
+        counts: second_counts,
+    };
+    ClassReply::from(same_class_of_tableaux(&one, &other))
 }
 
 // The weight of the first tableau against that of the second.
@@ -113,14 +116,17 @@ pub extern "C" fn luchtrav_compare_weights_of_tableaux(
         second_marks.now
         second_counts.now) }
 {
-    order_reply(compare_weights_of_tableaux(
-        first_rank,
-        first_letters,
-        first_marks,
-        first_counts,
-        second_rank,
-        second_letters,
-        second_marks,
-        second_counts,
-    ))
+    let one = CountedTableau {
+        rank: first_rank,
+        letters: first_letters,
+        marks: first_marks,
+        counts: first_counts,
+    };
+    let other = CountedTableau {
+        rank: second_rank,
+        letters: second_letters,
+        marks: second_marks,
+        counts: second_counts,
+    };
+    OrderReply::from(compare_weights_of_tableaux(&one, &other))
 }

@@ -13,9 +13,6 @@ use acceptance::word::check_word;
 use classes::two_words::same_class;
 use operators::moves::{lower_count_word, lower_word, raise_count_word, raise_word};
 use ribbons::pair::pair_of_word;
-use structs::comparisons::{class_reply, order_reply};
-use structs::converters::{junction_reply, move_reply};
-use structs::counts::{count_repeat, count_written, done_verdict};
 use structs::replies::{ClassReply, CountReply, DoneReply, JunctionReply, MoveReply, OrderReply};
 use weights::two_words::compare_weights;
 use words::junctions::junctions;
@@ -25,7 +22,7 @@ use words::junctions::junctions;
 pub extern "C" fn luchtrav_check_word(rank: usize, word: &[u8]) -> DoneReply
     ensures { result ≡ done_of (first (word_judgements rank word.now) passed) }
 {
-    done_verdict(check_word(rank, word))
+    DoneReply::from(check_word(rank, word))
 }
 
 // The quasi-ribbon tableau and the recording ribbon of a word, into lent letters, marks, entries and counts.
@@ -46,7 +43,7 @@ pub extern "C" fn luchtrav_pair_of_word(
         (pair_with letters.old marks.old entries.old)
         counts.old) }
 {
-    count_written(pair_of_word(rank, word, letters, marks, entries, counts))
+    CountReply::from(pair_of_word(rank, word, letters, marks, entries, counts))
 }
 
 // The junction set of a word, and its rows.
@@ -54,7 +51,7 @@ pub extern "C" fn luchtrav_pair_of_word(
 pub extern "C" fn luchtrav_junctions(rank: usize, word: &[u8]) -> JunctionReply
     ensures { result ≡ junction_of (junction_says rank word.now) }
 {
-    junction_reply(junctions(rank, word))
+    JunctionReply::from(junctions(rank, word))
 }
 
 // Raising, in the lent word.
@@ -62,7 +59,7 @@ pub extern "C" fn luchtrav_junctions(rank: usize, word: &[u8]) -> JunctionReply
 pub extern "C" fn luchtrav_raise_word(rank: usize, index: usize, word: &mut [u8]) -> MoveReply
     ensures { (result, word.new) ≡ replied move_of (move_word_run rank (record { side = raising; index = index }) word.old) }
 {
-    move_reply(raise_word(rank, index, word))
+    MoveReply::from(raise_word(rank, index, word))
 }
 
 // Lowering, in the lent word.
@@ -70,7 +67,7 @@ pub extern "C" fn luchtrav_raise_word(rank: usize, index: usize, word: &mut [u8]
 pub extern "C" fn luchtrav_lower_word(rank: usize, index: usize, word: &mut [u8]) -> MoveReply
     ensures { (result, word.new) ≡ replied move_of (move_word_run rank (record { side = lowering; index = index }) word.old) }
 {
-    move_reply(lower_word(rank, index, word))
+    MoveReply::from(lower_word(rank, index, word))
 }
 
 // How often raising can be repeated.
@@ -78,7 +75,7 @@ pub extern "C" fn luchtrav_lower_word(rank: usize, index: usize, word: &mut [u8]
 pub extern "C" fn luchtrav_raise_count_word(rank: usize, index: usize, word: &[u8]) -> CountReply
     ensures { result ≡ count_of (repeat_word_says rank (record { side = raising; index = index }) word.now) }
 {
-    count_repeat(raise_count_word(rank, index, word))
+    CountReply::from(raise_count_word(rank, index, word))
 }
 
 // How often lowering can be repeated.
@@ -86,7 +83,7 @@ pub extern "C" fn luchtrav_raise_count_word(rank: usize, index: usize, word: &[u
 pub extern "C" fn luchtrav_lower_count_word(rank: usize, index: usize, word: &[u8]) -> CountReply
     ensures { result ≡ count_of (repeat_word_says rank (record { side = lowering; index = index }) word.now) }
 {
-    count_repeat(lower_count_word(rank, index, word))
+    CountReply::from(lower_count_word(rank, index, word))
 }
 
 // Whether two words are in one class.
@@ -99,7 +96,7 @@ pub extern "C" fn luchtrav_same_class(
 ) -> ClassReply
     ensures { result ≡ class_of (same_class_says first_rank first.now second_rank second.now) }
 {
-    class_reply(same_class(first_rank, first, second_rank, second))
+    ClassReply::from(same_class(first_rank, first, second_rank, second))
 }
 
 // The weight of the first word against that of the second.
@@ -112,5 +109,5 @@ pub extern "C" fn luchtrav_compare_weights(
 ) -> OrderReply
     ensures { result ≡ order_of (weights_says first_rank first.now second_rank second.now) }
 {
-    order_reply(compare_weights(first_rank, first, second_rank, second))
+    OrderReply::from(compare_weights(first_rank, first, second_rank, second))
 }

@@ -1,15 +1,6 @@
--- `capi::on_lines::luchtrav_answer` meets its contract, by the laws of structs' specs/Handing. Assumes nothing.
-use Rattle.structs.specs.Handing.{replying}
+-- `capi::on_lines::luchtrav_answer` meets its contract: the answer is passed on beside the lent memory. Assumes nothing.
+use Rattle.structs.specs.Handing.{passed_on}
 use Rattle.capi.proofs.on_lines.luchtrav_answer.Goals as goal
 
-pub answer-requires : goal.answer-requires
-answer-requires c = search replying
-
-pub count_written-requires : goal.count_written-requires
-count_written-requires c = search replying
-
-pub shape_of-out : goal.shape_of-out
-shape_of-out c = search replying
-
 pub returns : goal.returns
-returns c = search replying
+returns c = passed_on _ _ _ _ _ c.from.ensures c.answer.ensures

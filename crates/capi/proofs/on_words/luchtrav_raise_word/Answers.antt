@@ -1,15 +1,6 @@
--- `capi::on_words::luchtrav_raise_word` meets its contract, by the laws of structs' specs/Handing. Assumes nothing.
-use Rattle.structs.specs.Handing.{replying}
+-- `capi::on_words::luchtrav_raise_word` meets its contract: the answer is passed on beside the lent memory. Assumes nothing.
+use Rattle.structs.specs.Handing.{passed_on}
 use Rattle.capi.proofs.on_words.luchtrav_raise_word.Goals as goal
 
-pub raise_word-requires : goal.raise_word-requires
-raise_word-requires c = search replying
-
-pub move_reply-requires : goal.move_reply-requires
-move_reply-requires c = search replying
-
-pub shape_of-word : goal.shape_of-word
-shape_of-word c = search replying
-
 pub returns : goal.returns
-returns c = search replying
+returns c = passed_on _ _ _ _ _ c.from.ensures c.raise_word.ensures
