@@ -56,38 +56,53 @@ pub(crate) fn elements(alloc: Global, list: &[u8], room: usize) -> Result<Vec<u1
     Ok(all)
 }
 
+// What a byte of a text stands for; none for the dash.
+fn meant(byte: u8) -> Option<u8> {
+    match byte {
+        b'$' => Some(b'\n'),
+        b'-' => None,
+        _ => Some(byte),
+    }
+}
+
+// The byte of a text at a place, if it has one. A dash within a group is as if it were the byte so far on behind the group.
+fn byte_at(text: &[u8], place: usize) -> Option<u8> {
+    let mut left = place;
+    let mut rest = text;
+    // Kept: a turn cuts off a part and the group after it.
+    while !rest.is_empty() {
+        let (plain, group) = cut(rest, b'(');
+        if let Some(byte) = plain.get(left) {
+            return meant(*byte);
+        }
+        left = left.saturating_sub(plain.len());
+        let (part, after) = cut(group, b')');
+        let after = after.get(1..).unwrap_or(&[]);
+        let all = part.len().saturating_mul(number(after));
+        if left < all {
+            left %= part.len();
+            if let Some(byte) = meant(part[left]) {
+                return Some(byte);
+            }
+        } else {
+            left -= all;
+        }
+        let (_, last) = digits(after);
+        rest = last;
+    }
+    None
+}
+
 // The bytes of a text.
 pub(crate) fn text_bytes(alloc: Global, text: &[u8], room: usize) -> Result<Vec<u8>, AllocError>
     ensures { IfOk result (λ v. vec_len v ≤ room) }
 {
     let mut all = Vec::new(alloc);
-    let mut rest = text;
-    // Kept: a turn cuts off a part and the group after it.
-    while !rest.is_empty() {
-        let (plain, group) = cut(rest, b'(');
-        let (part, after) = cut(group, b')');
-        let after = after.get(1..).unwrap_or(&[]);
-        if !repeat(&mut all, plain, 1, room)? || !repeat(&mut all, part, number(after), room)? {
-            return Ok(all);
+    for place in 0..room {
+        match byte_at(text, place) {
+            Some(byte) => all.push(byte)?,
+            None => break,
         }
-        let (_, last) = digits(after);
-        rest = last;
     }
     Ok(all)
-}
-
-// So many times a part of a text, at the end of what there is; answers whether the text goes on.
-fn repeat(all: &mut Vec<u8>, part: &[u8], times: usize, room: usize) -> Result<bool, AllocError>
-    requires { vec_len all.old ≤ room }
-    ensures { vec_len all.new ≤ room }
-{
-    for _ in 0..times {
-        for byte in part {
-            if *byte == b'-' || room <= all.len() {
-                return Ok(false);
-            }
-            all.push(if *byte == b'$' { b'\n' } else { *byte })?;
-        }
-    }
-    Ok(true)
 }
