@@ -43,12 +43,12 @@ impl Comparison {
     }
 
     // One more of what is compared.
-    pub fn count_one(&mut self) {
+    pub(crate) fn count_one(&mut self) {
         count(&mut self.compared, true);
     }
 
     // The kernel's answer held to one's own.
-    pub fn compare<T: PartialEq>(&mut self, own: &T, told: &T) {
+    pub(crate) fn compare<T: PartialEq>(&mut self, own: &T, told: &T) {
         count(&mut self.differences, own != told);
     }
 
@@ -59,7 +59,12 @@ impl Comparison {
     }
 
     // One's own answer, which is the kernel's, and is no more after it is spoilt.
-    pub fn spoil<T: PartialEq + Drop, S: FnOnce(&mut T)>(&mut self, mut own: T, told: &T, spoil: S)
+    pub(crate) fn spoil<T: PartialEq + Drop, S: FnOnce(&mut T)>(
+        &mut self,
+        mut own: T,
+        told: &T,
+        spoil: S,
+    )
         requires { S.IsAlwaysCallable spoil }
     {
         let same = own == *told;
@@ -68,7 +73,7 @@ impl Comparison {
     }
 
     // Differences, and answers spoilt and found, each on a line of its own.
-    pub fn write_findings<W: fmt::Write>(&self, f: &mut fmt::Formatter<W>) -> fmt::Result {
+    pub(crate) fn write_findings<W: fmt::Write>(&self, f: &mut fmt::Formatter<W>) -> fmt::Result {
         writeln!(f, "differences {}", self.differences)?;
         writeln!(f, "spoilt {}", self.spoilt)?;
         writeln!(f, "found {}", self.found)

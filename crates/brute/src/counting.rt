@@ -4,7 +4,7 @@ use crate::comparing::{Comparison, count};
 use crate::moving::{tableau_moved, word_moved};
 use crate::partners::second_word;
 use crate::scanning::{move_on_tableau, move_on_word};
-use crate::two_words::{Two, plain_two, tableaux_told, words_told};
+use crate::two_words::{plain_two, tableaux_told, words_told};
 use operators::changes::Side;
 use plain_words::Word;
 use plain_words::drawn::Generator;
@@ -96,7 +96,7 @@ impl Moves {
     }
 
     // Both moves on a word at every index from 0 to the rank; for a word of more than 64 letters at every sixteenth.
-    pub fn count_moves(&mut self, k: usize, word: &Word) {
+    pub(crate) fn count_moves(&mut self, k: usize, word: &Word) {
         let tableau = plain_tableau(word);
         let step = if 64 < word.letters.len() { 16 } else { 1 };
         for index in (k % step..word.rank.min(64) + 1).step_by(step) {
@@ -130,7 +130,7 @@ impl Moves {
     }
 
     // The word beside its partner, in this order or the other.
-    pub fn count_pair(&mut self, k: usize, word: &Word, generator: Generator) {
+    pub(crate) fn count_pair(&mut self, k: usize, word: &Word, generator: Generator) {
         let other = second_word(k, word, generator);
         if k / 60 % 2 == 1 {
             self.count_two(&other, word);
@@ -141,7 +141,7 @@ impl Moves {
 
     // Ten answers are spoilt for lowering 1 in 3113 of rank 3: of the word refusal, place, repeat count and letters, of its tableau these, marks and letter
     // counts.
-    pub fn spoil_moves(&mut self, word: &Word) {
+    pub(crate) fn spoil_moves(&mut self, word: &Word) {
         let own = || move_on_word(Side::Lowering, 1, word);
         let moves = &mut self.comparison;
         let told = word_moved(Side::Lowering, 1, word);
@@ -174,7 +174,7 @@ impl Moves {
 
     // Six answers are spoilt for 3243 of rank 4 beside 4323, which are of one class: of the words and of their tableaux the class, and where the second's rank
     // is 4 the weights too.
-    pub fn spoil_two(&mut self, one: &Word, other: &mut Word) {
+    pub(crate) fn spoil_two(&mut self, one: &Word, other: &mut Word) {
         for (rank, weights) in [(6, false), (4, true)] {
             other.rank = rank;
             let first = plain_tableau(one);

@@ -13,10 +13,7 @@ use refusals::refusal::Refusal;
 use ribbons::pair::pair_of_word;
 
 // The first elements of memory, so many as the kernel tells.
-pub(crate) fn told<T: Copy + Default>(
-    memory: &[T; 1024],
-    count: usize,
-) -> Result<ArrayVec<T, 1024>, Fault>
+fn told<T: Copy + Default>(memory: &[T; 1024], count: usize) -> Result<ArrayVec<T, 1024>, Fault>
     ensures { IfOk result (λ v. array_vec_len v ≡ count) }
 {
     match memory.get(..count) {
@@ -119,7 +116,7 @@ impl Memory {
     }
 
     // A letter comes into the pair.
-    pub fn arrive(&mut self, letter: u8) {
+    pub(crate) fn arrive(&mut self, letter: u8) {
         let reply = insert_letter(
             self.rank,
             self.used,
@@ -133,7 +130,7 @@ impl Memory {
     }
 
     // The oldest letter leaves a pair that has one.
-    pub fn depart(&mut self) {
+    pub(crate) fn depart(&mut self) {
         let reply = remove_oldest(
             self.rank,
             self.used,
@@ -146,7 +143,7 @@ impl Memory {
     }
 
     // The cells that are used, if no reply was wrong.
-    pub fn pair(&self) -> Result<Pair, Fault> {
+    pub(crate) fn pair(&self) -> Result<Pair, Fault> {
         if 0 < self.wrong {
             return Err(Fault::Replies(self.wrong));
         }

@@ -31,6 +31,7 @@ pub(crate) fn plain_move(side: Side, index: usize, word: &mut Word) -> Result<us
     if stands_left(high, low, &word.letters) {
         return Err(Refusal::Inversion);
     }
+    // Kept: two scans, one from each end of the letters.
     let (place, letter) = match side {
         Side::Raising => (word.letters.iter().position(|letter| *letter == high), low),
         Side::Lowering => (word.letters.iter().rposition(|letter| *letter == low), high),

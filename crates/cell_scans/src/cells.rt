@@ -32,7 +32,7 @@ pub fn letter_at(text: &[u8], at: usize, mark: u8) -> Result<Cell, Broken>
 }
 
 // The mark of the step at a place.
-pub fn mark_at(text: &[u8], at: usize) -> Option<u8>
+fn mark_at(text: &[u8], at: usize) -> Option<u8>
     ensures { result ≡ mark_of (drop at text.now) }
 {
     match text.get(at)? {
@@ -64,6 +64,7 @@ fn stepped_at(text: &[u8], at: usize) -> Result<Cell, Broken>
 }
 
 // An item of a line, with or without a step before its letter.
+// Kept: `stepped` is a fact of the place, as `read_item` takes it; an enum of two cases would say no more.
 pub fn item_at(text: &[u8], at: usize, stepped: bool) -> Result<Cell, Broken>
     ensures { Celled text.now (read_item stepped (drop at text.now)) result }
 {

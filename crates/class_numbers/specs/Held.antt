@@ -3,7 +3,7 @@
 --     take_freed          a beginning with its first step made free
 -- Assumes nothing.
 use Rattle.std.specs.Prelude.{ℕ, zero, suc, ◌≤◌, ◌≡◌, refl, List, [], ◌∷◌, length, set, take}
-use Rattle.std.proofs.Common.{ap, ◌∙◌, arith, rules}
+use Rattle.std.proofs.Common.{ap, ◌∙◌, arith}
 use Rattle.outcomes.proofs.Theory.Memory.{written_needed}
 use Rattle.numbering.specs.Orders.{freed}
 use Rattle.buffers.specs.Copies.{copied, copied_all}

@@ -13,7 +13,7 @@ use native.Mathlib.Omega.{arith}
 use Rattle.std.proofs.Math.Numerals.{add-one}
 use Rattle.std.specs.Prelude.{◌≡◌, refl, Bool, true, false, ltb, get_or, set, drop}
 use Rattle.std.proofs.Math.Path.{sym, ap}
-use Rattle.std.proofs.Common.{◌∙◌, inl, inr, length-append, length-set, drop_of_length-le, take-append-drop, drop_at, get_or-take, length-take-le, take-add, take_all, take_at, take-take, rules, le-ltb, lt-ltb}
+use Rattle.std.proofs.Common.{◌∙◌, length-append, length-set, drop_of_length-le, take-append-drop, drop_at, length-take-le, take-add, take_all, take_at, take-take, rules}
 use mathlib.Core.List.{List, ◌++◌, append_assoc, append-nil}
 use Rattle.std.proofs.Math.ListN.{length, take, length-drop, length-take}
 use Rattle.std.proofs.lemmas.List.{drop-append-le, take_min}

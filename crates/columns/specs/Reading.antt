@@ -6,7 +6,7 @@
 -- A single column is in Columns. Assumes nothing.
 use Rattle.std.specs.Prelude.{Result, Ok, Err}
 use Rattle.std.specs.Prelude.{ℕ, zero, suc, ◌+◌, ◌-◌, ◌<◌, ◌≤◌, ◌≡◌, refl, List, [], ◌∷◌, ◌++◌, reverse, length, get_or, take, drop}
-use Rattle.std.proofs.Common.{sym, ap, ◌∙◌, append_assoc, append-nil, add-zero, arith, length-append, length-drop, drop_of_length-le, drop-cons, drop-drop, drop_at, take_at, rules}
+use Rattle.std.proofs.Common.{sym, ◌∙◌, append_assoc, append-nil, add-zero, arith, length-append, length-drop, drop_of_length-le, drop-cons, drop-drop, drop_at, take_at, rules}
 use Rattle.std.proofs.lemmas.List.{length-reverse, drop-append-le, take-append-le}
 use borrow.Rule.Slice.PartMut.{mid_of, put_mid, mid_len, put_same}
 use Rattle.hypoplactic.specs.Reading.{column_reading, read_from}

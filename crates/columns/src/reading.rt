@@ -78,6 +78,7 @@ fn write_reading(letters: &[u8], marks: &[u8], word: &mut [u8])
 {
     word[..letters.len()].copy_from_slice(letters);
     let mut end = 0;
+    // Kept: the place goes on from column to column, and columns are as long as the marks say.
     while let Some(start) = next_column(marks, end) {
         end = column_end(marks, start);
         word[start..end].reverse();

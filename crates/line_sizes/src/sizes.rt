@@ -16,6 +16,7 @@ pub fn field_size(value: usize) -> usize
     }
     let mut size = 4;
     let mut left = value / 100;
+    // Kept: the loop ends with the digits that are left, which no count tells before it.
     while 10 <= left {
         left /= 10;
         size += 1;

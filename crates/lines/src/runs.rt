@@ -33,6 +33,7 @@ fn write_runs(
 }
 
 // The C line of a word, into a lent buffer, or the refusal of 1, 2, 4 or 13, which leaves the buffer as it was.
+// Kept: the tableau line beside it differs in the writer that it calls; one function over both would hand lent memory to a closure.
 #[tactic(auto, using(crate::specs::RunLine::run_lining))]
 pub fn run_line_of_word(rank: usize, word: &[u8], out: &mut [u8]) -> Result<usize, Refusal>
     ensures { (said_value result, out.new) ≡ word_run_line_run rank word.now out.old }

@@ -24,7 +24,7 @@ pub(crate) fn digits(text: &[u8]) -> (&[u8], &[u8])
 
 // The number whose digits a text begins with, up to the largest of 64 bits.
 #[tactic(auto, using(crate::specs::Digits::reading))]
-pub fn number(text: &[u8]) -> usize
+pub(crate) fn number(text: &[u8]) -> usize
     ensures { result ≡ digits_from 0 text.now }
 {
     let mut value = 0usize;

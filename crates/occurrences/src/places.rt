@@ -4,6 +4,7 @@ ghost use Rattle.quasi_crystal.specs.Moves.{leftmost as leftmostOf, rightmost as
 ghost use Rattle.occurrences.specs.Places.{found_place, stands_left};
 
 // The place of the leftmost `letter`.
+// Kept: leftmost and rightmost, the library's two searches by the names of their meaning (`leftmost`, `rightmost` of Moves).
 pub fn leftmost(letter: u8, word: &[u8]) -> Option<usize>
     ensures { found_place result ≡ leftmostOf letter word.now }
 {

@@ -23,7 +23,7 @@ impl Given {
     }
 
     // The second.
-    pub fn second(call: &mut Arguments<'_>) -> Result<Given, AllocError> {
+    pub(crate) fn second(call: &mut Arguments<'_>) -> Result<Given, AllocError> {
         Ok(Given {
             letters: call.bytes(OTHER)?,
             marks: call.bytes(OTHER)?,
@@ -32,7 +32,7 @@ impl Given {
     }
 
     // The tableau at a rank.
-    pub fn at(&self, rank: usize) -> CountedTableau<'_> {
+    pub(crate) fn at(&self, rank: usize) -> CountedTableau<'_> {
         CountedTableau {
             rank,
             letters: &self.letters,
@@ -63,7 +63,7 @@ impl GivenPair {
     }
 
     // The pair at a rank.
-    pub fn at(&self, rank: usize) -> CountedPair<'_> {
+    pub(crate) fn at(&self, rank: usize) -> CountedPair<'_> {
         CountedPair {
             rank,
             letters: &self.letters,

@@ -49,6 +49,7 @@ fn place_of(side: Side, index: u8, letters: &[u8]) -> Option<usize>
     ensures { found_place result ≡ target (side_of side) index letters.now }
 {
     let letter = side.taken(index) as u8;
+    // Kept: two scans, one from each end of the letters, as `target` says.
     match side {
         Side::Raising => leftmost(letter, letters),
         Side::Lowering => rightmost(letter, letters),

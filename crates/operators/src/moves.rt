@@ -38,11 +38,13 @@ pub fn move_word(side: Side, rank: usize, index: usize, word: &mut [u8]) -> Resu
     ensures { (said_value result, word.new) ≡ move_word_run rank (move_by side index) word.old }
 {
     check_move(rank, index, word)?;
+    // Kept: 9 has passed, so the index fits a byte, here and below; `try_from` would ask what to do where it does not.
     let inversion = has_inversion(index as u8, word);
     move_letters(side, rank, index, inversion, word)
 }
 
 // Raising: the leftmost i+1 becomes i.
+// Kept: raising and lowering by name, here and below, as C calls them (`luchtrav_raise_word`).
 pub fn raise_word(rank: usize, index: usize, word: &mut [u8]) -> Result<usize, Refusal>
     ensures { (said_value result, word.new) ≡ move_word_run rank (record { side = raising; index = index }) word.old }
 {

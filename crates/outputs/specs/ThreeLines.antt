@@ -8,7 +8,7 @@
 use Rattle.std.specs.Prelude.{Result, Ok, Err, IsOk}
 use Rattle.std.specs.Prelude.{ℕ, ◌+◌, ◌-◌, ◌≤◌, ◌≡◌, List, [], ◌∷◌, ◌++◌, length, take}
 use Rattle.std.proofs.Math.Path.{refl}
-use Rattle.std.proofs.Common.{sym, ap, ◌∙◌, append_assoc, arith, length-append, rules}
+use Rattle.std.proofs.Common.{ap, ◌∙◌, append_assoc, arith, length-append, rules}
 use borrow.Rule.Slice.PartMut.{mid_of, put_mid}
 use Rattle.grammar.specs.Lines.{j_line, p_line, w_line}
 use Rattle.hypoplactic.specs.Words.{Accepted}

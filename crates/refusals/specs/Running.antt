@@ -14,7 +14,7 @@ use Rattle.std.proofs.Math.Seq.{take-append_seam, drop-append_seam, set-append_s
 use borrow.Rule.Slice.PartMut.{put_mid}
 use Rattle.outcomes.specs.Replies.{Said, gives, passed, or_else, first, ran_to, written}
 use Rattle.outcomes.proofs.Theory.Passing.{Passing, first-append, first_else, first-passed}
-use Rattle.refusals.specs.Chains.{chained, chaining, ends, goes_on, stops}
+use Rattle.refusals.specs.Chains.{goes_on, stops}
 use Rattle.refusals.specs.Said.{said_refusal, said_verdict}
 use Rattle.refusals.specs.declared.refusal.Refusal.{Refusal}
 

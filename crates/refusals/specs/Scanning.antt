@@ -2,17 +2,14 @@
 --     scan_from k fault i n         refused with k at the first of the n places from i on whose fault stands; passed where none does
 --     Scanning                     the loop's invariant: what is left of the scan gives the whole
 --     start, turn, found, none     where it begins, after a place without fault, at a fault, past the last place
---     fault_said, fault_decides    the verdict from the fault that was found
 -- Assumes nothing.
 use Prim.Native.Nat.{ℕ, zero, suc, ◌+◌, ◌-◌, ◌<◌, ◌≤◌}
-use Rattle.std.specs.Prelude.{◌≡◌, refl, Bool, true, false, [], Result, Option, Some}
+use Rattle.std.specs.Prelude.{◌≡◌, refl, Bool, true, false, []}
 use Rattle.std.proofs.Math.Path.{sym}
 use Rattle.std.proofs.Common.{ap, ap₂, ◌∙◌, add-one}
 use native.Mathlib.Omega.{arith}
 use Rattle.outcomes.specs.Replies.{Said, gives, refused, passed, refuse_if}
 use Rattle.outcomes.specs.FirstPlaces.{scan}
-use Rattle.refusals.specs.declared.refusal.Refusal.{Refusal}
-use Rattle.refusals.specs.Said.{said_fault, said_verdict}
 
 unfoldable pub scan_from : ℕ → (ℕ → Bool) → ℕ → ℕ → Said
 scan_from k fault i zero = passed
@@ -55,13 +52,3 @@ module _ {k : ℕ} {fault : ℕ → Bool} {size : ℕ} {whole : Said} {i : ℕ} 
   pub none : size ≤ i → gives [] ≡ whole
   unfolding scan_from
   none l = let over : size - i ≡ 0 = omega arith in sym (rw over at s.left)
-
--- ---- the verdict from the fault that was found
-
--- A fault at a place says so.
-pub fault_said : {f : Option ℕ} (k p : ℕ) → f ≡ Some p → refused k p ≡ said_fault k f
-fault_said k p e = rw e
-
--- The verdict of the fault that a check looks for is that of the check.
-pub fault_decides : (v : Result (Unit {0}) Refusal) (f : Option ℕ) (k : ℕ) (s : Said) → said_verdict v ≡ said_fault k f → said_fault k f ≡ s → said_verdict v ≡ s
-fault_decides v f k s e h = e ∙ h

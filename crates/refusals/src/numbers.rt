@@ -1,6 +1,5 @@
 // The checks on numbers alone: 1, 2, 3, 9, 12 and 13. Each is one test, and the refusal where it fails.
 ghost use Rattle.std.specs.Prelude.{◌+◌, ◌≡◌, [], ◌∷◌};
-ghost use Rattle.outcomes.specs.Replies.{passed};
 ghost use Rattle.outcomes.specs.Judgements.{rank_judged, length_judged, alike_judged, used_judged, index_judged, full_judged, room_judged};
 ghost use Rattle.refusals.specs.Said.{said_verdict};
 

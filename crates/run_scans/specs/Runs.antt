@@ -4,7 +4,7 @@
 --     said_item, item_place, ItemTold  what an item that was read, or a break, says in the grammar's terms, and its place
 --     run_takes                      an item takes a byte
 -- Assumes nothing.
-use Rattle.std.specs.Prelude.{ℕ, ◌≡◌, refl, Bool, true, false, List, [], Result, Ok, Err, drop}
+use Rattle.std.specs.Prelude.{ℕ, refl, Bool, true, false, List, Result, Ok, Err, drop}
 use Rattle.grammar.specs.Lines.{Run}
 use Rattle.grammar.specs.Reading.{Read, after, broken, got, read_field, read_run_by, read_step, turned}
 use Rattle.grammar.proofs.Theory.LinesExact.{first_run_exact, later_run_exact}

@@ -2,7 +2,7 @@
 ghost use Rattle.std.specs.Prelude.{◌≤◌, drop, length};
 ghost use Rattle.run_scans.specs.Items.{ItemsTold};
 
-use crate::runs::{Item, run_at};
+use crate::runs::run_at;
 use numerals::numbers::{Broken, stands};
 use run_tallies::tables::keep;
 use run_tallies::tally::{Tally, add_item, no_items};
@@ -29,6 +29,7 @@ pub(crate) fn items_at(
     let mut tally = no_items();
     let mut stepped = false;
     let mut at = from;
+    // Kept: a turn goes on by an item, which is as long as it is.
     while !stands(text, at, b'\n') {
         let item = run_at(text, at, stepped)?;
         keep(times, item.letter, item.times);

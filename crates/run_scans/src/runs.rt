@@ -30,6 +30,7 @@ fn marked_run_at(text: &[u8], at: usize, mark: u8) -> Result<Item, Broken>
 
 // An item, with or without a step before its letter. (The step is read here and not by `item_at`: a second caller would keep the compiler from laying that
 // function into the loop over the cells of T lines.)
+// Kept: `stepped` is a fact of the place, as `read_run_item` takes it.
 pub(crate) fn run_at(text: &[u8], at: usize, stepped: bool) -> Result<Item, Broken>
     ensures { ItemTold text.now (read_run_item stepped (drop at text.now)) result }
 {

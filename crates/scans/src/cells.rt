@@ -55,6 +55,7 @@ fn ribbon_at(
 }
 
 // So many items from a place on, with or without steps, and the place after them. A line of too many items is refused for that only when all of it was read.
+// Kept: `steps` is a fact of a kind of line, as `begun` takes it.
 pub(crate) fn cells_at(
     text: &[u8],
     from: usize,

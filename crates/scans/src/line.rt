@@ -1,5 +1,5 @@
 // Whole lines, read by the grammar alone: the letter of the kind, the rank where the kind has one, how many items, the items, the line feed, nothing after it.
-ghost use Rattle.std.specs.Prelude.{◌≤◌, ◌≡◌, drop, length, false};
+ghost use Rattle.std.specs.Prelude.{◌≤◌, drop, length, false};
 ghost use Rattle.grammar.specs.Reading.{after, ended};
 ghost use Rattle.numerals.specs.Numbers.{Numbered};
 ghost use Rattle.scans.specs.Heads.{Ended, Lined, read_head, read_rank};
@@ -18,6 +18,7 @@ pub struct Head {
 }
 
 // The rank of a line that has one; 0, and nothing is read, of another.
+// Kept: `ranked`, and `steps` below, are facts of a kind of line, as `read_rank` and `read_whole` take them.
 fn rank_at(text: &[u8], at: usize, ranked: bool) -> Result<Number, Broken>
     requires { at ≤ length text.now }
     ensures { Numbered text.now (read_rank ranked (drop at text.now)) result }
@@ -30,6 +31,7 @@ fn rank_at(text: &[u8], at: usize, ranked: bool) -> Result<Number, Broken>
 }
 
 // The beginning of a line up to its items.
+// Kept: `ranked` is a fact of a kind of line, as `read_head` takes it.
 pub fn head_at(text: &[u8], kind: u8, ranked: bool) -> Result<Head, Broken>
     ensures { Lined text.now (read_head kind ranked text.now) result }
 {
@@ -61,6 +63,7 @@ fn end_at(text: &[u8], at: usize) -> Result<usize, Broken>
 }
 
 // A line from its items on.
+// Kept: `steps` is a fact of a kind of line, as `read_body` takes it.
 pub(crate) fn body_at(
     text: &[u8],
     head: Head,
@@ -78,6 +81,7 @@ pub(crate) fn body_at(
 }
 
 // A whole line of a kind. The letters that fit are kept, and on a line with steps the marks that fit; a line without steps leaves the marks as they were.
+// Kept: `ranked` and `steps` are facts of a kind of line, as `read_whole` takes them.
 pub fn scan_line(
     text: &[u8],
     kind: u8,

@@ -5,7 +5,7 @@
 --     counting                      the ruleset of counts
 -- Assumes nothing.
 use Rattle.std.specs.Prelude.{ℕ, zero, suc, ◌+◌, ◌-◌, ◌≤◌, ◌<◌, ◌≡◌, List, [], ◌∷◌, get_or, set}
-use Rattle.std.proofs.Common.{◌∙◌, add-one, arith, Fits, rules}
+use Rattle.std.proofs.Common.{arith, Fits, rules}
 use Rattle.std.specs.Int.{w16}
 use Rattle.quasi_crystal.specs.Moves.{Side, raising, lowering, given, taken}
 

@@ -56,11 +56,13 @@ pub fn move_tableau(
         ≡ move_tableau_run rank (move_by side index) letters.old marks.now counts.old }
 {
     let place = move_cells(side, rank, index, letters, marks, counts)?;
+    // Kept: 9 has passed, so the index fits a byte, here and below.
     change_counts(side, index as u8, counts);
     Ok(place)
 }
 
 // Raising: the first i+1 in ribbon order becomes i.
+// Kept: raising and lowering by name, here and below, as C calls them (`luchtrav_raise_tableau`).
 pub fn raise_tableau(
     rank: usize,
     index: usize,

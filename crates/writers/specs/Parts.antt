@@ -12,7 +12,6 @@ use Rattle.grammar.specs.Lines.{cell, cells, field, first_cell, items}
 use Rattle.line_sizes.specs.Sizes.{Counted}
 use Rattle.writers.specs.Items.{Totalling, Writing, field_at, field_room, fields_end, fields_start, fields_turn, list_kept, listed, total_end, total_fits, total_start, total_turn}
 use Rattle.writers.specs.Laying.{Laid, laid_then}
-use Rattle.writers.specs.Lines.{lining}
 
 -- How many cells, the cells, the entries.
 unfoldable pub parts : List ℕ → List ℕ → List ℕ → List ℕ
