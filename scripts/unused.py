@@ -20,6 +20,7 @@ PAGES = [ROOT / "docs" / "PROMISES.md", *ROOT.glob("docs/promises/*.md")]
 EXPLAINED = {
     "viewer_of": "the making of a viewer, an operation of the scope: C takes making and look in one call, `look_once`",
     "look": "a look through a viewer, likewise",
+    "mark_at": "the mark of a step, a promise of the page of lines",
 }
 PROOFS = ("Invariants.antt", "Answers.antt", "Proof.antt")  # of a function
 NAME = r"[^\s(){}\[\],;:.=«»⌜⌝]+"

@@ -32,7 +32,7 @@ pub fn letter_at(text: &[u8], at: usize, mark: u8) -> Result<Cell, Broken>
 }
 
 // The mark of the step at a place.
-fn mark_at(text: &[u8], at: usize) -> Option<u8>
+pub fn mark_at(text: &[u8], at: usize) -> Option<u8>
     ensures { result ≡ mark_of (drop at text.now) }
 {
     match text.get(at)? {
