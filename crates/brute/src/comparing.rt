@@ -1,4 +1,6 @@
 // What is compared and counted, and answers that are spoilt on purpose.
+ghost use Rattle.std.specs.Prelude.{◌≡◌};
+
 use refusals::refusal::Refusal;
 use std::fmt;
 
@@ -33,7 +35,9 @@ pub(crate) struct Comparison {
 }
 
 impl Comparison {
-    pub fn new() -> Comparison {
+    pub(crate) fn new() -> Comparison
+        ensures { (result.compared ≡ 0) × (result.differences ≡ 0) × (result.spoilt ≡ 0) × (result.found ≡ 0) }
+    {
         Comparison {
             compared: 0,
             differences: 0,

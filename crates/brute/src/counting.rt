@@ -60,7 +60,7 @@ impl fmt::Display for Moves {
 }
 
 impl Moves {
-    pub fn new() -> Moves {
+    pub(crate) fn new() -> Moves {
         Moves {
             made: 0,
             index: 0,

@@ -95,7 +95,9 @@ pub(crate) struct Memory {
 
 impl Memory {
     // The pair without a cell.
-    pub fn new(rank: usize) -> Memory {
+    pub(crate) fn new(rank: usize) -> Memory
+        ensures { (result.rank ≡ rank) × (result.used ≡ 0) }
+    {
         Memory {
             rank,
             used: 0,

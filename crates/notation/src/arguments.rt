@@ -15,7 +15,9 @@ pub struct Arguments<'a> {
 
 impl<'a> Arguments<'a> {
     // All fields of a line.
-    pub fn new(alloc: Global, line: &'a [u8]) -> Arguments<'a> {
+    pub fn new(alloc: Global, line: &'a [u8]) -> Arguments<'a>
+        ensures { result.rest.now ≡ line.now }
+    {
         Arguments { alloc, rest: line }
     }
 
@@ -62,7 +64,9 @@ impl<'a> Arguments<'a> {
     }
 
     // Letter counts: numbers that are missing are 0.
-    pub fn counts(&mut self) -> Result<[u16; 64], AllocError> {
+    pub fn counts(&mut self) -> Result<[u16; 64], AllocError>
+        ensures { IfOk result (λ counts. length counts ≡ 64) }
+    {
         let mut counts = [0; 64];
         for (count, element) in counts.iter_mut().zip(&self.entries(64)?) {
             *count = *element;

@@ -14,7 +14,7 @@ pub(crate) struct Given {
 
 impl Given {
     // The first tableau of a call.
-    pub fn first(call: &mut Arguments<'_>) -> Result<Given, AllocError> {
+    pub(crate) fn first(call: &mut Arguments<'_>) -> Result<Given, AllocError> {
         Ok(Given {
             letters: call.bytes(FIRST)?,
             marks: call.bytes(SECOND)?,
@@ -53,7 +53,7 @@ pub(crate) struct GivenPair {
 
 impl GivenPair {
     // The pair of a call.
-    pub fn first(call: &mut Arguments<'_>) -> Result<GivenPair, AllocError> {
+    pub(crate) fn first(call: &mut Arguments<'_>) -> Result<GivenPair, AllocError> {
         Ok(GivenPair {
             letters: call.bytes(FIRST)?,
             marks: call.bytes(SECOND)?,

@@ -1,5 +1,5 @@
 // Words drawn by a repeatable generator, over all ranks from 1 to 64, all lengths up to 1,024 and in five ways, and streams of letters, drawn one after the other.
-ghost use Rattle.std.specs.Prelude.{◌≡◌, ◌-◌, ◌<◌, ◌≤◌};
+ghost use Rattle.std.specs.Prelude.{◌≡◌, ◌-◌, ◌%◌, ◌<◌, ◌≤◌};
 ghost use Rattle.plain_words.specs.declared.drawn.TheConstants.{PRIME};
 
 use crate::Word;
@@ -20,7 +20,9 @@ pub struct Generator {
 
 impl Generator {
     // A generator that begins with a number.
-    pub fn new(number: u64) -> Generator {
+    pub fn new(number: u64) -> Generator
+        ensures { result.state ≡ number % 2147483647 }
+    {
         Generator {
             state: number % PRIME,
         }

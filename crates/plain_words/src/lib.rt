@@ -2,6 +2,9 @@
 // of the kernel, and no contract says what a word or a pair is: that is compared by running. Contracts give what callers must know to be safe.
 #![tactic(auto)]
 
+ghost use Rattle.std.specs.Prelude.{◌≤◌};
+ghost use Rattle.arrayvec.specs.ArrayVec.{array_vec_len};
+
 pub mod drawn;
 pub mod insertion;
 mod known;
@@ -21,7 +24,9 @@ pub struct Word {
 }
 
 // The words of document 01, and then drawn ones, by the generator.
-pub fn word_of(k: usize, generator: &mut Generator) -> Word {
+pub fn word_of(k: usize, generator: &mut Generator) -> Word
+    ensures { array_vec_len result.letters ≤ 1024 }
+{
     if k < KNOWN {
         return known_word(k);
     }
