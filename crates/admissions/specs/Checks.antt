@@ -22,10 +22,9 @@ use Rattle.refusals.specs.Running.{checks_then}
 abbrev pub lists : CountedPair → Pair
 lists p = pair_with p.letters.now p.marks.now p.entries.now
 
--- 1, 2 and 3.
-abbrev pub size_judgements : ℕ → ℕ → Pair → List Said
-size_judgements n used p =
-    rank_judged n ∷ length_judged used ∷ used_judged used (length p.letters ∷ length p.marks ∷ length p.recording ∷ []) ∷ []
+-- 1, 2 and 3, from the lengths of the three lists.
+abbrev pub size_judgements : ℕ → ℕ → ℕ → ℕ → ℕ → List Said
+size_judgements n used letters marks entries = rank_judged n ∷ length_judged used ∷ used_judged used (letters ∷ marks ∷ entries ∷ []) ∷ []
 
 -- 4 to 8 of the used cells and the new letter, and 17 of the counts of the used letters.
 abbrev pub cell_judgements : ℕ → ℕ → ℕ → Pair → List ℕ → List Said
@@ -50,7 +49,8 @@ used_checks n used a p cs = checks_then (used_judgements n used a p cs) (free_ju
 
 -- What all checks of insertion say.
 abbrev pub insert_checks : ℕ → ℕ → ℕ → Pair → List ℕ → Said
-insert_checks n used a p cs = checks_then (size_judgements n used p) (used_judgements n used a p cs ++ free_judgements used p)
+insert_checks n used a p cs =
+    checks_then (size_judgements n used (length p.letters) (length p.marks) (length p.recording)) (used_judgements n used a p cs ++ free_judgements used p)
 
 -- A rank, at most 1,024 used cells, and each of the three lists has them.
 pub record Sized (n used letters marks entries : ℕ) : Type 0 where
@@ -88,9 +88,11 @@ letters_last n a xs = let z : 0 + length xs ≡ length xs = omega arith in rw z 
 -- ---- the sizes
 
 -- Where 1, 2 and 3 pass, the rank is one, and the used cells are there.
-pub sized : (used : ℕ) (p : CountedPair) → gives [] ≡ first (size_judgements p.rank used (lists p)) passed → HasUsed used p
+pub sized : (used : ℕ) (p : CountedPair)
+    → gives [] ≡ first (size_judgements p.rank used (length p.letters.now) (length p.marks.now) (length p.entries.now)) passed → HasUsed used p
 sized used p e =
-    let (rank, (short, (held, t))) = (first-passed (size_judgements p.rank used (lists p))).0 (sym e) in
+    let (rank, (short, (held, t))) =
+    (first-passed (size_judgements p.rank used (length p.letters.now) (length p.marks.now) (length p.entries.now))).0 (sym e) in
     let all = (used_judged_lem used (length p.letters.now ∷ length p.marks.now ∷ length p.entries.now ∷ [])).0 held in
     record {
       low = ((rank_judged_lem p.rank).0 rank).0;

@@ -15,16 +15,17 @@ use refusals::refusal::Refusal;
 use validity::tableau::check_ribbon;
 
 // 1, 2 and 3: what must pass before the used cells can be looked at.
-pub fn check_sizes(pair: &CountedPair, used: usize) -> Result<(), Refusal>
-    ensures { said_verdict result ≡ first (size_judgements pair.now.rank used (lists pair.now)) passed }
+pub fn check_sizes(
+    rank: usize,
+    used: usize,
+    letters: usize,
+    marks: usize,
+    entries: usize,
+) -> Result<(), Refusal>
+    ensures { said_verdict result ≡ first (size_judgements rank used letters marks entries) passed }
 {
-    check_limits(pair.rank, used)?;
-    check_used(
-        used,
-        pair.letters.len(),
-        pair.marks.len(),
-        pair.entries.len(),
-    )
+    check_limits(rank, used)?;
+    check_used(used, letters, marks, entries)
 }
 
 // The first cells of a pair, so many or as many as there are.
@@ -97,6 +98,12 @@ fn check_used_cells(pair: &CountedPair, used: usize, letter: usize) -> Result<()
 pub fn check_insertion(pair: &CountedPair, used: usize, letter: usize) -> Result<(), Refusal>
     ensures { said_verdict result ≡ insert_checks pair.now.rank used letter (lists pair.now) pair.now.counts.now }
 {
-    check_sizes(pair, used)?;
+    check_sizes(
+        pair.rank,
+        used,
+        pair.letters.len(),
+        pair.marks.len(),
+        pair.entries.len(),
+    )?;
     check_used_cells(pair, used, letter)
 }

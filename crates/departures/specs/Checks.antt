@@ -25,7 +25,7 @@ cell_checks n used p cs = checks_then (window_cells n used p cs) (empty_judged u
 -- What all checks of a departure say.
 unfoldable pub depart_checks : ℕ → ℕ → Pair → List ℕ → Said
 depart_checks n used p cs =
-    checks_then (size_judgements n used p) (window_cells n used p cs ++ (empty_judged used ∷ []))
+    checks_then (size_judgements n used (length p.letters) (length p.marks) (length p.recording)) (window_cells n used p cs ++ (empty_judged used ∷ []))
 
 -- ---- the used cells
 

@@ -28,6 +28,12 @@ fn check_used_cells(pair: &CountedPair, used: usize) -> Result<(), Refusal>
 pub(crate) fn check_departure(pair: &CountedPair, used: usize) -> Result<(), Refusal>
     ensures { said_verdict result ≡ depart_checks pair.now.rank used (lists pair.now) pair.now.counts.now }
 {
-    check_sizes(pair, used)?;
+    check_sizes(
+        pair.rank,
+        used,
+        pair.letters.len(),
+        pair.marks.len(),
+        pair.entries.len(),
+    )?;
     check_used_cells(pair, used)
 }
