@@ -150,12 +150,7 @@ pub extern "C" fn luchtrav_look(
 ) -> CellReply
     ensures { result ≡ cell_of (look_says rank letters.now marks.now place) }
 {
-    let tableau = Tableau {
-        rank,
-        letters,
-        marks,
-    };
-    CellReply::from(look_once(&tableau, place))
+    CellReply::from(look_once(rank, letters, marks, place))
 }
 
 // A look at any two slices, of a tableau that was checked before.

@@ -1,7 +1,7 @@
 // The calls that change no memory: questions about words, about one tableau, and about two.
 use crate::calls::{FIRST, SECOND};
 use crate::given::{Given, GivenPair};
-use lent::tableaux::{CountedTableau, Tableau};
+use lent::tableaux::CountedTableau;
 use notation::answers::{Values, print_answer};
 use notation::arguments::Arguments;
 use refusals::refusal::Refusal;
@@ -84,12 +84,7 @@ pub(crate) fn look(rt: &impl Print, mut call: Arguments<'_>) -> io::Result<()> {
     let place = call.number();
     let letters = call.bytes(FIRST)?;
     let marks = call.bytes(SECOND)?;
-    let tableau = Tableau {
-        rank,
-        letters: &letters,
-        marks: &marks,
-    };
-    print_answer(rt, look_once(&tableau, place))
+    print_answer(rt, look_once(rank, &letters, &marks, place))
 }
 
 // A check of a pair.

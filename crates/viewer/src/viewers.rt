@@ -46,8 +46,14 @@ impl<'a, 'b> Viewer<'a, 'b> {
 }
 
 // One look, through a viewer that is made for it.
-pub fn look_once(tableau: &Tableau, place: usize) -> Result<Option<Cell>, Refusal>
-    ensures { said_cell result ≡ look_says tableau.now.rank tableau.now.letters.now tableau.now.marks.now place }
+// Kept: parameters one by one, for callers that hold no struct with references.
+pub fn look_once(
+    rank: usize,
+    letters: &[u8],
+    marks: &[u8],
+    place: usize,
+) -> Result<Option<Cell>, Refusal>
+    ensures { said_cell result ≡ look_says rank letters.now marks.now place }
 {
-    viewer_of(tableau.rank, tableau.letters, tableau.marks).look(place)
+    viewer_of(rank, letters, marks).look(place)
 }

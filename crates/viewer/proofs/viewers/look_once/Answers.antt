@@ -5,5 +5,4 @@ use Rattle.viewer.proofs.viewers.look_once.Goals as goal
 pub returns : goal.returns
 returns c =
     let (letters, marks, made) = c.viewer_of.ensures in
-    let tableau = c.args.tableau.now in
-    look_made tableau.rank tableau.letters.now tableau.marks.now c.args.place (rw (letters, marks) at c.look.ensures) made
+    look_made c.args.rank c.args.letters.now c.args.marks.now c.args.place (rw (letters, marks) at c.look.ensures) made
