@@ -148,7 +148,7 @@ merge_start n cs ds es gs l = record { reached = l; ahead = λ xs ms ys ns t. st
 module _ {b : Bool} {bit : ℕ} (n : ℕ) (cs : List ℕ) (ds : List Bool) (es : List ℕ) (gs : List Bool) (a set first_next second_next : ℕ) (h : Merging n cs ds es gs a set first_next second_next)
     (l : 0 < a) (o : bit ≡ bool_byte b)
     (e : b ≡ product_bit first_next second_next (get_or ds (a - 1) false) (get_or es (a - 1) 0) (get_or gs (a - 1) false)) where
-  merge_turn : {first_next' second_next' : ℕ} {occurs : Bool} → (ltb 0 (get_or cs (a - 1) 0) || ltb 0 (get_or es (a - 1) 0)) ≡ occurs
+  pub merge_turn : {first_next' second_next' : ℕ} {occurs : Bool} → (ltb 0 (get_or cs (a - 1) 0) || ltb 0 (get_or es (a - 1) 0)) ≡ occurs
       → first_next' ≡ cond occurs (get_or cs (a - 1) 0) first_next → second_next' ≡ cond occurs (get_or es (a - 1) 0) second_next
       → Merging n cs ds es gs (a - 1) (bit_or (set * 2 ^ 1 % 2 ^ 64) bit) first_next' second_next'
   merge_turn k f s =

@@ -51,7 +51,7 @@ module _ (b d : ℕ) (t : List ℕ) (is : Some d ≡ digit_of (b ∷ t)) where
       go true e h = let (low, high) = digit_range b e in let v : d ≡ b - 48 = cc in (e, omega arith)
       go false e h = cc
 
-  digit_under : d < 10
+  pub digit_under : d < 10
   digit_under = let (low, high) = digit_range b digit_here.0 in omega (arith, digit_here.1)
 
   next_read : (k n : ℕ) → more_digits (suc k) n (b ∷ t) ≡ more_digits k (n * 10 + d) t

@@ -45,7 +45,7 @@ abbrev pub target_judgements : Move → Bool → List ℕ → List Said
 target_judgements m b w = inversion_judged b ∷ letter_judged (taken m.side m.index) w ∷ []
 
 -- What a move replies past 1 and 9, and the letters afterwards; a is the letter that the move gives.
-abbrev move_ran : Result ℕ Refusal → ℕ → List ℕ → Said × List ℕ
+abbrev pub move_ran : Result ℕ Refusal → ℕ → List ℕ → Said × List ℕ
 move_ran (Ok k) a w = (gives (k ∷ []), set w k a)
 move_ran (Err r) a w = (said_refusal r, w)
 
@@ -115,7 +115,7 @@ module _ (n i : ℕ) (e : gives [] ≡ first (change_judgements n i) passed) whe
 
   -- and the move is as its target tells:
   module _ (s : Chosen) (b : Bool) (w : List ℕ) where
-    change_passed : move_ran (target_of b (side_of s) i w) (given (side_of s) i) w ≡ move_letters_run n (move_by s i) b w
+    pub change_passed : move_ran (target_of b (side_of s) i w) (given (side_of s) i) w ≡ move_letters_run n (move_by s i) b w
     unfolding move_letters_run
     change_passed =
         let told : Said = gives (place_told (changed_place b (move_by s i) w)) in
