@@ -1,24 +1,17 @@
--- The checks on a recording ribbon, 7 and 8.
+-- The check on the entries of a recording ribbon, 7.
 --     entry_fault         7: the entry at a place is 0, above the limit, or met before
---     step_fault          8: the entry at a place breaks the step into its cell
---     start_entries      where the scan for 7 begins
---     Meeting            the invariant of that scan
---     meeting, stepping  the rulesets of the two checks
+--     start_entries       where the scan for 7 begins
+--     Meeting             the invariant of that scan
+--     meeting             the ruleset of the check
 -- The table of entries met is in Seen, the pass before the scan for 7 in Noted. Assumes nothing.
-use Rattle.std.specs.Prelude.{ℕ, zero, suc, ◌+◌, ◌-◌, ◌<◌, ◌≤◌, min, ◌≡◌, refl, Bool, true, false, ◌||◌, List, [], ◌∷◌, ltb, length, get_or, take}
+use Rattle.std.specs.Prelude.{ℕ, ◌+◌, ◌<◌, ◌≤◌, ◌≡◌, refl, Bool, true, false, ◌||◌, List, [], length, get_or, take}
 use Rattle.std.proofs.Common.{◌∙◌, arith, add-one, take-suc, rules}
 use Rattle.hypoplactic.specs.Words.{occurs}
-use Rattle.outcomes.specs.Judgements.{outside, entries_judged, step_broken, recording_judged}
-use Rattle.outcomes.specs.FirstPlaces.{shorter}
+use Rattle.outcomes.specs.Judgements.{outside, entries_judged}
 use Rattle.outcomes.specs.Replies.{gives, refused}
-use Rattle.outcomes.proofs.Theory.FirstPlaces.{entries_scan, recording_scan}
-use Rattle.refusals.specs.Scanning.{Scanning, scan_from, scan_from_lem, start, turn, found, none}
+use Rattle.outcomes.proofs.Theory.FirstPlaces.{entries_scan}
+use Rattle.refusals.specs.Scanning.{Scanning, scan_from_lem, start, turn, found, none}
 use Rattle.recordings.specs.Seen.{InTable, Judged, Met, Reaches, Seen}
-use Rattle.shapes.specs.Faults.{shorter_size}
-
--- 8: the entry breaks the step into its cell.
-unfoldable pub step_fault : List ℕ → List ℕ → ℕ → Bool
-step_fault rs ms p = step_broken (get_or ms p 0) (get_or rs (p - 1) 0) (get_or rs p 0)
 
 -- 7: the entry is 0, above the limit, or met before.
 unfoldable pub entry_fault : ℕ → List ℕ → ℕ → Bool
@@ -73,30 +66,3 @@ pub end_meeting : {limit size i : ℕ} {rs table : List ℕ} → Meeting limit s
 end_meeting m h = none m.scan h
 
 pub ruleset meeting = (start_meeting, in_table, turn_meeting, found_meeting, end_meeting, rules)
-
--- ---- steps
-
-pub step_right : (rs ms : List ℕ) (p : ℕ) → get_or ms p 0 ≡ 0 → ltb (get_or rs p 0) (get_or rs (p - 1) 0) ≡ step_fault rs ms p
-unfolding step_fault
-step_right rs ms p e = rw e
-
-broken_down : (m r s : ℕ) → (m ≡ 0 → ⊥) → ltb r s ≡ step_broken m r s
-broken_down zero r s h = absurd (h refl)
-broken_down (suc m) r s h = refl
-
-pub step_down : (rs ms : List ℕ) (p : ℕ) → (get_or ms p 0 ≡ 0 → ⊥) → ltb (get_or rs (p - 1) 0) (get_or rs p 0) ≡ step_fault rs ms p
-unfolding step_fault
-step_down rs ms p h = broken_down (get_or ms p 0) (get_or rs (p - 1) 0) (get_or rs p 0) h
-
-pub start_steps : {size : ℕ} (rs ms : List ℕ) → size ≡ min (length rs) (length ms) → Scanning 8 (step_fault rs ms) size (recording_judged rs ms) 1
-unfolding step_fault recording_judged scan_from
-start_steps [] ms e = start 0 refl (omega arith)
-start_steps (r ∷ rs) [] e = start 0 refl (omega arith)
-start_steps (r ∷ rs) (m ∷ ms) e =
-    start (shorter rs ms)
-    (recording_scan r rs m ms
-    ∙ scan_from_lem 8 1 (shorter rs ms) _ (step_fault (r ∷ rs) (m ∷ ms))
-    (λ q l. let e : 1 + q - 1 ≡ q = omega arith in let f : 1 + q ≡ suc q = omega arith in rw (e, f)))
-    (omega (arith, shorter_size rs ms))
-
-pub ruleset stepping = (step_right, step_down, rules)

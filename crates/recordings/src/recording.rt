@@ -1,13 +1,12 @@
 // The checks on a recording ribbon: 7 and 8.
-ghost use Rattle.std.specs.Prelude.{◌<◌, ◌≤◌, ◌≡◌, [], length};
+ghost use Rattle.std.specs.Prelude.{◌≡◌, [], length};
 ghost use Rattle.outcomes.specs.Judgements.{entries_judged, outside, recording_judged};
 ghost use Rattle.recordings.specs.Clear.{Cleared};
-ghost use Rattle.recordings.specs.Entries.{step_fault};
 ghost use Rattle.recordings.specs.Seen.{InTable, Judged, Met, Reaches, Seen};
-ghost use Rattle.refusals.specs.Said.{said_fault, said_verdict};
+ghost use Rattle.refusals.specs.Said.{said_verdict};
 
 use refusals::refusal::Refusal;
-use shapes::faults::first_fault;
+use shapes::steps::step_fault;
 
 // Whether a number is 0 or above the limit.
 fn number_outside(limit: usize, number: usize) -> bool
@@ -82,28 +81,6 @@ pub fn check_entries(limit: usize, entries: &[u16]) -> Result<(), Refusal>
     }
     let mut seen = [0u64; 1024];
     scan_entries(limit, entries, &mut seen)
-}
-
-// Whether the entry at a place breaks the step into its cell.
-#[tactic(auto, using(crate::specs::Entries::stepping))]
-fn step_broken(entries: &[u16], marks: &[u8], place: usize) -> bool
-    requires { (1 ≤ place) × (place < length entries.now) × (place < length marks.now) }
-    ensures { result ≡ step_fault entries.now marks.now place }
-{
-    let before = entries[place - 1];
-    let here = entries[place];
-    if marks[place] == 0 {
-        return here < before;
-    }
-    before < here
-}
-
-// Where the first broken step stands, if there is one.
-fn step_fault(entries: &[u16], marks: &[u8]) -> Option<usize>
-    ensures { said_fault 8 result ≡ recording_judged entries.now marks.now }
-{
-    let size = entries.len().min(marks.len());
-    first_fault(1, size, |place| step_broken(entries, marks, place))
 }
 
 // 8: the entries rise at right steps and fall at down steps.

@@ -15,7 +15,7 @@ fn any_fault<F: Fn(usize) -> bool>(from: usize, size: usize, fault: &F) -> bool
 }
 
 // The first such place.
-pub fn first_fault<F: Fn(usize) -> bool>(from: usize, size: usize, fault: F) -> Option<usize>
+pub(crate) fn first_fault<F: Fn(usize) -> bool>(from: usize, size: usize, fault: F) -> Option<usize>
     requires { (k : ℕ) → from ≤ k → k < size → F.pre fault k }
     ensures { FirstAt (F.post fault) from size result }
 {
