@@ -46,9 +46,16 @@ pub fn letter_fault(rank: usize, letters: &[u8]) -> Option<usize>
     first_outside(rank, letters)
 }
 
+// The verdict of 4 from that place.
+pub fn letters_verdict(fault: Option<usize>) -> Result<(), Refusal>
+    ensures { said_verdict result ≡ said_fault 4 fault }
+{
+    fault.map_or(Ok(()), |place| Err(Refusal::Letter(place)))
+}
+
 // 4: each letter is 1 to rank.
 pub fn check_letters(rank: usize, letters: &[u8]) -> Result<(), Refusal>
     ensures { said_verdict result ≡ letters_judged rank letters.now }
 {
-    letter_fault(rank, letters).map_or(Ok(()), |place| Err(Refusal::Letter(place)))
+    letters_verdict(letter_fault(rank, letters))
 }

@@ -47,11 +47,18 @@ pub fn count_fault(letters: &[u8], counts: &[u16; 64]) -> Option<usize>
     }
 }
 
+// The verdict of 17 from that place.
+pub fn counts_verdict(fault: Option<usize>) -> Result<(), Refusal>
+    ensures { said_verdict result ≡ said_fault 17 fault }
+{
+    fault.map_or(Ok(()), |place| Err(Refusal::Count(place)))
+}
+
 // 17: each of the 64 numbers is how often its letter stands.
 pub fn check_counts(letters: &[u8], counts: &[u16; 64]) -> Result<(), Refusal>
     ensures { said_verdict result ≡ counts_judged counts.now letters.now }
 {
-    count_fault(letters, counts).map_or(Ok(()), |place| Err(Refusal::Count(place)))
+    counts_verdict(count_fault(letters, counts))
 }
 
 // 17 of letters that rise.
@@ -59,5 +66,5 @@ pub(crate) fn check_rising_counts(letters: &[u8], counts: &[u16; 64]) -> Result<
     requires { rising_judged letters.now ≡ passed }
     ensures { said_verdict result ≡ counts_judged counts.now letters.now }
 {
-    rising_count_fault(letters, counts).map_or(Ok(()), |place| Err(Refusal::Count(place)))
+    counts_verdict(rising_count_fault(letters, counts))
 }

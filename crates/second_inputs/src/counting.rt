@@ -7,11 +7,11 @@ ghost use Rattle.outcomes.specs.Judgements.{letters_judged, marks_judged, rising
 ghost use Rattle.refusals.specs.Said.{said_verdict};
 ghost use Rattle.second_inputs.specs.Counting.{FurtherFits, further};
 
-use acceptance::letters::letter_fault;
-use counts::check::count_fault;
+use acceptance::letters::{letter_fault, letters_verdict};
+use counts::check::{count_fault, counts_verdict};
 use refusals::refusal::Refusal;
-use shapes::marks::mark_fault;
-use shapes::rising::rising_fault;
+use shapes::marks::{mark_fault, marks_verdict};
+use shapes::rising::{rising_fault, rising_verdict};
 
 // The same fault, so many places further on.
 fn counted_on(before: usize, fault: Option<usize>) -> Option<usize>
@@ -26,10 +26,7 @@ fn counted_on(before: usize, fault: Option<usize>) -> Option<usize>
 pub fn check_second_letters(first: &[u8], rank: usize, second: &[u8]) -> Result<(), Refusal>
     ensures { said_verdict result ≡ count_on (length first.now) (letters_judged rank second.now) }
 {
-    counted_on(first.len(), letter_fault(rank, second)).map_or(
-        Ok(()),
-        |place| Err(Refusal::Letter(place)),
-    )
+    letters_verdict(counted_on(first.len(), letter_fault(rank, second)))
 }
 
 // 5 of a second tableau.
@@ -37,10 +34,7 @@ pub fn check_second_letters(first: &[u8], rank: usize, second: &[u8]) -> Result<
 pub fn check_second_rising(first: &[u8], second: &[u8]) -> Result<(), Refusal>
     ensures { said_verdict result ≡ count_on (length first.now) (rising_judged second.now) }
 {
-    counted_on(first.len(), rising_fault(second)).map_or(
-        Ok(()),
-        |place| Err(Refusal::Falling(place)),
-    )
+    rising_verdict(counted_on(first.len(), rising_fault(second)))
 }
 
 // 6 of a second tableau.
@@ -48,10 +42,7 @@ pub fn check_second_rising(first: &[u8], second: &[u8]) -> Result<(), Refusal>
 pub fn check_second_marks(first: &[u8], second: &[u8], marks: &[u8]) -> Result<(), Refusal>
     ensures { said_verdict result ≡ count_on (length first.now) (marks_judged second.now marks.now) }
 {
-    counted_on(first.len(), mark_fault(second, marks)).map_or(
-        Ok(()),
-        |place| Err(Refusal::Mark(place)),
-    )
+    marks_verdict(counted_on(first.len(), mark_fault(second, marks)))
 }
 
 // 17 of a second tableau.
@@ -59,5 +50,5 @@ pub fn check_second_marks(first: &[u8], second: &[u8], marks: &[u8]) -> Result<(
 pub fn check_second_counts(second: &[u8], counts: &[u16; 64]) -> Result<(), Refusal>
     ensures { said_verdict result ≡ count_on 64 (counts_judged counts.now second.now) }
 {
-    counted_on(64, count_fault(second, counts)).map_or(Ok(()), |place| Err(Refusal::Count(place)))
+    counts_verdict(counted_on(64, count_fault(second, counts)))
 }

@@ -37,9 +37,16 @@ pub fn mark_fault(letters: &[u8], marks: &[u8]) -> Option<usize>
     first_fault(0, size, |place| mark_wrong(letters, marks, place))
 }
 
+// The verdict of 6 from that place.
+pub fn marks_verdict(fault: Option<usize>) -> Result<(), Refusal>
+    ensures { said_verdict result ≡ said_fault 6 fault }
+{
+    fault.map_or(Ok(()), |place| Err(Refusal::Mark(place)))
+}
+
 // 6: the first mark is 0, each other one 0 or 1, and none goes down between equals.
 pub fn check_marks(letters: &[u8], marks: &[u8]) -> Result<(), Refusal>
     ensures { said_verdict result ≡ marks_judged letters.now marks.now }
 {
-    mark_fault(letters, marks).map_or(Ok(()), |place| Err(Refusal::Mark(place)))
+    marks_verdict(mark_fault(letters, marks))
 }

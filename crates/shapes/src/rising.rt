@@ -17,9 +17,16 @@ pub fn rising_fault(letters: &[u8]) -> Option<usize>
     )
 }
 
+// The verdict of 5 from that place.
+pub fn rising_verdict(fault: Option<usize>) -> Result<(), Refusal>
+    ensures { said_verdict result ≡ said_fault 5 fault }
+{
+    fault.map_or(Ok(()), |place| Err(Refusal::Falling(place)))
+}
+
 // 5: the letters never fall along the ribbon.
 pub fn check_rising(letters: &[u8]) -> Result<(), Refusal>
     ensures { said_verdict result ≡ rising_judged letters.now }
 {
-    rising_fault(letters).map_or(Ok(()), |place| Err(Refusal::Falling(place)))
+    rising_verdict(rising_fault(letters))
 }
