@@ -6,22 +6,16 @@ ghost use Rattle.run_tallies.specs.Tallies.{tally_judgements, tally_says};
 
 use crate::tally::Tally;
 use refusals::chains::check_limits;
+use refusals::numbers::refuse_if;
 use refusals::refusal::Refusal;
 
 // 4, 19 and 20: each lead is below the number of items where there is a fault, and is the faulty item's index.
 fn check_items(size: usize, tally: Tally) -> Result<(), Refusal>
     ensures { said_verdict result ≡ first (tally_judgements size tally) passed }
 {
-    if tally.inside < tally.items {
-        return Err(Refusal::Letter(tally.inside));
-    }
-    if tally.rising < tally.items {
-        return Err(Refusal::Item(tally.rising));
-    }
-    if tally.sum != size {
-        return Err(Refusal::Sum);
-    }
-    Ok(())
+    refuse_if(tally.inside < tally.items, Refusal::Letter(tally.inside))?;
+    refuse_if(tally.rising < tally.items, Refusal::Item(tally.rising))?;
+    refuse_if(tally.sum != size, Refusal::Sum)
 }
 
 // 1, 2, 4, 19 and 20 of rank, number of cells and items with this tally. A sum above 1,024 is told from every number of cells that passes 2.
