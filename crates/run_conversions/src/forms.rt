@@ -1,4 +1,5 @@
-// T lines and C lines turned into each other. A text is read into local memory that has room for every tableau, and then the other form is written.
+// T lines and C lines turned into each other. A text is read into local memory that has room for every tableau, what the reader answers is taken apart by
+// `let else`, and then the other form is written.
 // Kept: both ways are two calls, and differ in both; one function over a reader and a writer would have to say what closures leave in four lent arrays.
 ghost use Rattle.std.specs.Prelude.{◌≡◌};
 ghost use Rattle.refusals.specs.Said.{said_value};
@@ -19,7 +20,10 @@ pub fn tableau_to_runs(text: &[u8], out: &mut [u8]) -> Result<usize, Refusal>
     let mut letters = [0; 1024];
     let mut marks = [0; 1024];
     let mut counts = [0; 64];
-    let Sizes { rank, count } = read_tableau_line(text, &mut letters, &mut marks, &mut counts)?;
+    let read = read_tableau_line(text, &mut letters, &mut marks, &mut counts);
+    let Ok(Sizes { rank, count }) = read else {
+        return Err(read.unwrap_err());
+    };
     write_run_line(
         &Tableau {
             rank,
@@ -38,7 +42,10 @@ pub fn runs_to_tableau(text: &[u8], out: &mut [u8]) -> Result<usize, Refusal>
     let mut letters = [0; 1024];
     let mut marks = [0; 1024];
     let mut counts = [0; 64];
-    let Sizes { rank, count } = read_run_line(text, &mut letters, &mut marks, &mut counts)?;
+    let read = read_run_line(text, &mut letters, &mut marks, &mut counts);
+    let Ok(Sizes { rank, count }) = read else {
+        return Err(read.unwrap_err());
+    };
     write_tableau_line(
         &Tableau {
             rank,
