@@ -30,10 +30,11 @@ fn print_line(text: &[u8], out: &mut [u8]) -> usize
     ensures { Printed (output text.now) out.old out.new result }
 {
     let mut word = [0u8; 1024];
-    match read_word_line(text, &mut word) {
-        Ok(Sizes { rank, count }) => print_word(rank, &word[..count], out),
-        Err(refusal) => print_refusal(refusal, out),
-    }
+    let read = read_word_line(text, &mut word);
+    let Ok(Sizes { rank, count }) = read else {
+        return print_refusal(read.unwrap_err(), out);
+    };
+    print_word(rank, &word[..count], out)
 }
 
 // The output for any text, from the front of a buffer that has room for every output.
