@@ -24,7 +24,7 @@ use Rattle.writers.specs.Lengths.{e_length}
 use Rattle.outputs.specs.Longest.{three_ready, output-short}
 use Rattle.refusals.specs.Outcomes.{not_both, wrote_elements, wrote_memory}
 use Rattle.outputs.specs.Output.{Taken, long_output, refused_output, word_taken}
-use Rattle.outputs.specs.Printing.{Printed, Ready, wrote_ok, wrote_line}
+use Rattle.outputs.specs.Printing.{Printed, Ready, wrote_ok, wrote_line, never_printed}
 
 -- ---- refusals
 
@@ -104,6 +104,7 @@ answer_within text out now a m e q = go (room_judged (length (output text)) (len
 pub ruleset answering = (
   refusal_ok,
   refusal_printed,
+  never_printed,
   line_room,
   line_refused,
   line_reach,

@@ -2,12 +2,13 @@
 --     Ready n w line have        the word is accepted, and a buffer of so many bytes has room for the line
 --     Printed line old now k     the line stands at the front of a buffer that held old, and has k bytes
 --     wrote_ok, wrote_line       nothing is refused where a writer's run gives the line, and it stands there
+--     never_printed              so the branch of a refusal is never reached
 --     kept_length                a buffer that holds a line is as long as it was
 --     then_room, then_printed    a line in the part straight after another
 -- The lines of a word are in ThreeLines. Assumes nothing.
 use Rattle.std.specs.Prelude.{Result, Ok, Err, IsOk}
 use Rattle.std.specs.Prelude.{ℕ, ◌+◌, ◌-◌, ◌≤◌, ◌≡◌, refl, List, [], ◌∷◌, ◌++◌, length, drop}
-use Rattle.std.proofs.Common.{sym, ap, ◌∙◌, append_assoc, append-nil, arith, length-append, length-drop, drop-drop}
+use Rattle.std.proofs.Common.{sym, ap, ◌∙◌, append_assoc, append-nil, arith, length-append, length-drop, drop-drop, true≢false}
 use Rattle.std.proofs.Math.Seq.{drop-append_seam, drop-length, take-length}
 use borrow.Rule.Slice.PartMut.{mid_of, put_mid, mid_len}
 use Rattle.hypoplactic.specs.Words.{Accepted}
@@ -42,6 +43,10 @@ module _ (line old now : List ℕ) (a : Result ℕ Refusal) (e : ◌≡◌ {A = 
 
   pub wrote_line : (k : ℕ) → a ≡ Ok k → length line ≤ length old → Printed line old now k
   wrote_line k q fits = record { held = wrote_memory a e; size = wrote_elements a e k q; fits = fits }
+
+-- Where nothing is refused, the branch of a refusal is never reached, whatever it prints.
+pub never_printed : (line old now : List ℕ) (k : ℕ) (a : Result ℕ Refusal) (q : Refusal) → a ≡ Err q → IsOk a → Printed line old now k
+never_printed line old now k a q e h = absurd (true≢false (sym (rw e at h)))
 
 -- ---- one line after another
 

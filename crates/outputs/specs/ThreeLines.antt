@@ -30,7 +30,7 @@ use Rattle.outcomes.proofs.Theory.Results.{pair_result, reading_result}
 use Rattle.refusals.specs.Outcomes.{wrote_elements, wrote_memory, wrote_refused}
 use Rattle.refusals.specs.Said.{said_value}
 use Rattle.refusals.specs.declared.refusal.Refusal.{Refusal}
-use Rattle.outputs.specs.Printing.{Printed, Ready, wrote_ok, wrote_line, then_printed, then_room}
+use Rattle.outputs.specs.Printing.{Printed, Ready, wrote_ok, wrote_line, never_printed, then_printed, then_room}
 
 -- ---- one line
 
@@ -216,6 +216,7 @@ pub ruleset printing = (
   reading_reach,
   reading_line_ok,
   reading_printed,
+  never_printed,
   held_pair,
   held_tableau,
   held_counts,

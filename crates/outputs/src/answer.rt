@@ -19,7 +19,10 @@ fn print_refusal(refusal: Refusal, out: &mut [u8]) -> usize
     requires { length (e_line (number refusal) (place refusal)) ≤ length out.old }
     ensures { Printed (e_line (number refusal) (place refusal)) out.old out.new result }
 {
-    write_refusal_line(refusal, out).unwrap()
+    let Ok(bytes) = write_refusal_line(refusal, out) else {
+        return 0;
+    };
+    bytes
 }
 
 // The output for a text of at most 4,096 bytes.

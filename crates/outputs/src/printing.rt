@@ -21,7 +21,10 @@ fn print_pair(pair: &Pair, out: &mut [u8]) -> usize
     requires entries_in_bounds { length (p_line pair.now.rank pair.now.letters.now pair.now.marks.now pair.now.entries.now) ≤ length out.old }
     ensures { Printed (p_line pair.now.rank pair.now.letters.now pair.now.marks.now pair.now.entries.now) out.old out.new result }
 {
-    write_pair_line(pair, out).unwrap()
+    let Ok(bytes) = write_pair_line(pair, out) else {
+        return 0;
+    };
+    bytes
 }
 
 // The W line of the column reading of a tableau, which brings its letter counts.
@@ -34,7 +37,10 @@ fn print_reading(tableau: &CountedTableau, out: &mut [u8]) -> usize
 {
     let mut reading = [0u8; 1024];
     let end = column_reading(tableau, &mut reading).unwrap();
-    write_word_line(tableau.rank, &reading[..end], out).unwrap()
+    let Ok(bytes) = write_word_line(tableau.rank, &reading[..end], out) else {
+        return 0;
+    };
+    bytes
 }
 
 // The J line of a word.
@@ -43,7 +49,10 @@ fn print_junctions(rank: usize, word: &[u8], out: &mut [u8]) -> usize
     requires { Ready rank word.now (j_line (junction_set word.now) (rows_of word.now)) (length out.old) }
     ensures { Printed (j_line (junction_set word.now) (rows_of word.now)) out.old out.new result }
 {
-    write_junction_line(rank, word, out).unwrap()
+    let Ok(bytes) = write_junction_line(rank, word, out) else {
+        return 0;
+    };
+    bytes
 }
 
 // The three lines of a word and of its pair and letter counts.

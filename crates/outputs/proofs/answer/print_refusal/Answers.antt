@@ -2,8 +2,8 @@
 use Rattle.outputs.specs.Answer.{answering}
 use Rattle.outputs.proofs.answer.print_refusal.Goals as goal
 
-pub unwrap-requires : goal.unwrap-requires
-unwrap-requires c = search answering
+pub returns-in_default : goal.returns-in_default
+returns-in_default c = search answering
 
 pub returns : goal.returns
 returns c = search answering

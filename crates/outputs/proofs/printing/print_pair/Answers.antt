@@ -2,8 +2,8 @@
 use Rattle.outputs.specs.ThreeLines.{printing}
 use Rattle.outputs.proofs.printing.print_pair.Goals as goal
 
-pub unwrap-requires : goal.unwrap-requires
-unwrap-requires c = search printing
+pub returns-in_default : goal.returns-in_default
+returns-in_default c = search printing
 
 pub returns : goal.returns
 returns c = search printing

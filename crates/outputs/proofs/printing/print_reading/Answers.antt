@@ -11,8 +11,8 @@ slice_bounds-reading-end c = search printing
 pub slice_bounds-write_word_line-end : goal.slice_bounds-write_word_line-end
 slice_bounds-write_word_line-end c = search printing
 
-pub unwrap-requires : goal.unwrap-requires
-unwrap-requires c = search printing
+pub returns-in_default : goal.returns-in_default
+returns-in_default c = search printing
 
 pub returns : goal.returns
 returns c = search printing
