@@ -1,5 +1,5 @@
-// A T text and an N text, which were written of one pair by a version without P lines, as the pair's P line. Both texts are scanned into local memory, then
-// their values are judged as one pair and written.
+// A T text and an N text, which were written of one pair by a version without P lines, as the pair's P line. Both texts are scanned into local memory, what
+// the scans answer is taken apart by `let else`, then their values are judged as one pair and written.
 ghost use Rattle.std.specs.Prelude.{[], ◌∷◌, ◌≡◌};
 ghost use Rattle.former_lines.specs.Conversion.{convert_run};
 ghost use Rattle.outcomes.specs.Judgements.{length_judged, rank_judged};
@@ -63,19 +63,21 @@ pub fn convert_lines(tableau: &[u8], recording: &[u8], out: &mut [u8]) -> Result
     let mut entries = no_letters();
     // An N line tells no marks, so none are lent.
     let mut none = [0u8; 0];
-    match scan_line(tableau, b'T', true, true, &mut letters, &mut marks) {
-        Err(broken) => Err(Refusal::Line(broken.place)),
-        Ok(head) => match scan_line(recording, b'N', false, false, &mut entries, &mut none) {
-            Err(broken) => Err(Refusal::Line(tableau.len() + broken.place)),
-            Ok(second) => write_values(
-                head.rank,
-                head.count,
-                second.count,
-                &letters,
-                &marks,
-                &entries,
-                out,
-            ),
-        },
-    }
+    let first = scan_line(tableau, b'T', true, true, &mut letters, &mut marks);
+    let Ok(tableau_head) = first else {
+        return Err(Refusal::Line(first.unwrap_err().place));
+    };
+    let second = scan_line(recording, b'N', false, false, &mut entries, &mut none);
+    let Ok(recording_head) = second else {
+        return Err(Refusal::Line(tableau.len() + second.unwrap_err().place));
+    };
+    write_values(
+        tableau_head.rank,
+        tableau_head.count,
+        recording_head.count,
+        &letters,
+        &marks,
+        &entries,
+        out,
+    )
 }
