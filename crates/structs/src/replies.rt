@@ -228,7 +228,7 @@ impl From<Result<u64, Refusal>> for ValueReply {
     }
 }
 
-// What a line says: its rank, and the number of its letters or cells.
+// What a line says: its rank, and the number of its letters or cells. What a reader answers is taken apart by `let else`, as in the program and the converters.
 #[repr(C)]
 #[derive(Clone, Copy)]
 pub struct LineReply {
@@ -242,22 +242,20 @@ impl From<Result<Sizes, Refusal>> for LineReply {
     ghost from_gives = { λ answer reply. reply ≡ line_of (said_sizes answer) };
 
     fn from(answer: Result<Sizes, Refusal>) -> LineReply {
-        match answer {
-            Ok(Sizes { rank, count }) => LineReply {
-                number: 0,
-                place: 0,
-                rank,
-                count,
-            },
-            Err(refusal) => {
-                let Returned { number, place } = Returned::from(refusal);
-                LineReply {
-                    number,
-                    place,
-                    rank: 0,
-                    count: 0,
-                }
-            }
+        let Ok(Sizes { rank, count }) = answer else {
+            let Returned { number, place } = Returned::from(answer.unwrap_err());
+            return LineReply {
+                number,
+                place,
+                rank: 0,
+                count: 0,
+            };
+        };
+        LineReply {
+            number: 0,
+            place: 0,
+            rank,
+            count,
         }
     }
 }
