@@ -1,24 +1,24 @@
 // The fields of a table line, one after the other, as the arguments of a call.
-ghost use Rattle.std.specs.Prelude.{◌≡◌, ◌≤◌, IfOk, length, vec_len};
+ghost use Rattle.std.specs.Prelude.{◌≡◌, ◌≤◌, length};
+ghost use Rattle.arrayvec.specs.ArrayVec.{array_vec_len};
 ghost use Rattle.notation.specs.Digits.{digits_from};
 
 use crate::items::{elements, text_bytes};
 use crate::texts::{cut, number};
-use std::alloc::{AllocError, Global};
+use arrayvec::ArrayVec;
 
-// What is left of a line, and where lists are put.
+// What is left of a line.
 #[derive(Clone, Copy, Debug)]
 pub struct Arguments<'a> {
-    alloc: Global,
     pub rest: &'a [u8],
 }
 
 impl<'a> Arguments<'a> {
     // All fields of a line.
-    pub fn new(alloc: Global, line: &'a [u8]) -> Arguments<'a>
+    pub fn new(line: &'a [u8]) -> Arguments<'a>
         ensures { result.rest.now ≡ line.now }
     {
-        Arguments { alloc, rest: line }
+        Arguments { rest: line }
     }
 
     // The next field; an empty one past the last.
@@ -39,38 +39,35 @@ impl<'a> Arguments<'a> {
         value
     }
 
-    // A list of bytes.
-    pub fn bytes(&mut self, room: usize) -> Result<Vec<u8>, AllocError>
-        ensures { IfOk result (λ v. vec_len v ≤ room) }
+    // A list of bytes. Of this list, as of the next two, what is beyond the room or beyond `N` is dropped.
+    pub fn bytes<const N: usize>(&mut self, room: usize) -> ArrayVec<u8, N>
+        ensures { array_vec_len result ≤ room }
     {
-        let list = self.entries(room)?;
-        list.iter()
-            .map(|element| (*element % 256) as u8)
-            .collect(self.alloc)
+        elements(self.field(), room, |element| (element % 256) as u8)
     }
 
     // A text.
-    pub fn text(&mut self, room: usize) -> Result<Vec<u8>, AllocError>
-        ensures { IfOk result (λ v. vec_len v ≤ room) }
+    pub fn text<const N: usize>(&mut self, room: usize) -> ArrayVec<u8, N>
+        ensures { array_vec_len result ≤ room }
     {
-        text_bytes(self.alloc, self.field(), room)
+        text_bytes(self.field(), room)
     }
 
     // A list of 16-bit elements.
-    pub fn entries(&mut self, room: usize) -> Result<Vec<u16>, AllocError>
-        ensures { IfOk result (λ v. vec_len v ≤ room) }
+    pub fn entries<const N: usize>(&mut self, room: usize) -> ArrayVec<u16, N>
+        ensures { array_vec_len result ≤ room }
     {
-        elements(self.alloc, self.field(), room)
+        elements(self.field(), room, |element| element)
     }
 
     // Letter counts: numbers that are missing are 0.
-    pub fn counts(&mut self) -> Result<[u16; 64], AllocError>
-        ensures { IfOk result (λ counts. length counts ≡ 64) }
+    pub fn counts(&mut self) -> [u16; 64]
+        ensures { length result ≡ 64 }
     {
         let mut counts = [0; 64];
-        for (count, element) in counts.iter_mut().zip(&self.entries(64)?) {
+        for (count, element) in counts.iter_mut().zip(&self.entries::<64>(64)) {
             *count = *element;
         }
-        Ok(counts)
+        counts
     }
 }

@@ -1,9 +1,10 @@
 // Lists and texts of the table. An item of a list is a number, `v*k` for k times v, or `a-b` for the numbers from a to b. A text has `$` for the line feed,
-// and may hold groups, `(t)*k` for k times t. `-` is the empty list and the empty text. Elements beyond the room are dropped.
-ghost use Rattle.std.specs.Prelude.{◌≤◌, IfOk, vec_len};
+// and may hold groups, `(t)*k` for k times t. `-` is the empty list and the empty text. Elements beyond the room, or beyond the capacity `N`, are dropped.
+ghost use Rattle.std.specs.Prelude.{◌≤◌};
+ghost use Rattle.arrayvec.specs.ArrayVec.{array_vec_len};
 
 use crate::texts::{cut, digits, number};
-use std::alloc::{AllocError, Global};
+use arrayvec::ArrayVec;
 
 // An item: so many elements, the first of them, and whether each is one above the one before.
 struct Item {
@@ -30,11 +31,16 @@ impl From<&[u8]> for Item {
     }
 }
 
-// The elements of a list.
-pub(crate) fn elements(alloc: Global, list: &[u8], room: usize) -> Result<Vec<u16>, AllocError>
-    ensures { IfOk result (λ v. vec_len v ≤ room) }
+// The elements of a list, each as it is to be kept.
+pub(crate) fn elements<T: Copy + Default, const N: usize, F: Fn(u16) -> T>(
+    list: &[u8],
+    room: usize,
+    kept: F,
+) -> ArrayVec<T, N>
+    requires { F.IsAlwaysCallable kept }
+    ensures { array_vec_len result ≤ room }
 {
-    let mut all = Vec::new(alloc);
+    let mut all = ArrayVec::new();
     let mut rest = list;
     // Kept: a turn cuts off an item, which is all that the loop goes by.
     while !rest.is_empty() {
@@ -47,13 +53,13 @@ pub(crate) fn elements(alloc: Global, list: &[u8], room: usize) -> Result<Vec<u1
         for k in 0..times {
             let element = if rising { first.wrapping_add(k) } else { first };
             match u16::try_from(element) {
-                Ok(element) if all.len() < room => all.push(element)?,
-                _ => return Ok(all),
+                Ok(element) if all.len() < room && !all.is_full() => all.push(kept(element)),
+                _ => return all,
             }
         }
         rest = after;
     }
-    Ok(all)
+    all
 }
 
 // What a byte of a text stands for; none for the dash.
@@ -94,15 +100,15 @@ fn byte_at(text: &[u8], place: usize) -> Option<u8> {
 }
 
 // The bytes of a text.
-pub(crate) fn text_bytes(alloc: Global, text: &[u8], room: usize) -> Result<Vec<u8>, AllocError>
-    ensures { IfOk result (λ v. vec_len v ≤ room) }
+pub(crate) fn text_bytes<const N: usize>(text: &[u8], room: usize) -> ArrayVec<u8, N>
+    ensures { array_vec_len result ≤ room }
 {
-    let mut all = Vec::new(alloc);
+    let mut all = ArrayVec::new();
     for place in 0..room {
         match byte_at(text, place) {
-            Some(byte) => all.push(byte)?,
-            None => break,
+            Some(byte) if !all.is_full() => all.push(byte),
+            _ => break,
         }
     }
-    Ok(all)
+    all
 }

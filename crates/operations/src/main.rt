@@ -12,24 +12,23 @@ use crate::calls::make_call;
 use notation::arguments::Arguments;
 use notation::source::read_argument;
 use notation::texts::cut;
-use std::alloc::Global;
 use std::io;
 
 // A line, and what came of its call.
-fn answer_line(rt: &impl Print, alloc: Global, line: &[u8]) -> io::Result<()> {
+fn answer_line(rt: &impl Print, line: &[u8]) -> io::Result<()> {
     rt.write_all(line)?;
     rt.print(" = ")?;
-    make_call(rt, Arguments::new(alloc, line))?;
+    make_call(rt, Arguments::new(line))?;
     rt.println("")
 }
 
 // All lines of a table, and what came of each.
-fn answer_table(rt: &impl Print, alloc: Global, table: &[u8]) -> io::Result<()> {
+fn answer_table(rt: &impl Print, table: &[u8]) -> io::Result<()> {
     let mut rest = table;
     // Kept: a turn cuts off a line.
     while !rest.is_empty() {
         let (line, after) = cut(rest, b'\n');
-        answer_line(rt, alloc, line)?;
+        answer_line(rt, line)?;
         rest = after;
     }
     Ok(())
@@ -37,7 +36,7 @@ fn answer_table(rt: &impl Print, alloc: Global, table: &[u8]) -> io::Result<()> 
 
 // The table that the first argument names.
 fn main(rt: HostRuntime) -> io::Result<()> {
-    let mut space = vec![in rt.alloc(); 0u8; 131072]?;
+    let mut space = [0u8; 131072];
     let table = read_argument(&rt, &mut space);
-    answer_table(&rt, rt.alloc(), table)
+    answer_table(&rt, table)
 }

@@ -1,5 +1,6 @@
 // The calls that write into letters, marks, entries and counts of a pair. What is lent is printed after the call.
 use crate::calls::{FIRST, OTHER};
+use arrayvec::ArrayVec;
 use departures::departure::remove_oldest;
 use notation::answers::print_answer;
 use notation::arguments::Arguments;
@@ -7,27 +8,26 @@ use notation::printing::{print_counts, print_list};
 use pairs::insertion::insert_letter;
 use readers::pair::read_pair_line;
 use ribbons::pair::pair_of_word;
-use std::alloc::AllocError;
 use std::io;
 
 // What is lent.
 #[derive(Drop)]
 struct Lent {
-    letters: Vec<u8>,
-    marks: Vec<u8>,
-    entries: Vec<u16>,
+    letters: ArrayVec<u8, OTHER>,
+    marks: ArrayVec<u8, OTHER>,
+    entries: ArrayVec<u16, OTHER>,
     counts: [u16; 64],
 }
 
 impl Lent {
     // The next arguments.
-    fn of(call: &mut Arguments<'_>) -> Result<Lent, AllocError> {
-        Ok(Lent {
-            letters: call.bytes(OTHER)?,
-            marks: call.bytes(OTHER)?,
-            entries: call.entries(OTHER)?,
-            counts: call.counts()?,
-        })
+    fn of(call: &mut Arguments<'_>) -> Lent {
+        Lent {
+            letters: call.bytes(OTHER),
+            marks: call.bytes(OTHER),
+            entries: call.entries(OTHER),
+            counts: call.counts(),
+        }
     }
 
     // After the call.
@@ -41,8 +41,8 @@ impl Lent {
 
 // A P line read.
 pub(crate) fn read_pair(rt: &impl Print, mut call: Arguments<'_>) -> io::Result<()> {
-    let line = call.text(FIRST)?;
-    let mut lent = Lent::of(&mut call)?;
+    let line = call.text::<FIRST>(FIRST);
+    let mut lent = Lent::of(&mut call);
     print_answer(
         rt,
         read_pair_line(
@@ -59,8 +59,8 @@ pub(crate) fn read_pair(rt: &impl Print, mut call: Arguments<'_>) -> io::Result<
 // The pair of a word.
 pub(crate) fn insert_word(rt: &impl Print, mut call: Arguments<'_>) -> io::Result<()> {
     let rank = call.number();
-    let word = call.bytes(FIRST)?;
-    let mut lent = Lent::of(&mut call)?;
+    let word = call.bytes::<FIRST>(FIRST);
+    let mut lent = Lent::of(&mut call);
     print_answer(
         rt,
         pair_of_word(
@@ -80,7 +80,7 @@ pub(crate) fn insert(rt: &impl Print, mut call: Arguments<'_>) -> io::Result<()>
     let rank = call.number();
     let used = call.number();
     let letter = call.number();
-    let mut lent = Lent::of(&mut call)?;
+    let mut lent = Lent::of(&mut call);
     print_answer(
         rt,
         insert_letter(
@@ -100,7 +100,7 @@ pub(crate) fn insert(rt: &impl Print, mut call: Arguments<'_>) -> io::Result<()>
 pub(crate) fn remove(rt: &impl Print, mut call: Arguments<'_>) -> io::Result<()> {
     let rank = call.number();
     let used = call.number();
-    let mut lent = Lent::of(&mut call)?;
+    let mut lent = Lent::of(&mut call);
     print_answer(
         rt,
         remove_oldest(

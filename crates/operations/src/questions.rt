@@ -18,7 +18,7 @@ pub(crate) fn one_word<T: Values + Drop, F: Fn(usize, &[u8]) -> Result<T, Refusa
     requires { F.IsAlwaysCallable ask }
 {
     let rank = call.number();
-    let word = call.bytes(FIRST)?;
+    let word = call.bytes::<FIRST>(FIRST);
     print_answer(rt, ask(rank, &word))
 }
 
@@ -32,7 +32,7 @@ pub(crate) fn count_word<F: Fn(usize, usize, &[u8]) -> Result<usize, Refusal>>(
 {
     let rank = call.number();
     let index = call.number();
-    let word = call.bytes(FIRST)?;
+    let word = call.bytes::<FIRST>(FIRST);
     print_answer(rt, count(rank, index, &word))
 }
 
@@ -46,8 +46,8 @@ pub(crate) fn two_words<T: Values + Drop, F: Fn(usize, &[u8], usize, &[u8]) -> R
 {
     let rank = call.number();
     let other_rank = call.number();
-    let word = call.bytes(FIRST)?;
-    let other = call.bytes(SECOND)?;
+    let word = call.bytes::<FIRST>(FIRST);
+    let other = call.bytes::<SECOND>(SECOND);
     print_answer(rt, ask(rank, &word, other_rank, &other))
 }
 
@@ -60,7 +60,7 @@ pub(crate) fn one_tableau<T: Values + Drop, F: Fn(&CountedTableau<'_>) -> Result
     requires { F.IsAlwaysCallable ask }
 {
     let rank = call.number();
-    let given = Given::first(&mut call)?;
+    let given = Given::first(&mut call);
     print_answer(rt, ask(&given.at(rank)))
 }
 
@@ -74,7 +74,7 @@ pub(crate) fn count_tableau<F: Fn(usize, &CountedTableau<'_>) -> Result<usize, R
 {
     let rank = call.number();
     let index = call.number();
-    let given = Given::first(&mut call)?;
+    let given = Given::first(&mut call);
     print_answer(rt, count(index, &given.at(rank)))
 }
 
@@ -82,15 +82,15 @@ pub(crate) fn count_tableau<F: Fn(usize, &CountedTableau<'_>) -> Result<usize, R
 pub(crate) fn look(rt: &impl Print, mut call: Arguments<'_>) -> io::Result<()> {
     let rank = call.number();
     let place = call.number();
-    let letters = call.bytes(FIRST)?;
-    let marks = call.bytes(SECOND)?;
+    let letters = call.bytes::<FIRST>(FIRST);
+    let marks = call.bytes::<SECOND>(SECOND);
     print_answer(rt, look_once(rank, &letters, &marks, place))
 }
 
 // A check of a pair.
 pub(crate) fn check_pair(rt: &impl Print, mut call: Arguments<'_>) -> io::Result<()> {
     let rank = call.number();
-    let given = GivenPair::first(&mut call)?;
+    let given = GivenPair::first(&mut call);
     print_answer(rt, check_counted_pair(&given.at(rank)))
 }
 
@@ -103,7 +103,7 @@ pub(crate) fn two_tableaux<
 {
     let rank = call.number();
     let other_rank = call.number();
-    let one = Given::first(&mut call)?;
-    let other = Given::second(&mut call)?;
+    let one = Given::first(&mut call);
+    let other = Given::second(&mut call);
     print_answer(rt, ask(&one.at(rank), &other.at(other_rank)))
 }

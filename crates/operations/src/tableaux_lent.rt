@@ -17,9 +17,9 @@ pub(crate) fn move_tableau<
 {
     let rank = call.number();
     let index = call.number();
-    let mut letters = call.bytes(OTHER)?;
-    let marks = call.bytes(FIRST)?;
-    let mut counts = call.counts()?;
+    let mut letters = call.bytes::<OTHER>(OTHER);
+    let marks = call.bytes::<FIRST>(FIRST);
+    let mut counts = call.counts();
     print_answer(rt, change(rank, index, &mut letters, &marks, &mut counts))?;
     print_list(rt, &letters)?;
     print_counts(rt, &counts)
@@ -31,10 +31,10 @@ pub(crate) fn read_tableau<
 >(rt: &impl Print, mut call: Arguments<'_>, read: F) -> io::Result<()>
     requires { F.IsAlwaysCallable read }
 {
-    let line = call.text(FIRST)?;
-    let mut letters = call.bytes(OTHER)?;
-    let mut marks = call.bytes(OTHER)?;
-    let mut counts = call.counts()?;
+    let line = call.text::<FIRST>(FIRST);
+    let mut letters = call.bytes::<OTHER>(OTHER);
+    let mut marks = call.bytes::<OTHER>(OTHER);
+    let mut counts = call.counts();
     print_answer(rt, read(&line, &mut letters, &mut marks, &mut counts))?;
     print_list(rt, &letters)?;
     print_list(rt, &marks)?;
@@ -44,11 +44,11 @@ pub(crate) fn read_tableau<
 // The product of two tableaux.
 pub(crate) fn multiply(rt: &impl Print, mut call: Arguments<'_>) -> io::Result<()> {
     let rank = call.number();
-    let one = Given::first(&mut call)?;
-    let other = Given::second(&mut call)?;
-    let mut letters = call.bytes(OTHER)?;
-    let mut marks = call.bytes(OTHER)?;
-    let mut counts = call.counts()?;
+    let one = Given::first(&mut call);
+    let other = Given::second(&mut call);
+    let mut letters = call.bytes::<OTHER>(OTHER);
+    let mut marks = call.bytes::<OTHER>(OTHER);
+    let mut counts = call.counts();
     print_answer(
         rt,
         product(

@@ -25,15 +25,15 @@ pub(crate) fn change_word<F: Fn(usize, usize, &mut [u8]) -> Result<usize, Refusa
 {
     let rank = call.number();
     let index = call.number();
-    let mut word = call.bytes(OTHER)?;
+    let mut word = call.bytes::<OTHER>(OTHER);
     print_answer(rt, change(rank, index, &mut word))?;
     print_list(rt, &word)
 }
 
 // A W line read.
 pub(crate) fn read_word(rt: &impl Print, mut call: Arguments<'_>) -> io::Result<()> {
-    let line = call.text(FIRST)?;
-    let mut word = call.bytes(OTHER)?;
+    let line = call.text::<FIRST>(FIRST);
+    let mut word = call.bytes::<OTHER>(OTHER);
     print_answer(rt, read_word_line(&line, &mut word))?;
     print_list(rt, &word)
 }
@@ -47,8 +47,8 @@ pub(crate) fn write_word<F: Fn(usize, &[u8], &mut [u8]) -> Result<usize, Refusal
     requires { F.IsAlwaysCallable write }
 {
     let rank = call.number();
-    let word = call.bytes(FIRST)?;
-    let mut line = call.bytes(OTHER)?;
+    let word = call.bytes::<FIRST>(FIRST);
+    let mut line = call.bytes::<OTHER>(OTHER);
     print_answer(rt, write(rank, &word, &mut line))?;
     print_text(rt, &line)
 }
@@ -61,17 +61,17 @@ pub(crate) fn convert_line<F: Fn(&[u8], &mut [u8]) -> Result<usize, Refusal>>(
 ) -> io::Result<()>
     requires { F.IsAlwaysCallable convert }
 {
-    let given = call.text(FIRST)?;
-    let mut line = call.bytes(OTHER)?;
+    let given = call.text::<FIRST>(FIRST);
+    let mut line = call.bytes::<OTHER>(OTHER);
     print_answer(rt, convert(&given, &mut line))?;
     print_text(rt, &line)
 }
 
 // A line of two lines.
 pub(crate) fn convert_two(rt: &impl Print, mut call: Arguments<'_>) -> io::Result<()> {
-    let tableau = call.text(FIRST)?;
-    let recording = call.text(SECOND)?;
-    let mut line = call.bytes(OTHER)?;
+    let tableau = call.text::<FIRST>(FIRST);
+    let recording = call.text::<SECOND>(SECOND);
+    let mut line = call.bytes::<OTHER>(OTHER);
     print_answer(rt, convert_lines(&tableau, &recording, &mut line))?;
     print_text(rt, &line)
 }
@@ -85,9 +85,9 @@ pub(crate) fn write_tableau<F: Fn(&Tableau<'_>, &mut [u8]) -> Result<usize, Refu
     requires { F.IsAlwaysCallable write }
 {
     let rank = call.number();
-    let letters = call.bytes(FIRST)?;
-    let marks = call.bytes(SECOND)?;
-    let mut line = call.bytes(OTHER)?;
+    let letters = call.bytes::<FIRST>(FIRST);
+    let marks = call.bytes::<SECOND>(SECOND);
+    let mut line = call.bytes::<OTHER>(OTHER);
     let tableau = Tableau {
         rank,
         letters: &letters,
@@ -100,10 +100,10 @@ pub(crate) fn write_tableau<F: Fn(&Tableau<'_>, &mut [u8]) -> Result<usize, Refu
 // The line of a pair.
 pub(crate) fn write_pair(rt: &impl Print, mut call: Arguments<'_>) -> io::Result<()> {
     let rank = call.number();
-    let letters = call.bytes(FIRST)?;
-    let marks = call.bytes(SECOND)?;
-    let entries = call.entries(OTHER)?;
-    let mut line = call.bytes(OTHER)?;
+    let letters = call.bytes::<FIRST>(FIRST);
+    let marks = call.bytes::<SECOND>(SECOND);
+    let entries = call.entries::<OTHER>(OTHER);
+    let mut line = call.bytes::<OTHER>(OTHER);
     let pair = Pair {
         rank,
         letters: &letters,
@@ -117,8 +117,8 @@ pub(crate) fn write_pair(rt: &impl Print, mut call: Arguments<'_>) -> io::Result
 // The column reading of a tableau.
 pub(crate) fn read_column(rt: &impl Print, mut call: Arguments<'_>) -> io::Result<()> {
     let rank = call.number();
-    let given = Given::first(&mut call)?;
-    let mut word = call.bytes(OTHER)?;
+    let given = Given::first(&mut call);
+    let mut word = call.bytes::<OTHER>(OTHER);
     print_answer(rt, column_reading(&given.at(rank), &mut word))?;
     print_list(rt, &word)
 }
@@ -126,8 +126,8 @@ pub(crate) fn read_column(rt: &impl Print, mut call: Arguments<'_>) -> io::Resul
 // The word of a pair.
 pub(crate) fn word_back(rt: &impl Print, mut call: Arguments<'_>) -> io::Result<()> {
     let rank = call.number();
-    let given = GivenPair::first(&mut call)?;
-    let mut word = call.bytes(OTHER)?;
+    let given = GivenPair::first(&mut call);
+    let mut word = call.bytes::<OTHER>(OTHER);
     print_answer(rt, word_of_pair(&given.at(rank), &mut word))?;
     print_list(rt, &word)
 }
@@ -136,8 +136,8 @@ pub(crate) fn word_back(rt: &impl Print, mut call: Arguments<'_>) -> io::Result<
 pub(crate) fn word_by_number(rt: &impl Print, mut call: Arguments<'_>) -> io::Result<()> {
     let rank = call.number();
     let number = call.number() as u64;
-    let given = Given::first(&mut call)?;
-    let mut word = call.bytes(OTHER)?;
+    let given = Given::first(&mut call);
+    let mut word = call.bytes::<OTHER>(OTHER);
     print_answer(rt, class_word(&given.at(rank), number, &mut word))?;
     print_list(rt, &word)
 }

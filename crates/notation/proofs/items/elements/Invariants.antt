@@ -1,12 +1,13 @@
 -- `notation::items::elements` meets its contract. The invariant of both loops: no more than there is room for. Assumes nothing.
-use Rattle.std.proofs.Common.{◌≤◌, length, vec_len}
+use Rattle.std.proofs.Common.{◌≤◌, length}
+use Rattle.arrayvec.specs.ArrayVec.{array_vec_len}
 use Rattle.notation.proofs.items.elements.Given as goal
 
 abbrev pub invariant-loop-rest : goal.invariant-loop-rest
-invariant-loop-rest l = vec_len l.all ≤ l.room
+invariant-loop-rest g l = array_vec_len l.all ≤ l.room
 
 abbrev pub decreases-loop-rest : goal.decreases-loop-rest
-decreases-loop-rest l = length l.rest
+decreases-loop-rest g l = length l.rest
 
 abbrev pub invariant-loop-k : goal.invariant-loop-k
-invariant-loop-k l = vec_len l.all ≤ l.room
+invariant-loop-k g l = array_vec_len l.all ≤ l.room
