@@ -1,12 +1,8 @@
 // Words held to plain insertion: the pair of each, and what word and pair lead to, which is one answer too.
-ghost use Rattle.std.specs.Prelude.{◌≡◌};
-ghost use Rattle.arrayvec.specs.ArrayVec.{array_vec_len};
-
 use crate::comparing::{Comparison, Fault};
 use crate::junctions::junction_set;
 use crate::kernel::{lent, lent_pair, pair_at_once, pair_by_letters, written};
 use crate::picture::{read_columns, rows_of};
-use arrayvec::ArrayVec;
 use columns::reading::column_reading;
 use inverses::way_back::word_of_pair;
 use plain_words::Word;
@@ -15,21 +11,21 @@ use refusals::answers::Junctions;
 use words::junctions::junctions;
 
 // What word and pair lead to: junction set and rows, the word back from the pair, and the column reading.
-#[derive(Debug, PartialEq, Eq, Drop)]
+#[derive(Clone, Copy, Debug, PartialEq, Eq)]
 struct Led {
     junctions: Junctions,
-    word: ArrayVec<u8, 1024>,
-    reading: ArrayVec<u8, 1024>,
+    word: Word,
+    reading: Word,
 }
 
 // The way back leads to the word.
 fn plain_led(word: &Word, pair: &Pair) -> Led {
     Led {
         junctions: Junctions {
-            set: junction_set(&word.letters),
+            set: junction_set(word.letters()),
             rows: rows_of(&pair.tableau),
         },
-        word: word.letters.clone().unwrap(),
+        word: *word,
         reading: read_columns(&pair.tableau),
     }
 }
@@ -41,9 +37,9 @@ fn kernel_led(word: &Word, pair: &Pair) -> Result<Led, Fault> {
     let mut reading = [0; 1024];
     let read = column_reading(&lent(&pair.tableau), &mut reading)?;
     Ok(Led {
-        junctions: junctions(word.rank, &word.letters)?,
-        word: written(&back, letters)?,
-        reading: written(&reading, read)?,
+        junctions: junctions(word.rank, word.letters())?,
+        word: Word::new(word.rank, written(&back, letters)?),
+        reading: Word::new(word.rank, written(&reading, read)?),
     })
 }
 
@@ -63,19 +59,10 @@ fn compare_pair(words: &mut Comparison, word: &Word, own: &Pair, told: &Result<P
 pub(crate) fn compare_answers(words: &mut Comparison, word: &Word) {
     let own = plain_pair(word);
     compare_pair(words, word, &own, &pair_at_once(word));
-    if word.letters.len() <= 64 {
+    if word.letters().len() <= 64 {
         compare_pair(words, word, &own, &pair_by_letters(word));
     }
     words.count_one();
-}
-
-// Puts another element in the first one's place.
-pub(crate) fn spoil_first<T: Drop>(list: &mut ArrayVec<T, 1024>, element: T)
-    ensures { array_vec_len list.new ≡ array_vec_len list.old }
-{
-    if let Some(first) = list.get_mut(0) {
-        *first = element;
-    }
 }
 
 // Eight answers are spoilt for 4323: letters, marks, counts and entries of its pair, and all that these lead to.
@@ -84,24 +71,16 @@ pub(crate) fn spoil_answers(words: &mut Comparison, word: &Word) {
     let Ok(pair) = pair_at_once(word) else {
         return;
     };
-    words.spoil(
-        own(),
-        &pair,
-        |pair| spoil_first(&mut pair.tableau.letters, 200),
-    );
-    words.spoil(
-        own(),
-        &pair,
-        |pair| spoil_first(&mut pair.tableau.marks, 200),
-    );
+    words.spoil(own(), &pair, |pair| pair.tableau.letters[0] = 200);
+    words.spoil(own(), &pair, |pair| pair.tableau.marks[0] = 200);
     words.spoil(own(), &pair, |pair| pair.tableau.counts[0] = 5000);
-    words.spoil(own(), &pair, |pair| spoil_first(&mut pair.entries, 5000));
+    words.spoil(own(), &pair, |pair| pair.entries[0] = 5000);
     let own = || plain_led(word, &plain_pair(word));
     let Ok(led) = kernel_led(word, &pair) else {
         return;
     };
     words.spoil(own(), &led, |led| led.junctions.set = 5000);
     words.spoil(own(), &led, |led| led.junctions.rows = 5000);
-    words.spoil(own(), &led, |led| spoil_first(&mut led.word, 200));
-    words.spoil(own(), &led, |led| spoil_first(&mut led.reading, 200));
+    words.spoil(own(), &led, |led| led.word.letters[0] = 200);
+    words.spoil(own(), &led, |led| led.reading.letters[0] = 200);
 }

@@ -1,5 +1,4 @@
 // Moves, classes and weights.
-use crate::answers::spoil_first;
 use crate::comparing::{Comparison, count};
 use crate::moving::{tableau_moved, word_moved};
 use crate::partners::second_word;
@@ -98,7 +97,7 @@ impl Moves {
     // Both moves on a word at every index from 0 to the rank; for a word of more than 64 letters at every sixteenth.
     pub(crate) fn count_moves(&mut self, k: usize, word: &Word) {
         let tableau = plain_tableau(word);
-        let step = if 64 < word.letters.len() { 16 } else { 1 };
+        let step = if 64 < word.letters().len() { 16 } else { 1 };
         for index in (k % step..word.rank.min(64) + 1).step_by(step) {
             self.count_move(Side::Raising, index, word, &tableau);
             self.count_move(Side::Lowering, index, word, &tableau);
@@ -148,27 +147,15 @@ impl Moves {
         moves.spoil(own(), &told, |moved| moved.place = Err(Refusal::Empty));
         moves.spoil(own(), &told, |moved| moved.place = Ok(5000));
         moves.spoil(own(), &told, |moved| moved.times = Ok(5000));
-        moves.spoil(
-            own(),
-            &told,
-            |moved| spoil_first(&mut moved.after.letters, 200),
-        );
+        moves.spoil(own(), &told, |moved| moved.after.letters[0] = 200);
         let before = plain_tableau(word);
         let own = || move_on_tableau(&move_on_word(Side::Lowering, 1, word), &before);
         let told = tableau_moved(Side::Lowering, 1, &before);
         moves.spoil(own(), &told, |moved| moved.place = Err(Refusal::Empty));
         moves.spoil(own(), &told, |moved| moved.place = Ok(5000));
         moves.spoil(own(), &told, |moved| moved.times = Ok(5000));
-        moves.spoil(
-            own(),
-            &told,
-            |moved| spoil_first(&mut moved.after.letters, 200),
-        );
-        moves.spoil(
-            own(),
-            &told,
-            |moved| spoil_first(&mut moved.after.marks, 200),
-        );
+        moves.spoil(own(), &told, |moved| moved.after.letters[0] = 200);
+        moves.spoil(own(), &told, |moved| moved.after.marks[0] = 200);
         moves.spoil(own(), &told, |moved| moved.after.counts[0] = 5000);
     }
 

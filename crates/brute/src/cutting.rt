@@ -1,13 +1,10 @@
 // Products held to plain insertion: words are cut in two, the kernel multiplies the tableaux of both parts, and the product is compared with the tableau of the
 // whole word. Each word of at most 6 letters over 1 to 3 is cut at every place: so every two tableaux over 1 to 3 with at most 6 cells together are
 // multiplied, once for their column readings and once for any other two words of their classes. Each word of plain_words is cut at one place.
-ghost use Rattle.std.specs.Prelude.{◌≤◌};
-ghost use Rattle.arrayvec.specs.ArrayVec.{array_vec_len};
+ghost use Rattle.std.specs.Prelude.{◌≤◌, min};
 
-use crate::answers::spoil_first;
 use crate::comparing::{Comparison, Fault};
 use crate::kernel::{lent, written};
-use crate::short_words::word_with;
 use multiplication::product::product;
 use plain_words::Word;
 use plain_words::insertion::{Tableau, plain_tableau};
@@ -24,28 +21,31 @@ fn multiplied(first: &Tableau, second: &Tableau) -> Result<Tableau, Fault> {
         &mut marks,
         &mut counts,
     )?;
+    written(&letters, count)?;
+    written(&marks, count)?;
     Ok(Tableau {
         rank: first.rank,
-        letters: written(&letters, count)?,
-        marks: written(&marks, count)?,
+        length: count,
+        letters,
+        marks,
         counts,
     })
 }
 
 // The kernel's product of the tableaux of a word's first letters and of all others.
 fn product_at(cut: usize, word: &Word) -> Result<Tableau, Fault>
-    requires { cut ≤ array_vec_len word.now.letters }
+    requires { cut ≤ min word.now.length 1024 }
 {
-    let (first, second) = word.letters.as_slice().split_at(cut);
+    let (first, second) = word.letters().split_at(cut);
     multiplied(
-        &plain_tableau(&word_with(word.rank, first)),
-        &plain_tableau(&word_with(word.rank, second)),
+        &plain_tableau(&Word::new(word.rank, first)),
+        &plain_tableau(&Word::new(word.rank, second)),
     )
 }
 
 // A word cut at a place.
 pub(crate) fn compare_cut(products: &mut Comparison, cut: usize, word: &Word)
-    requires { cut ≤ array_vec_len word.now.letters }
+    requires { cut ≤ min word.now.length 1024 }
 {
     products.compare(&Ok(plain_tableau(word)), &product_at(cut, word));
     products.count_one();
@@ -53,25 +53,21 @@ pub(crate) fn compare_cut(products: &mut Comparison, cut: usize, word: &Word)
 
 // A word cut at every place.
 pub(crate) fn compare_cuts(products: &mut Comparison, word: &Word) {
-    for cut in 0..word.letters.len() + 1 {
+    for cut in 0..word.letters().len() + 1 {
         compare_cut(products, cut, word);
     }
 }
 
 // Four answers are spoilt for 31 times 2: the count of cells, the letters, the marks and the counts.
 pub(crate) fn spoil_products(products: &mut Comparison, word: &Word) {
-    let Ok(told) = product_at(word.letters.len().min(2), word) else {
+    let Ok(told) = product_at(word.letters().len().min(2), word) else {
         return;
     };
     let own = || plain_tableau(word);
     products.spoil(own(), &told, |tableau| {
         tableau.lengthen();
     });
-    products.spoil(
-        own(),
-        &told,
-        |tableau| spoil_first(&mut tableau.letters, 200),
-    );
-    products.spoil(own(), &told, |tableau| spoil_first(&mut tableau.marks, 200));
+    products.spoil(own(), &told, |tableau| tableau.letters[0] = 200);
+    products.spoil(own(), &told, |tableau| tableau.marks[0] = 200);
     products.spoil(own(), &told, |tableau| tableau.counts[0] = 5000);
 }

@@ -1,13 +1,10 @@
 // A window that follows a stream: letters arrive one after the other, the oldest leaving first where the window is full, until none is left to come; then they
 // leave, one after the other, until the window is empty. Its state after a call is held to plain insertion of the letters that are then in it: of a small
 // window after each call, of a larger one after some.
-ghost use Rattle.std.specs.Prelude.{◌≡◌, ◌-◌};
-ghost use Rattle.arrayvec.specs.ArrayVec.{array_vec_len};
+ghost use Rattle.std.specs.Prelude.{◌≡◌, ◌-◌, ◌≤◌};
 
-use crate::answers::spoil_first;
 use crate::comparing::{Comparison, Fault};
 use crate::kernel::Memory;
-use arrayvec::ArrayVec;
 use plain_words::Word;
 use plain_words::drawn::{Stream, Way};
 use plain_words::insertion::plain_pair;
@@ -24,6 +21,7 @@ struct Window {
     size: usize,
     word: Word,
     memory: Memory,
+    ghost within: { word.length ≤ 1024 },
 }
 
 impl Window {
@@ -31,30 +29,28 @@ impl Window {
     fn new(size: usize, rank: usize) -> Window {
         Window {
             size,
-            word: Word {
-                rank,
-                letters: ArrayVec::new(),
-            },
+            word: Word::new(rank, &[]),
             memory: Memory::new(rank),
         }
     }
 
     // The oldest letter leaves, where there is one.
     fn leave(&mut self)
-        ensures { array_vec_len self.new.word.letters ≡ array_vec_len self.old.word.letters - 1 }
+        ensures { self.new.word.length ≡ self.old.word.length - 1 }
     {
-        if !self.word.letters.is_empty() {
-            self.word.letters.remove(0);
+        if 0 < self.word.length {
+            self.word.letters.copy_within(1.., 0);
+            self.word.length -= 1;
             self.memory.depart();
         }
     }
 
     // A letter arrives, after the oldest has left where the window is full.
     fn arrive(&mut self, letter: u8) {
-        if self.size <= self.word.letters.len() || self.word.letters.is_full() {
+        if self.size <= self.word.length || self.word.length == 1024 {
             self.leave();
         }
-        self.word.letters.push(letter);
+        self.word.push(letter);
         self.memory.arrive(letter);
     }
 
@@ -95,7 +91,7 @@ pub(crate) fn compare_windows(windows: &mut Comparison) {
 // Six states are spoilt, of a window through which 4323 has passed and of which the oldest has left: replies, used count, letters, marks, counts and entries.
 pub(crate) fn spoil_windows(windows: &mut Comparison, word: &Word) {
     let mut window = Window::new(1024, word.rank);
-    for letter in &word.letters {
+    for letter in word.letters() {
         window.arrive(*letter);
     }
     window.leave();
@@ -108,16 +104,8 @@ pub(crate) fn spoil_windows(windows: &mut Comparison, word: &Word) {
     windows.spoil(own(), &pair, |pair| {
         pair.lengthen();
     });
-    windows.spoil(
-        own(),
-        &pair,
-        |pair| spoil_first(&mut pair.tableau.letters, 200),
-    );
-    windows.spoil(
-        own(),
-        &pair,
-        |pair| spoil_first(&mut pair.tableau.marks, 200),
-    );
+    windows.spoil(own(), &pair, |pair| pair.tableau.letters[0] = 200);
+    windows.spoil(own(), &pair, |pair| pair.tableau.marks[0] = 200);
     windows.spoil(own(), &pair, |pair| pair.tableau.counts[0] = 5000);
-    windows.spoil(own(), &pair, |pair| spoil_first(&mut pair.entries, 5000));
+    windows.spoil(own(), &pair, |pair| pair.entries[0] = 5000);
 }

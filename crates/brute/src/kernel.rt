@@ -1,9 +1,7 @@
 // What the kernel writes, and pairs in its memory with the calls on them. Arrays of 1,024 elements are lent whole.
-ghost use Rattle.std.specs.Prelude.{◌≡◌, IfOk};
-ghost use Rattle.arrayvec.specs.ArrayVec.{array_vec_len};
+ghost use Rattle.std.specs.Prelude.{◌≡◌, ◌≤◌, IfOk, length};
 
 use crate::comparing::Fault;
-use arrayvec::ArrayVec;
 use departures::departure::remove_oldest;
 use lent::tableaux::{CountedPair, CountedTableau};
 use pairs::insertion::insert_letter;
@@ -13,21 +11,18 @@ use refusals::refusal::Refusal;
 use ribbons::pair::pair_of_word;
 
 // The first elements of memory, so many as the kernel tells.
-fn told<T: Copy + Default>(memory: &[T; 1024], count: usize) -> Result<ArrayVec<T, 1024>, Fault>
-    ensures { IfOk result (λ v. array_vec_len v ≡ count) }
+fn told<T>(memory: &[T; 1024], count: usize) -> Result<&[T], Fault>
+    ensures { IfOk result (λ v. (length v.now ≡ count) × (length v.now ≤ 1024)) }
 {
-    match memory.get(..count) {
-        Some(elements) => Ok(ArrayVec::try_from(elements).unwrap()),
-        None => Err(Fault::Count(count)),
-    }
+    memory.get(..count).ok_or(Fault::Count(count))
 }
 
 // The same of memory that was blank before, and is after them.
 pub(crate) fn written<T: Copy + Default + PartialEq>(
     memory: &[T; 1024],
     count: usize,
-) -> Result<ArrayVec<T, 1024>, Fault>
-    ensures { IfOk result (λ v. array_vec_len v ≡ count) }
+) -> Result<&[T], Fault>
+    ensures { IfOk result (λ v. (length v.now ≡ count) × (length v.now ≤ 1024)) }
 {
     match memory.iter().rposition(|element| *element != T::default()) {
         Some(last) if count <= last => Err(Fault::Beyond(last)),
@@ -39,8 +34,8 @@ pub(crate) fn written<T: Copy + Default + PartialEq>(
 pub(crate) fn lent(tableau: &Tableau) -> CountedTableau<'_> {
     CountedTableau {
         rank: tableau.rank,
-        letters: &tableau.letters,
-        marks: &tableau.marks,
+        letters: tableau.letters(),
+        marks: tableau.marks(),
         counts: &tableau.counts,
     }
 }
@@ -49,9 +44,9 @@ pub(crate) fn lent(tableau: &Tableau) -> CountedTableau<'_> {
 pub(crate) fn lent_pair(pair: &Pair) -> CountedPair<'_> {
     CountedPair {
         rank: pair.tableau.rank,
-        letters: &pair.tableau.letters,
-        marks: &pair.tableau.marks,
-        entries: &pair.entries,
+        letters: pair.tableau.letters(),
+        marks: pair.tableau.marks(),
+        entries: pair.entries(),
         counts: &pair.tableau.counts,
     }
 }
@@ -64,20 +59,24 @@ pub(crate) fn pair_at_once(word: &Word) -> Result<Pair, Fault> {
     let mut counts = [65535; 64];
     let count = pair_of_word(
         word.rank,
-        &word.letters,
+        word.letters(),
         &mut letters,
         &mut marks,
         &mut entries,
         &mut counts,
     )?;
+    written(&letters, count)?;
+    written(&marks, count)?;
+    written(&entries, count)?;
     Ok(Pair {
         tableau: Tableau {
             rank: word.rank,
-            letters: written(&letters, count)?,
-            marks: written(&marks, count)?,
+            length: count,
+            letters,
+            marks,
             counts,
         },
-        entries: written(&entries, count)?,
+        entries,
     })
 }
 
@@ -149,14 +148,16 @@ impl Memory {
         if 0 < self.wrong {
             return Err(Fault::Replies(self.wrong));
         }
+        told(&self.letters, self.used)?;
         Ok(Pair {
             tableau: Tableau {
                 rank: self.rank,
-                letters: told(&self.letters, self.used)?,
-                marks: told(&self.marks, self.used)?,
+                length: self.used,
+                letters: self.letters,
+                marks: self.marks,
                 counts: self.counts,
             },
-            entries: told(&self.entries, self.used)?,
+            entries: self.entries,
         })
     }
 }
@@ -164,11 +165,11 @@ impl Memory {
 // The pair of a word, its letters inserted one after the other.
 pub(crate) fn pair_by_letters(word: &Word) -> Result<Pair, Fault> {
     let mut memory = Memory::new(word.rank);
-    for letter in &word.letters {
+    for letter in word.letters() {
         memory.arrive(*letter);
     }
-    let _: ArrayVec<u8, 1024> = written(&memory.letters, memory.used)?;
-    let _: ArrayVec<u8, 1024> = written(&memory.marks, memory.used)?;
-    let _: ArrayVec<u16, 1024> = written(&memory.entries, memory.used)?;
+    written(&memory.letters, memory.used)?;
+    written(&memory.marks, memory.used)?;
+    written(&memory.entries, memory.used)?;
     memory.pair()
 }

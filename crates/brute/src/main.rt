@@ -58,7 +58,7 @@ impl Report {
             compare_answers(&mut self.words, &word);
             compare_cut(
                 &mut self.products,
-                below(word.letters.len() + 1, k as u64),
+                below(word.letters().len() + 1, k as u64),
                 &word,
             );
             self.moves.count_moves(k, &word);

@@ -9,30 +9,29 @@ use tableaux::moves::{move_tableau, repeat_tableau};
 
 // A move on a word.
 pub(crate) fn word_moved(side: Side, index: usize, word: &Word) -> Moved<Word> {
-    let mut after = word.clone().unwrap();
+    let letters = word.letters();
+    let mut after = *word;
     Moved {
-        times: repeat_word(side, word.rank, index, &word.letters),
-        place: move_word(side, word.rank, index, &mut after.letters),
+        times: repeat_word(side, word.rank, index, letters),
+        place: move_word(side, word.rank, index, &mut after.letters[..letters.len()]),
         after,
     }
 }
 
 // A move on a tableau.
 pub(crate) fn tableau_moved(side: Side, index: usize, tableau: &Tableau) -> Moved<Tableau> {
-    let rank = tableau.rank;
-    let mut letters = tableau.letters.clone().unwrap();
-    let marks = tableau.marks.clone().unwrap();
-    let mut counts = tableau.counts;
-    let times = repeat_tableau(side, index, &lent(tableau));
-    let place = move_tableau(side, rank, index, &mut letters, &marks, &mut counts);
+    let marks = tableau.marks();
+    let mut after = *tableau;
     Moved {
-        place,
-        times,
-        after: Tableau {
-            rank,
-            letters,
+        times: repeat_tableau(side, index, &lent(tableau)),
+        place: move_tableau(
+            side,
+            tableau.rank,
+            index,
+            &mut after.letters[..marks.len()],
             marks,
-            counts,
-        },
+            &mut after.counts,
+        ),
+        after,
     }
 }

@@ -3,26 +3,25 @@
 // how many words have it at all; words of other lengths never have it.
 ghost use Rattle.std.specs.Prelude.{◌<◌};
 
-use crate::answers::spoil_first;
 use crate::comparing::{Comparison, Fault};
 use crate::kernel::{lent, written};
 use crate::short_words::{SHORT, short_word};
-use arrayvec::ArrayVec;
 use class_numbers::classes::{class_number, class_size, class_word};
+use plain_words::Word;
 use plain_words::insertion::{Tableau, plain_tableau};
 use std::array;
 
 // The number of a word in its class, the size of the class, and the word that the class gives back by that number.
-#[derive(Debug, PartialEq, Eq, Drop)]
+#[derive(Clone, Copy, Debug, PartialEq, Eq)]
 struct Numbered {
     number: u64,
     size: u64,
-    letters: ArrayVec<u8, 1024>,
+    word: Word,
 }
 
 // A tableau of at most 6 cells over 1 to 3 as one number: after a 1, two bits for the letter of each cell and one for its mark.
 fn tableau_number(tableau: &Tableau) -> u64 {
-    let cells = tableau.letters.iter().zip(tableau.marks.iter());
+    let cells = tableau.letters().iter().zip(tableau.marks());
     cells.fold(1u64, |number, (letter, mark)| {
         (number << 3) | (u64::from(*letter) << 1) | u64::from(*mark)
     })
@@ -45,7 +44,7 @@ fn plain_numbered(k: usize, tableaux: &[u64; SHORT]) -> Numbered
     Numbered {
         number: count_of(tableaux[k], &tableaux[..k]),
         size: count_of(tableaux[k], tableaux),
-        letters: short_word(k).letters,
+        word: short_word(k),
     }
 }
 
@@ -57,9 +56,9 @@ fn kernel_numbered(number: u64, k: usize) -> Result<Numbered, Fault> {
     let mut letters = [0; 1024];
     let count = class_word(&tableau, number, &mut letters)?;
     Ok(Numbered {
-        number: class_number(3, &word.letters)?,
+        number: class_number(3, word.letters())?,
         size: class_size(&tableau)?,
-        letters: written(&letters, count)?,
+        word: Word::new(3, written(&letters, count)?),
     })
 }
 
@@ -71,12 +70,8 @@ pub(crate) fn spoil_classes(classes: &mut Comparison, tableaux: &[u64; SHORT]) {
     let own = || plain_numbered(32, tableaux);
     classes.spoil(own(), &told, |numbered| numbered.number = 5000);
     classes.spoil(own(), &told, |numbered| numbered.size = 5000);
-    classes.spoil(own(), &told, |numbered| numbered.letters.clear());
-    classes.spoil(
-        own(),
-        &told,
-        |numbered| spoil_first(&mut numbered.letters, 200),
-    );
+    classes.spoil(own(), &told, |numbered| numbered.word.length = 0);
+    classes.spoil(own(), &told, |numbered| numbered.word.letters[0] = 200);
 }
 
 // One of these words.

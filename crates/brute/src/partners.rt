@@ -27,7 +27,7 @@ const PARTNERS: [Partner; 6] = [
 
 // Exchanges the letter at a place and the one before it; not where there are no two such.
 fn exchange(place: usize, word: &mut Word) {
-    if 0 < place && place < word.letters.len() {
+    if 0 < place && place < word.letters().len() {
         word.letters.swap(place - 1, place);
     }
 }
@@ -55,7 +55,7 @@ fn rewritten_at(letters: &[u8]) -> Option<usize> {
 
 // Makes a move that changes the first letter, or one like it: raising for an odd number, else lowering. Where it is refused, the word stays.
 fn change(k: usize, word: &mut Word) {
-    let first = word.letters.first().copied().unwrap_or(0);
+    let first = word.letters().first().copied().unwrap_or(0);
     let _ = match k % 2 {
         1 => plain_move(Side::Raising, usize::from(first).wrapping_sub(1), word),
         _ => plain_move(Side::Lowering, usize::from(first), word),
@@ -64,24 +64,24 @@ fn change(k: usize, word: &mut Word) {
 
 // Puts the letter above the word's rank at the end, and the rank goes up to have it; where there is no such letter, or no room, the word stays.
 fn lift(word: &mut Word) {
-    if word.rank < 64 && word.letters.len() < 1024 {
+    if word.rank < 64 && word.length < 1024 {
         word.rank += 1;
-        word.letters.push(word.rank as u8);
+        word.push(word.rank as u8);
     }
 }
 
 // The second word of the pair whose first word, of this number, is given, by the generator as it was left after that word. Words are drawn in five ways too, by
 // the number's remainder: each of these ways meets each of those, and with each both ranks.
 pub(crate) fn second_word(k: usize, word: &Word, generator: Generator) -> Word {
-    let mut other = word.clone().unwrap();
+    let mut other = *word;
     match PARTNERS[k / 5 % 6] {
         Partner::Drawn => {
             let mut generator = generator;
             return word_of(k.wrapping_add(64), &mut generator);
         }
-        Partner::Exchanged => exchange(generator.below(word.letters.len() + 1), &mut other),
+        Partner::Exchanged => exchange(generator.below(word.letters().len() + 1), &mut other),
         Partner::Rewritten => {
-            if let Some(place) = rewritten_at(&word.letters) {
+            if let Some(place) = rewritten_at(word.letters()) {
                 exchange(place, &mut other);
             }
         }

@@ -28,13 +28,14 @@ pub(crate) fn plain_move(side: Side, index: usize, word: &mut Word) -> Result<us
     }
     let low = (index % 64) as u8;
     let high = low + 1;
-    if stands_left(high, low, &word.letters) {
+    let letters = word.letters();
+    if stands_left(high, low, letters) {
         return Err(Refusal::Inversion);
     }
     // Kept: two scans, one from each end of the letters.
     let (place, letter) = match side {
-        Side::Raising => (word.letters.iter().position(|letter| *letter == high), low),
-        Side::Lowering => (word.letters.iter().rposition(|letter| *letter == low), high),
+        Side::Raising => (letters.iter().position(|letter| *letter == high), low),
+        Side::Lowering => (letters.iter().rposition(|letter| *letter == low), high),
     };
     let place = place.ok_or(Refusal::NoLetter)?;
     word.letters[place] = letter;
@@ -43,7 +44,7 @@ pub(crate) fn plain_move(side: Side, index: usize, word: &mut Word) -> Result<us
 
 // How often a move can be made, one after the other, by making it until it is refused; where the index is none, that refusal.
 fn plain_times(side: Side, index: usize, word: &Word) -> Result<usize, Refusal> {
-    let mut now = word.clone().unwrap();
+    let mut now = *word;
     for times in 0..2048 {
         match plain_move(side, index, &mut now) {
             Ok(_) => {}
@@ -56,7 +57,7 @@ fn plain_times(side: Side, index: usize, word: &Word) -> Result<usize, Refusal> 
 
 // The whole answer to a move on a word.
 pub(crate) fn move_on_word(side: Side, index: usize, word: &Word) -> Moved<Word> {
-    let mut after = word.clone().unwrap();
+    let mut after = *word;
     Moved {
         place: plain_move(side, index, &mut after),
         times: plain_times(side, index, word),
@@ -67,7 +68,7 @@ pub(crate) fn move_on_word(side: Side, index: usize, word: &Word) -> Moved<Word>
 // The answer to a move on a tableau, by that on its word: the tableau afterwards is that of the moved word, and the cell that changed is where it differs.
 pub(crate) fn move_on_tableau(moved: &Moved<Word>, before: &Tableau) -> Moved<Tableau> {
     let after = plain_tableau(&moved.after);
-    let mut cells = before.letters.iter().zip(after.letters.iter());
+    let mut cells = before.letters().iter().zip(after.letters());
     let changed = cells.position(|(one, other)| one != other);
     let place = match moved.place {
         Ok(_) => Ok(changed.unwrap_or(0)),

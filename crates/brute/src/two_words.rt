@@ -39,7 +39,7 @@ fn plain_weights(one: &Tableau, other: &Tableau) -> Option<Ordering> {
 // The answer for two words by their tableaux, whatever their ranks.
 pub(crate) fn plain_two(one: &Tableau, other: &Tableau) -> Two {
     Two {
-        class: Ok(one.letters == other.letters && one.marks == other.marks),
+        class: Ok(one.letters() == other.letters() && one.marks() == other.marks()),
         weights: Ok(plain_weights(one, other)),
     }
 }
@@ -47,8 +47,8 @@ pub(crate) fn plain_two(one: &Tableau, other: &Tableau) -> Two {
 // The kernel's answer for two words.
 pub(crate) fn words_told(one: &Word, other: &Word) -> Two {
     Two {
-        class: same_class(one.rank, &one.letters, other.rank, &other.letters),
-        weights: compare_weights(one.rank, &one.letters, other.rank, &other.letters),
+        class: same_class(one.rank, one.letters(), other.rank, other.letters()),
+        weights: compare_weights(one.rank, one.letters(), other.rank, other.letters()),
     }
 }
 

@@ -3,7 +3,6 @@ ghost use Rattle.std.specs.Prelude.{◌≡◌, ◌-◌, ◌%◌, ◌<◌, ◌≤
 ghost use Rattle.plain_words.specs.declared.drawn.TheConstants.{PRIME};
 
 use crate::Word;
-use arrayvec::ArrayVec;
 
 // How many words are drawn.
 pub(crate) const DRAWN: usize = 2752;
@@ -138,14 +137,16 @@ impl Stream {
 }
 
 // A drawn word: its rank and its way by its number, its length and its letters by the generator.
-pub(crate) fn drawn_word(k: usize, generator: &mut Generator) -> Word {
+pub(crate) fn drawn_word(k: usize, generator: &mut Generator) -> Word
+    ensures { result.length ≤ 1024 }
+{
     let rank = k % 64 + 1;
     let length = length_of(k, generator);
     let mut stream = Stream::new(rank, WAYS[k % 5], *generator);
-    let mut letters = ArrayVec::new();
+    let mut word = Word::new(rank, &[]);
     for _ in 0..length {
-        letters.push(stream.next_letter());
+        word.push(stream.next_letter());
     }
     *generator = stream.generator;
-    Word { rank, letters }
+    word
 }

@@ -2,7 +2,6 @@
 ghost use Rattle.std.specs.Prelude.{◌≤◌, length};
 
 use crate::Word;
-use arrayvec::ArrayVec;
 
 // How many words there are.
 pub(crate) const KNOWN: usize = 18;
@@ -34,10 +33,9 @@ fn named(k: usize) -> (usize, &'static [u8])
 }
 
 // The word of a number.
-pub(crate) fn known_word(k: usize) -> Word {
+pub(crate) fn known_word(k: usize) -> Word
+    ensures { result.length ≤ 1024 }
+{
     let (rank, letters) = named(k);
-    Word {
-        rank,
-        letters: ArrayVec::try_from(letters).unwrap(),
-    }
+    Word::new(rank, letters)
 }
