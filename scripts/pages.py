@@ -18,7 +18,7 @@ import promises
 from page_texts import CHANGES, CRATES, DESIGN, PORT, README, REQUESTS, ROOT, SCOPE, SUFFIXES, TESTS, code, find, notes, pages, paths, prose, rows, sections, titles, tree
 
 SOURCES = (".antt", ".rt", ".py", ".h", ".c", ".rs", "")
-ABSENT = {"memcpy", "memset", "popleft", "LUCHTRAV_RANK", "tableau_of_word", "recording_of_word"}  # of C and Python, and what is said not to be here
+ABSENT = {"memcpy", "memmove", "memset", "popleft", "LUCHTRAV_RANK", "tableau_of_word", "recording_of_word"}  # of C and Python, and what is said not to be here
 CITATION = re.compile(r'document 01(?:\'s table)?,? \(?((?:"[^"]+"(?:, )?)+)')  # as in: document 01, "Lines", "The program"
 
 

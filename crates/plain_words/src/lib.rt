@@ -34,17 +34,17 @@ pub struct Word {
 }
 
 impl Word {
-    // The word of these letters.
+    // The word of these letters, of the first 1,024 where there are more.
     pub fn new(rank: usize, letters: &[u8]) -> Word
-        requires { length letters.now ≤ 1024 }
-        ensures shape { (result.rank ≡ rank) × (result.length ≡ length letters.now) }
-        ensures letters { take result.length result.letters ≡ letters.now }
+        ensures shape { (result.rank ≡ rank) × (result.length ≡ min (length letters.now) 1024) }
+        ensures letters { take result.length result.letters ≡ take result.length letters.now }
     {
+        let count = letters.len().min(1024);
         let mut all = [0; 1024];
-        all[..letters.len()].copy_from_slice(letters);
+        all[..count].copy_from_slice(&letters[..count]);
         Word {
             rank,
-            length: letters.len(),
+            length: count,
             letters: all,
         }
     }
@@ -57,14 +57,17 @@ impl Word {
         first(&self.letters, self.length)
     }
 
-    // One more letter.
+    // One more letter, where there is room.
     pub fn push(&mut self, letter: u8)
-        requires { self.old.length < 1024 }
-        ensures shape { (self.new.rank ≡ self.old.rank) × (self.new.length ≡ self.old.length + 1) }
-        ensures letters { take self.new.length self.new.letters ≡ take self.old.length self.old.letters ++ letter ∷ [] }
+        ensures rank { self.new.rank ≡ self.old.rank }
+        ensures more { self.old.length < 1024 → self.new.length ≡ self.old.length + 1 }
+        ensures letters { self.old.length < 1024 → take self.new.length self.new.letters ≡ take self.old.length self.old.letters ++ letter ∷ [] }
+        ensures full { 1024 ≤ self.old.length → (self.new.length ≡ self.old.length) × (self.new.letters ≡ self.old.letters) }
     {
-        self.letters[self.length] = letter;
-        self.length += 1;
+        if self.length < 1024 {
+            self.letters[self.length] = letter;
+            self.length += 1;
+        }
     }
 }
 
