@@ -10,17 +10,18 @@ from pathlib import Path
 ROOT = Path(__file__).resolve().parent.parent
 CRATES = ROOT / "crates"
 README, CHANGES = ROOT / "README.md", ROOT / "CHANGELOG.md"
-PORT, DESIGN, PROMISES, REQUESTS, SCOPE, TESTS = (
-    ROOT / "docs" / name for name in ("PORT.md", "DESIGN-PASS.md", "PROMISES.md", "REQUESTS.md", "SCOPE.md", "TESTS.md")
+PORT, DESIGN, LOOK, PROMISES, REQUESTS, SCOPE, TESTS = (
+    ROOT / "docs" / name
+    for name in ("PORT.md", "DESIGN-PASS.md", "LOOK-BACK.md", "PROMISES.md", "REQUESTS.md", "SCOPE.md", "TESTS.md")
 )
 SUFFIXES = (".antt", ".rt", ".py", ".md", ".h", ".txt")
 MADE = r"target/|crates/\w+/out/|PREFIX/|luchtrav/native/"  # built or installed
 
 
 def pages():
-    """All pages but the notes, docs/PORT.md and docs/DESIGN-PASS.md, which say what was."""
+    """All pages but the notes, docs/PORT.md, docs/DESIGN-PASS.md and docs/LOOK-BACK.md, which say what was."""
     names = "README.md", "CHANGELOG.md", "docs/*.md", "docs/decisions/*.md", "docs/promises/*.md", "bindings/python/*.md"
-    return [page for name in names for page in sorted(ROOT.glob(name)) if page not in (PORT, DESIGN)]
+    return [page for name in names for page in sorted(ROOT.glob(name)) if page not in (PORT, DESIGN, LOOK)]
 
 
 def tree(*tops):
@@ -35,7 +36,7 @@ def promises():
 
 
 def notes():
-    return [*sorted(ROOT.glob("docs/notes/*.md")), PORT, DESIGN]
+    return [*sorted(ROOT.glob("docs/notes/*.md")), PORT, DESIGN, LOOK]
 
 
 def prose(page):
