@@ -6,5 +6,6 @@ pub mod answers;
 pub mod arguments;
 mod items;
 pub mod printing;
+mod sinks;
 pub mod source;
 pub mod texts;
