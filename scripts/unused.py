@@ -3,7 +3,7 @@
 
     python3 scripts/unused.py      # each finding in a line, and then exit status 1; two lines of figures
 
-Used is what can be reached from a root: `main` of a program, a function of the C interface, an `impl` or a trait, and a public name that a page of
+Used is what can be reached from a root: `main` of a program, a test, a function of the C interface, an `impl` or a trait, and a public name that a page of
 promises has in code, as a theorem has that stands for itself. A function leads to what its text, its contract, its attributes and its proof name (a
 call `x.f()` to every method f), a definition or a law to what its type and its body name, a ruleset to all of its laws: which of them a search takes
 is not to be seen. Names are compared as they are imported, so a local
@@ -21,6 +21,9 @@ EXPLAINED = {
     "viewer_of": "the making of a viewer, an operation of the scope: C takes making and look in one call, `look_once`",
     "look": "a look through a viewer, likewise",
     "mark_at": "the mark of a step, a promise of the page of lines",
+    "bytes_into": "a list of any length, for who calls the library `notation`: the programs here have lists of a fixed capacity",
+    "text_into": "a text of any length, likewise",
+    "entries_into": "a list of 16-bit elements of any length, likewise",
 }
 PROOFS = ("Invariants.antt", "Answers.antt", "Proof.antt")  # of a function
 NAME = r"[^\s(){}\[\],;:.=«»⌜⌝]+"
@@ -130,7 +133,7 @@ class File:
             if kind in ("trait", "impl"):
                 given = kind == "trait" or " for " in whole.partition("{")[0]
             inner = kind == "function" and match[1] != ""
-            root = kind in ("trait", "impl") or "extern" in match[0] or match[4] == "main" or inner and given
+            root = kind in ("trait", "impl") or "extern" in match[0] or "#[test]" in match[0] or match[4] == "main" or inner and given
             name = [] if kind in ("trait", "impl") else [match[4]]
             self.items.append(Declaration(self.path, text.count("\n", 0, match.start(3)) + 1, name, "exported" if root else (match[2] or ""), kind))
             self.items[-1].lines.append(whole)
